@@ -1,0 +1,8 @@
+-- The definitions that a reader must believe, in the order of the scope document.
+pub mod Lists
+pub mod Pictures
+pub mod Components
+pub mod Trees
+pub mod Watersheds
+pub mod Patches
+pub mod Kept

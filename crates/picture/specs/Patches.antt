@@ -1,0 +1,77 @@
+-- Patches: the regional minima, their records, and the patch of a place.
+use mathlib.Core.Bool.{Bool, true, false}
+use mathlib.Core.List.{List, [], _∷_, map}
+use Prim.Native.Nat.{ℕ, zero, suc, _-_, _*_, _/_}
+use lib.Dec.{eqb, ltb}
+use lib.ListN.{length}
+use Rattle.picture.specs.Lists.{pick, select, isIn, total, highest}
+use Rattle.picture.specs.Pictures.{Picture, column, row}
+use Rattle.picture.specs.Trees.{Node, nodes, nodeAt, componentOf, fatherOf, below}
+
+-- a node is a leaf: it contains no component of the height below
+unfoldable pub isLeaf : Picture → Node → Bool
+isLeaf p n = eqb (length (below p (n .height) (componentOf p n))) 0
+
+-- a node put before the first of a list that has a greater first place
+abbrev pub insertByFirst : Node → List Node → List Node
+insertByFirst n [] = n ∷ []
+insertByFirst n (m ∷ ms) = elim (ltb (n .first) (m .first)) [ true ↦ n ∷ (m ∷ ms) | false ↦ m ∷ insertByFirst n ms ]
+
+-- nodes by first place
+abbrev pub byFirst : List Node → List Node
+byFirst [] = []
+byFirst (n ∷ ns) = insertByFirst n (byFirst ns)
+
+-- the leaves by first place: a patch is the component of one (standard term: regional minimum)
+unfoldable pub patchNodes : Picture → List Node
+patchNodes p = byFirst (select (isLeaf p) (nodes p))
+
+-- a patch's depth: its father's height, or for the root the largest value, less its own height
+unfoldable pub depthOf : Picture → Node → ℕ
+depthOf p n =
+    let f = fatherOf p n in
+    pick (eqb f 65535) (highest (p .pixels)) (nodeAt p f .height) - n .height
+
+-- number from 1, size in pixels, height, depth, sum of columns, sum of rows
+pub record Patch : Type 0 where
+  pub number : ℕ
+  pub size : ℕ
+  pub height : ℕ
+  pub depth : ℕ
+  pub columns : ℕ
+  pub rows : ℕ
+
+-- the record of the patch of a leaf
+unfoldable pub patchOf : Picture → ℕ → Node → Patch
+patchOf p i n =
+    let c = componentOf p n in
+    record {
+      number = i;
+      size = length c;
+      height = n .height;
+      depth = depthOf p n;
+      columns = total (map (column p) c);
+      rows = total (map (row p) c);
+    }
+
+-- the records of leaves, numbered from i on
+abbrev pub patchesFrom : ℕ → Picture → List Node → List Patch
+patchesFrom i p [] = []
+patchesFrom i p (n ∷ ns) = patchOf p i n ∷ patchesFrom (suc i) p ns
+
+-- the patches of a picture, numbered from 1 by first place
+unfoldable pub patches : Picture → List Patch
+patches p = patchesFrom 1 p (patchNodes p)
+
+-- the number from i on of the first leaf whose patch holds x, 0 for none
+abbrev pub patchFrom : ℕ → Picture → ℕ → List Node → ℕ
+patchFrom i p x [] = 0
+patchFrom i p x (n ∷ ns) = elim (isIn x (componentOf p n)) [ true ↦ i | false ↦ patchFrom (suc i) p x ns ]
+
+-- the number of the patch of a place, 0 on the line (standard term: watershed line)
+unfoldable pub patchAt : Picture → ℕ → ℕ
+patchAt p x = patchFrom 1 p x (patchNodes p)
+
+-- a centre in tenths: ten times a sum of columns or rows by the size, remainder dropped
+abbrev pub centre : ℕ → ℕ → ℕ
+centre sum size = 10 * sum / size
