@@ -1,0 +1,199 @@
+-- The component of a place, as its definition grows it, holds exactly the places that are joined to it.
+use mathlib.Core.Path.{_≡_, refl, sym, ap, subst, _∙_}
+use mathlib.Core.Bool.{Bool, true, false, _&&_, _||_}
+use mathlib.Core.Logic.{_⊎_, inl, inr, ⊎-elim}
+use mathlib.Core.List.{List, [], _∷_, List·Memᴰ, List·Memᴰ·head, List·Memᴰ·eq-of-singleton}
+use Prim.Native.Nat.{ℕ, zero, suc, _+_, _≤_, _<_}
+use native.Mathlib.Omega.{arith}
+use lib.Dec.{eqb}
+use lib.ListN.{length}
+use borrow.Author.Tests.{eqb-true, eq-eqb}
+use Rattle.picture.specs.Lists.{tally, select, range, isIn}
+use Rattle.picture.specs.Pictures.{Picture, places, valueAt, touch}
+use Rattle.picture.specs.Components.{inSection, touchesSome, grown, spread, componentAt}
+use Rattle.picture.specs.Trees.{headOf}
+use Rattle.topology.proofs.Tests.{and-left, and-right, and-both, or-left, or-right, or-cases, on-test, on-elim, same-test, clash}
+use Rattle.topology.proofs.Lists.{any-mem, mem-any, select-mem, mem-select, length-select, tally-length, tally-stronger, tally-equal, in-mem, mem-in, length-range, range-mem, mem-range}
+use Rattle.topology.proofs.Rising.{Rising, none, more, rising-select, rising-equal, head-in}
+use Rattle.topology.proofs.Connected.{start, step, conn-source, conn-target, conn-trans, conn-closed}
+use Rattle.topology.proofs.Adjacency.{Adj, At, Joined, adj-sym, joined-sym, section-at, at-section}
+
+-- a list that holds exactly the places joined to x, rising
+record Reached (p : Picture) (k x : ℕ) (c : List ℕ) : Type 0 where
+  rising : Rising 0 c
+  sound : (y : ℕ) → List·Memᴰ y c → Joined p k x y
+  self : List·Memᴰ x c
+  closed : (y z : ℕ) → List·Memᴰ y c → Adj p y z → At p k z → List·Memᴰ z c
+
+module _ (p : Picture) (k : ℕ) where
+  grows : List ℕ → ℕ → Bool
+  grows c y = isIn y c || inSection p k y && touchesSome p y c
+
+  module _ (c : List ℕ) (r : Rising 0 c) (low : (y : ℕ) → List·Memᴰ y c → At p k y) where
+    -- a rising list of places is what a range selects by membership
+    as-select : c ≡ select (λ y. isIn y c) (range 0 (places p))
+    as-select = rising-equal r (rising-select (λ y. isIn y c) 0 (places p)) agree
+      where
+        agree : (y : ℕ) → isIn y c ≡ isIn y (select (λ z. isIn z c) (range 0 (places p)))
+        agree y =
+            same-test (isIn y c) (isIn y (select (λ z. isIn z c) (range 0 (places p))))
+            (λ h.
+                mem-in y (select (λ z. isIn z c) (range 0 (places p)))
+                (mem-select (λ z. isIn z c) (range 0 (places p))
+                (mem-range 0 (places p) (omega arith) (omega (arith, low y (in-mem y c h) .within)))
+                h))
+            (λ h.
+                select-mem (λ z. isIn z c) (range 0 (places p))
+                (in-mem y (select (λ z. isIn z c) (range 0 (places p))) h)
+                .1)
+
+    length-tally : length c ≡ tally (λ y. isIn y c) (range 0 (places p))
+    length-tally = ap length as-select ∙ length-select (λ y. isIn y c) (range 0 (places p))
+
+    length-places : length c ≤ places p
+    length-places =
+        let a = length-tally in
+        let b = tally-length (λ y. isIn y c) (range 0 (places p)) in
+        let d = length-range 0 (places p) in
+        omega arith
+
+    stays : (y : ℕ) → isIn y c ≡ true → grows c y ≡ true
+    unfolding grows
+    stays y h = or-left (isIn y c) (inSection p k y && touchesSome p y c) h
+
+    grown-tally : length (grown p k c) ≡ tally (grows c) (range 0 (places p))
+    unfolding grows
+    grown-tally = length-select (grows c) (range 0 (places p))
+
+    grown-more : length c ≤ length (grown p k c)
+    grown-more =
+        let a = length-tally in
+        let b = grown-tally in
+        let d = tally-stronger (λ y. isIn y c) (grows c) (range 0 (places p)) stays in
+        omega arith
+
+    -- if growing adds nothing, no neighbour in the section is left
+    stop-closed : length (grown p k c) ≡ length c → (y z : ℕ) → List·Memᴰ y c → Adj p y z → At p k z → List·Memᴰ z c
+    unfolding grows
+    stop-closed e y z m a s =
+        let same : tally (λ u. isIn u c) (range 0 (places p)) ≡ tally (grows c) (range 0 (places p)) =
+            sym length-tally ∙ (sym e ∙ grown-tally)
+        in
+        in-mem z c
+        (tally-equal (λ u. isIn u c) (grows c) (range 0 (places p)) stays same
+        (mem-range 0 (places p) (omega arith) (omega (arith, s .within)))
+        (or-right (isIn z c) (inSection p k z && touchesSome p z c)
+        (and-both (inSection p k z) (touchesSome p z c)
+        (at-section p k z s)
+        (mem-any (touch p z) m (adj-sym p y z a)))))
+
+  module _ (x : ℕ) where
+    grown-sound : (c : List ℕ) → ((y : ℕ) → List·Memᴰ y c → Joined p k x y) → (y : ℕ) → List·Memᴰ y (grown p k c) → Joined p k x y
+    unfolding grows
+    grown-sound c f y m =
+        let (i, g) = select-mem (grows c) (range 0 (places p)) m in
+        ⊎-elim
+        (λ h. f y (in-mem y c h))
+        (λ h.
+            let (z, mz, t) = any-mem (touch p y) c (and-right (inSection p k y) (touchesSome p y c) h) in
+            let b = range-mem 0 (places p) i in
+            step (f z mz) (adj-sym p y z t)
+            (section-at p k y (omega arith) (and-left (inSection p k y) (touchesSome p y c) h)))
+        (or-cases (isIn y c) (inSection p k y && touchesSome p y c) g)
+
+    spread-reached :
+        (l : ℕ) (c : List ℕ) → Rising 0 c → ((y : ℕ) → List·Memᴰ y c → Joined p k x y) → List·Memᴰ x c → places p < l + length c →
+        Reached p k x (spread l p k c)
+    unfolding grows
+    spread-reached zero c r f m h =
+        absurd (let b = length-places c r (λ y i. conn-target (f y i)) in omega arith)
+    spread-reached (suc l) c r f m h =
+        on-elim (Reached p k x) (eqb (length (grown p k c)) (length c))
+        (λ e.
+            record
+            { rising = r
+            ; sound = f
+            ; self = m
+            ; closed = stop-closed c r (λ y i. conn-target (f y i)) (eqb-true (length (grown p k c)) (length c) e)
+            })
+        (λ e.
+            let more = grown-more c r (λ y i. conn-target (f y i)) in
+            let other : ¬ (length (grown p k c) ≡ length c) = λ q. clash (eq-eqb (length (grown p k c)) (length c) q) e in
+            spread-reached l (grown p k c) (rising-select (grows c) 0 (places p)) (grown-sound c f)
+            (mem-select (grows c) (range 0 (places p))
+            (mem-range 0 (places p) (omega arith) (omega (arith, conn-source (f x m) .within)))
+            (stays c r (λ y i. conn-target (f y i)) x (mem-in x c m)))
+            (omega arith))
+
+module _ (p : Picture) (k : ℕ) where
+  -- the fuel of `spread` suffices
+  component-reached : (x : ℕ) → At p k x → Reached p k x (componentAt p k x)
+  unfolding componentAt
+  component-reached x s =
+      spread-reached p k x (places p) (x ∷ []) (more (omega arith) none)
+      (λ y m. subst (λ (z : ℕ). Joined p k x z) (sym (List·Memᴰ·eq-of-singleton m)) (start s))
+      (List·Memᴰ·head refl)
+      (omega arith)
+
+  pub component-rising : (x : ℕ) → At p k x → Rising 0 (componentAt p k x)
+  component-rising x s = component-reached x s .rising
+
+  -- a component is closed: no further place of the section touches it
+  pub component-closed : (x : ℕ) → At p k x → (y z : ℕ) → List·Memᴰ y (componentAt p k x) → Adj p y z → At p k z → List·Memᴰ z (componentAt p k x)
+  component-closed x s = component-reached x s .closed
+
+  pub mem-joined : (x y : ℕ) → At p k x → List·Memᴰ y (componentAt p k x) → Joined p k x y
+  mem-joined x y s m = component-reached x s .sound y m
+
+  pub joined-mem : {x y : ℕ} → Joined p k x y → List·Memᴰ y (componentAt p k x)
+  joined-mem {x} c =
+      let r = component-reached x (conn-source c) in
+      conn-closed (λ y. List·Memᴰ y (componentAt p k x)) (r .self) (r .closed) c
+
+  pub in-joined : (x y : ℕ) → At p k x → isIn y (componentAt p k x) ≡ true → Joined p k x y
+  in-joined x y s h = mem-joined x y s (in-mem y (componentAt p k x) h)
+
+  pub joined-in : {x y : ℕ} → Joined p k x y → isIn y (componentAt p k x) ≡ true
+  joined-in {x} {y} c = mem-in y (componentAt p k x) (joined-mem c)
+
+  pub joined-dec : (x y : ℕ) → At p k x → Joined p k x y ⊎ (Joined p k x y → ⊥)
+  joined-dec x y s =
+      on-test (isIn y (componentAt p k x)) (λ e. inl (in-joined x y s e)) (λ e. inr (λ c. clash (joined-in c) e))
+
+  -- joined places have the same component
+  pub component-same : {x y : ℕ} → Joined p k x y → componentAt p k x ≡ componentAt p k y
+  component-same {x} {y} c =
+      rising-equal (component-rising x (conn-source c)) (component-rising y (conn-target c))
+      (λ z.
+          same-test (isIn z (componentAt p k x)) (isIn z (componentAt p k y))
+          (λ h. joined-in (conn-trans (joined-sym p k c) (in-joined x z (conn-source c) h)))
+          (λ h. joined-in (conn-trans c (in-joined y z (conn-target c) h))))
+
+-- the first place of the component of a place
+unfoldable pub firstAt : Picture → ℕ → ℕ → ℕ
+firstAt p k x = headOf (componentAt p k x)
+
+module _ (p : Picture) (k : ℕ) where
+  pub first-joined : (x : ℕ) → At p k x → Joined p k x (firstAt p k x)
+  unfolding firstAt
+  first-joined x s =
+      mem-joined p k x (headOf (componentAt p k x)) s (head-in (component-rising p k x s) (joined-mem p k (start s)) .0)
+
+  pub first-least : {x y : ℕ} → Joined p k x y → firstAt p k x ≤ y
+  unfolding firstAt
+  first-least {x} c = head-in (component-rising p k x (conn-source c)) (joined-mem p k c) .1
+
+  pub first-same : {x y : ℕ} → Joined p k x y → firstAt p k x ≡ firstAt p k y
+  unfolding firstAt
+  first-same c = ap headOf (component-same p k c)
+
+  pub same-first : (x y : ℕ) → At p k x → At p k y → firstAt p k x ≡ firstAt p k y → Joined p k x y
+  same-first x y s t e =
+      conn-trans (first-joined x s)
+      (subst (λ (z : ℕ). Joined p k z y) (sym e) (joined-sym p k (first-joined y t)))
+
+  pub first-at : (x : ℕ) → At p k x → At p k (firstAt p k x)
+  first-at x s = conn-target (first-joined x s)
+
+  pub first-first : (x : ℕ) → At p k x → firstAt p k (firstAt p k x) ≡ firstAt p k x
+  first-first x s = sym (first-same (first-joined x s))
