@@ -9,3 +9,5 @@ pub mod Adjacency
 pub mod Reached
 pub mod Parts
 pub mod Bridge
+pub mod Accepted
+pub mod Water

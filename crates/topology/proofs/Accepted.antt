@@ -1,0 +1,98 @@
+-- What an accepted picture is, entry by entry.
+use mathlib.Core.Path.{_≡_, refl, sym, ap, subst, _∙_}
+use mathlib.Core.Bool.{Bool, true, false, _&&_, _||_}
+use mathlib.Core.Logic.{_⊎_, inl, inr, ⊎-elim}
+use mathlib.Core.List.{List, [], _∷_}
+use Prim.Native.Nat.{ℕ, zero, suc, _+_, _*_, _≤_, _<_}
+use native.Mathlib.Nat.{mul-le-mul}
+use native.Mathlib.Omega.{arith}
+use lib.Dec.{eqb, ltb, leb}
+use lib.ListN.{length, getD}
+use borrow.Author.Tests.{eqb-true, leb-true, ltb-true, eq-eqb, le-leb, lt-ltb}
+use Rattle.picture.specs.Pictures.{Picture, places, valueAt, withPixels, sideFits, allBytes, isPicture}
+use Rattle.picture.specs.Kept.{nowhereAbove}
+use Rattle.topology.proofs.Tests.{and-left, and-right, and-both, or-cases, or-left, or-right, clash}
+
+pub record Accepted (p : Picture) : Type 0 where
+  pub adjacency : (p .adjacency ≡ 4) ⊎ (p .adjacency ≡ 8)
+  pub wide : 1 ≤ p .width
+  pub narrow : p .width ≤ 40
+  pub tall : 1 ≤ p .height
+  pub short : p .height ≤ 40
+  pub size : length (p .pixels) ≡ places p
+  pub bytes : allBytes (p .pixels) ≡ true
+
+pub accepted-is : (p : Picture) → isPicture p ≡ true → Accepted p
+unfolding isPicture
+accepted-is p h =
+    let a = and-left (eqb (p .adjacency) 4 || eqb (p .adjacency) 8) _ h in
+    let h₁ = and-right (eqb (p .adjacency) 4 || eqb (p .adjacency) 8) _ h in
+    let w = and-left (sideFits (p .width)) _ h₁ in
+    let h₂ = and-right (sideFits (p .width)) _ h₁ in
+    let t = and-left (sideFits (p .height)) _ h₂ in
+    let h₃ = and-right (sideFits (p .height)) _ h₂ in
+    record
+    { adjacency =
+        ⊎-elim (λ e. inl (eqb-true (p .adjacency) 4 e)) (λ e. inr (eqb-true (p .adjacency) 8 e))
+        (or-cases (eqb (p .adjacency) 4) (eqb (p .adjacency) 8) a)
+    ; wide = leb-true 1 (p .width) (and-left (leb 1 (p .width)) (leb (p .width) 40) w)
+    ; narrow = leb-true (p .width) 40 (and-right (leb 1 (p .width)) (leb (p .width) 40) w)
+    ; tall = leb-true 1 (p .height) (and-left (leb 1 (p .height)) (leb (p .height) 40) t)
+    ; short = leb-true (p .height) 40 (and-right (leb 1 (p .height)) (leb (p .height) 40) t)
+    ; size = eqb-true (length (p .pixels)) (places p) (and-left (eqb (length (p .pixels)) (places p)) _ h₃)
+    ; bytes = and-right (eqb (length (p .pixels)) (places p)) (allBytes (p .pixels)) h₃
+    }
+
+pub is-accepted : (p : Picture) → Accepted p → isPicture p ≡ true
+unfolding isPicture
+is-accepted p a =
+    and-both (eqb (p .adjacency) 4 || eqb (p .adjacency) 8) _
+    (⊎-elim
+    (λ e. or-left (eqb (p .adjacency) 4) (eqb (p .adjacency) 8) (eq-eqb (p .adjacency) 4 e))
+    (λ e. or-right (eqb (p .adjacency) 4) (eqb (p .adjacency) 8) (eq-eqb (p .adjacency) 8 e))
+    (a .adjacency))
+    (and-both (sideFits (p .width)) _
+    (and-both (leb 1 (p .width)) (leb (p .width) 40) (le-leb 1 (p .width) (a .wide)) (le-leb (p .width) 40 (a .narrow)))
+    (and-both (sideFits (p .height)) _
+    (and-both (leb 1 (p .height)) (leb (p .height) 40) (le-leb 1 (p .height) (a .tall)) (le-leb (p .height) 40 (a .short)))
+    (and-both (eqb (length (p .pixels)) (places p)) (allBytes (p .pixels))
+    (eq-eqb (length (p .pixels)) (places p) (a .size))
+    (a .bytes))))
+
+pub places-bound : (p : Picture) → Accepted p → places p ≤ 1600
+places-bound p a = mul-le-mul (a .narrow) (a .short)
+
+-- other pixels in the same frame
+pub accepted-with : (p : Picture) (xs : List ℕ) → Accepted p → length xs ≡ places p → allBytes xs ≡ true → Accepted (withPixels p xs)
+accepted-with p xs a e b =
+    record
+    { adjacency = a .adjacency
+    ; wide = a .wide
+    ; narrow = a .narrow
+    ; tall = a .tall
+    ; short = a .short
+    ; size = e
+    ; bytes = b
+    }
+
+pub byte-at : (xs : List ℕ) → allBytes xs ≡ true → (i : ℕ) → getD xs i 0 ≤ 255
+byte-at [] h i = omega arith
+byte-at (x ∷ xs) h zero = let q = ltb-true x 256 (and-left (ltb x 256) (allBytes xs) h) in omega arith
+byte-at (x ∷ xs) h (suc i) = byte-at xs (and-right (ltb x 256) (allBytes xs) h) i
+
+pub at-byte : (xs : List ℕ) → ((i : ℕ) → getD xs i 0 ≤ 255) → allBytes xs ≡ true
+at-byte [] f = refl
+at-byte (x ∷ xs) f =
+    and-both (ltb x 256) (allBytes xs) (lt-ltb x 256 (let q : x ≤ 255 = f 0 in omega arith)) (at-byte xs (λ i. f (suc i)))
+
+pub above-at : (xs ys : List ℕ) → nowhereAbove xs ys ≡ true → (i : ℕ) → i < length xs → getD xs i 0 ≤ getD ys i 0
+above-at [] ys h i b = absurd (omega arith)
+above-at (x ∷ xs) [] h i b = absurd (clash h refl)
+above-at (x ∷ xs) (y ∷ ys) h zero b = leb-true x y (and-left (leb x y) (nowhereAbove xs ys) h)
+above-at (x ∷ xs) (y ∷ ys) h (suc i) b = above-at xs ys (and-right (leb x y) (nowhereAbove xs ys) h) i (omega arith)
+
+pub at-above : (xs ys : List ℕ) → length xs ≡ length ys → ((i : ℕ) → getD xs i 0 ≤ getD ys i 0) → nowhereAbove xs ys ≡ true
+at-above [] ys e f = refl
+at-above (x ∷ xs) [] e f = absurd (omega arith)
+at-above (x ∷ xs) (y ∷ ys) e f =
+    and-both (leb x y) (nowhereAbove xs ys) (le-leb x y (f 0)) (at-above xs ys (omega arith) (λ i. f (suc i)))
