@@ -11,3 +11,6 @@ pub mod Parts
 pub mod Bridge
 pub mod Accepted
 pub mod Water
+pub mod Branches
+pub mod Numbers
+pub mod Nodes

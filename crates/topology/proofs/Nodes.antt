@@ -1,0 +1,210 @@
+-- The nodes of the tree: which components they are, each found by its number, no more of them than places.
+use mathlib.Core.Path.{_≡_, refl, sym, ap, ap₂, subst, _∙_}
+use mathlib.Core.Bool.{Bool, true, false, _&&_, not}
+use mathlib.Core.Logic.{_⊎_, inl, inr, ⊎-elim}
+use mathlib.Core.List.{List, [], _∷_, _++_, map, map-map, List·Memᴰ, List·Memᴰ·head, List·Memᴰ·tail, List·Memᴰ·not-nil, List·Memᴰ·append-cases, Memᴰ·append-left, Memᴰ·append-right, Memᴰ·map, Memᴰ·of-map}
+use Prim.Native.Nat.{ℕ, zero, suc, _+_, _-_, _≤_, _<_}
+use native.Mathlib.Omega.{arith}
+use lib.Dec.{eqb}
+use lib.ListN.{length, getD}
+use borrow.Author.Tests.{eqb-true, eq-eqb}
+use Rattle.picture.specs.Lists.{select, range}
+use Rattle.picture.specs.Pictures.{Picture, places, valueAt}
+use Rattle.picture.specs.Components.{componentAt, components}
+use Rattle.picture.specs.Trees.{Node, headOf, isBranch, nodesAt, nodesFrom, nodes, nodeAt, componentOf, numberFrom, numberOf}
+use Rattle.topology.proofs.Tests.{and-left, and-right, and-both, on-test, on-elim, not-of-false, clash, test-false}
+use Rattle.topology.proofs.Lists.{select-map, select-select, select-mem, mem-select, range-mem, mem-range}
+use Rattle.topology.proofs.Rising.{Rising, none, more, rising-select}
+use Rattle.topology.proofs.Connected.{start, conn-target}
+use Rattle.topology.proofs.Adjacency.{At, Joined}
+use Rattle.topology.proofs.Reached.{firstAt, component-same, first-joined, first-same, first-at, first-first}
+use Rattle.topology.proofs.Parts.{isFirst, first-is, is-first, components-are}
+use Rattle.topology.proofs.Branches.{own-pixel}
+use Rattle.topology.proofs.Numbers.{mem-index, index-mem, map-same, pigeonhole}
+
+abbrev node : ℕ → ℕ → Node
+node k y = record { height = k; first = y }
+
+-- y is the first place of a leaf or a fork of height k
+unfoldable pub isNode : Picture → ℕ → ℕ → Bool
+isNode p k y = isFirst p k y && not (isBranch p k (componentAt p k y))
+
+-- what a node of the tree is
+pub record IsNode (p : Picture) (n : Node) : Type 0 where
+  pub low : n .height ≤ 255
+  pub place : At p (n .height) (n .first)
+  pub first : firstAt p (n .height) (n .first) ≡ n .first
+  pub fork : isBranch p (n .height) (componentOf p n) ≡ false
+
+module _ (p : Picture) where
+  nodes-at : (k : ℕ) → nodesAt p k ≡ map (node k) (select (isNode p k) (range 0 (places p)))
+  unfolding nodesAt isNode firstAt
+  nodes-at k =
+      ap (λ (l : List (List ℕ)). map named (select free l)) (components-are p k) ∙
+      (ap (map named) (select-map free (componentAt p k) (select (isFirst p k) (range 0 (places p)))) ∙
+      (map-map named (componentAt p k) (select (λ x. free (componentAt p k x)) (select (isFirst p k) (range 0 (places p)))) ∙
+      (ap (map (λ x. named (componentAt p k x))) (select-select (isFirst p k) (λ x. free (componentAt p k x)) (range 0 (places p))) ∙
+      map-same (λ x. named (componentAt p k x)) (node k) (select (isNode p k) (range 0 (places p)))
+      (λ x m.
+          let (i, h) = select-mem (isNode p k) (range 0 (places p)) m in
+          let b = range-mem 0 (places p) i in
+          ap (node k) (first-is p k x (omega arith) (and-left (isFirst p k x) (free (componentAt p k x)) h) .1)))))
+    where
+      named : List ℕ → Node
+      named c = node k (headOf c)
+
+      free : List ℕ → Bool
+      free c = not (isBranch p k c)
+
+  not-true : (b : Bool) → not b ≡ true → b ≡ false
+  not-true true h = absurd (clash h refl)
+  not-true false h = refl
+
+  mem-at : (k : ℕ) {n : Node} → k ≤ 255 → List·Memᴰ n (nodesAt p k) → IsNode p n
+  unfolding isNode
+  mem-at k {n} b m =
+      let (y, i, e) =
+          Memᴰ·of-map (node k) (select (isNode p k) (range 0 (places p)))
+          (subst (λ (l : List Node). List·Memᴰ n l) (nodes-at k) m)
+      in
+      let (j, h) = select-mem (isNode p k) (range 0 (places p)) i in
+      let c = range-mem 0 (places p) j in
+      let (s, q) = first-is p k y (omega arith) (and-left (isFirst p k y) (not (isBranch p k (componentAt p k y))) h) in
+      subst (IsNode p) e
+      (record
+      { low = b
+      ; place = s
+      ; first = q
+      ; fork = not-true (isBranch p k (componentAt p k y)) (and-right (isFirst p k y) (not (isBranch p k (componentAt p k y))) h)
+      })
+
+  at-mem : (k y : ℕ) → At p k y → isBranch p k (componentAt p k y) ≡ false → List·Memᴰ (node k (firstAt p k y)) (nodesAt p k)
+  unfolding isNode
+  at-mem k y s h =
+      let z = firstAt p k y in
+      subst (λ (l : List Node). List·Memᴰ (node k z) l) (sym (nodes-at k))
+      (Memᴰ·map (node k)
+      (mem-select (isNode p k) (range 0 (places p))
+      (mem-range 0 (places p) (omega arith) (omega (arith, first-at p k y s .within)))
+      (and-both (isFirst p k z) (not (isBranch p k (componentAt p k z)))
+      (is-first p k z (first-at p k y s) (first-first p k y s))
+      (not-of-false (isBranch p k (componentAt p k z))
+      (ap (isBranch p k) (sym (component-same p k (first-joined p k y s))) ∙ h)))))
+
+  mem-from : (l k : ℕ) {n : Node} → l + k ≤ 256 → List·Memᴰ n (nodesFrom l k p) → IsNode p n
+  mem-from zero k b m = absurd (List·Memᴰ·not-nil m)
+  mem-from (suc l) k b m =
+      ⊎-elim (λ i. mem-at k (omega arith) i) (λ i. mem-from l (suc k) (omega arith) i)
+      (List·Memᴰ·append-cases (nodesAt p k) m)
+
+  from-mem : (l k h y : ℕ) → k ≤ h → h < l + k → At p h y → isBranch p h (componentAt p h y) ≡ false → List·Memᴰ (node h (firstAt p h y)) (nodesFrom l k p)
+  from-mem zero k h y a b s e = absurd (omega arith)
+  from-mem (suc l) k h y a b s e =
+      on-test (eqb k h)
+      (λ q.
+          Memᴰ·append-left (nodesFrom l (suc k) p)
+          (subst (λ (j : ℕ). List·Memᴰ (node h (firstAt p h y)) (nodesAt p j)) (sym (eqb-true k h q)) (at-mem h y s e)))
+      (λ q.
+          let d : ¬ (k ≡ h) = λ w. clash (eq-eqb k h w) q in
+          Memᴰ·append-right (nodesAt p k) (from-mem l (suc k) h y (omega arith) (omega arith) s e))
+
+  pub nodes-mem : {n : Node} → List·Memᴰ n (nodes p) → IsNode p n
+  unfolding nodes
+  nodes-mem m = mem-from 256 0 (omega arith) m
+
+  pub mem-nodes : (k y : ℕ) → k ≤ 255 → At p k y → isBranch p k (componentAt p k y) ≡ false → List·Memᴰ (node k (firstAt p k y)) (nodes p)
+  unfolding nodes
+  mem-nodes k y b s e = from-mem 256 0 k y (omega arith) (omega arith) s e
+
+  pub node-is : (i : ℕ) → i < length (nodes p) → IsNode p (nodeAt p i)
+  node-is i h = nodes-mem (index-mem (node 0 0) (nodes p) i h)
+
+-- by height, then by first place, from (k, y) on
+data Sorted : ℕ → ℕ → List Node → Type 0 where
+  end : {k y : ℕ} → Sorted k y []
+  next : {k y : ℕ} {n : Node} {ns : List Node} → (k < n .height) ⊎ ((k ≡ n .height) × (y ≤ n .first)) → Sorted (n .height) (suc (n .first)) ns → Sorted k y (n ∷ ns)
+
+sorted-weaken : {j k y : ℕ} {ns : List Node} → j < k → (x : ℕ) → Sorted k y ns → Sorted j x ns
+sorted-weaken h x end = end
+sorted-weaken {j} h x (next {n = n} g s) =
+    let q : j < n .height = ⊎-elim (λ a. omega arith) (λ a. let b = a .0 in omega arith) g in next (inl q) s
+
+sorted-append : {a k : ℕ} {l : List ℕ} {ms : List Node} → Rising a l → Sorted (suc k) 0 ms → Sorted k a (map (node k) l ++ ms)
+sorted-append none s = sorted-weaken (omega arith) _ s
+sorted-append (more h r) s = next (inr (refl, h)) (sorted-append r s)
+
+sorted-from : (p : Picture) (l k : ℕ) → Sorted k 0 (nodesFrom l k p)
+sorted-from p zero k = end
+sorted-from p (suc l) k =
+    subst (λ (ns : List Node). Sorted k 0 (ns ++ nodesFrom l (suc k) p)) (sym (nodes-at p k))
+    (sorted-append (rising-select (isNode p k) 0 (places p)) (sorted-from p l (suc k)))
+
+sorted-later : {k y : ℕ} {ns : List Node} → Sorted k y ns → (i : ℕ) → i < length ns → (k < getD ns i (node 0 0) .height) ⊎ ((k ≡ getD ns i (node 0 0) .height) × (y ≤ getD ns i (node 0 0) .first))
+sorted-later end i h = absurd (omega arith)
+sorted-later (next g s) zero h = g
+sorted-later {k} {y} (next {n = n} {ns} g s) (suc i) h =
+    ⊎-elim
+    (λ a. inl (⊎-elim (λ b. omega arith) (λ b. let c = b .0 in omega arith) g))
+    (λ a.
+        let e = a .0 in
+        let q = a .1 in
+        ⊎-elim (λ b. inl (omega arith)) (λ b. let c = b .0 in let d = b .1 in inr (omega arith, omega arith)) g)
+    (sorted-later s i (omega arith))
+
+-- the number of a node is its index
+number-index : {k y : ℕ} {ns : List Node} → Sorted k y ns → (b i : ℕ) → i < length ns → numberFrom b (getD ns i (node 0 0) .height) (getD ns i (node 0 0) .first) ns ≡ b + i
+number-index end b i h = absurd (omega arith)
+number-index (next {n = n} {ns} g s) b zero h =
+    on-elim (λ (m : ℕ). m ≡ b + 0) (eqb (n .height) (n .height) && eqb (n .first) (n .first))
+    (λ e. omega arith)
+    (λ e.
+        absurd
+        (clash
+        (and-both (eqb (n .height) (n .height)) (eqb (n .first) (n .first)) (eq-eqb (n .height) (n .height) refl) (eq-eqb (n .first) (n .first) refl))
+        e))
+number-index (next {n = n} {ns} g s) b (suc i) h =
+    on-elim (λ (m : ℕ). m ≡ b + suc i) (eqb (n .height) (getD ns i (node 0 0) .height) && eqb (n .first) (getD ns i (node 0 0) .first))
+    (λ e.
+        let p = eqb-true (n .height) (getD ns i (node 0 0) .height) (and-left (eqb (n .height) (getD ns i (node 0 0) .height)) _ e) in
+        let q = eqb-true (n .first) (getD ns i (node 0 0) .first) (and-right (eqb (n .height) (getD ns i (node 0 0) .height)) _ e) in
+        absurd (⊎-elim (λ a. omega arith) (λ a. let c = a .1 in omega arith) (sorted-later s i (omega arith))))
+    (λ e. number-index s (suc b) i (omega arith) ∙ omega arith)
+
+module _ (p : Picture) where
+  pub number-at : (i : ℕ) → i < length (nodes p) → numberFrom 0 (nodeAt p i .height) (nodeAt p i .first) (nodes p) ≡ i
+  unfolding nodes
+  number-at i h = number-index (sorted-from p 256 0) 0 i h ∙ omega arith
+
+  pub node-equal : (i j : ℕ) → i < length (nodes p) → j < length (nodes p) → nodeAt p i ≡ nodeAt p j → i ≡ j
+  node-equal i j a b e =
+      sym (number-at i a) ∙ (ap (λ (n : Node). numberFrom 0 (n .height) (n .first) (nodes p)) e ∙ number-at j b)
+
+  -- a component that is no branch has a number, and the node of that number is it
+  pub number-found :
+      (k y : ℕ) → k ≤ 255 → At p k y → isBranch p k (componentAt p k y) ≡ false →
+      (numberOf p k (componentAt p k y) < length (nodes p)) × (nodeAt p (numberOf p k (componentAt p k y)) ≡ node k (firstAt p k y))
+  unfolding firstAt
+  number-found k y b s e =
+      let (i, h, q) = mem-index (node 0 0) (mem-nodes p k y b s e) in
+      let w : numberOf p k (componentAt p k y) ≡ i =
+          sym (ap (λ (n : Node). numberFrom 0 (n .height) (n .first) (nodes p)) q) ∙ number-at i h
+      in
+      (omega arith, ap (nodeAt p) w ∙ q)
+
+  -- a pixel of a node's own height that is in its component belongs to no other node
+  Owns : ℕ → ℕ → Type 0
+  Owns i z = nodeAt p i ≡ node (valueAt p z) (firstAt p (valueAt p z) z)
+
+  -- no more nodes than places
+  pub nodes-few : length (nodes p) ≤ places p
+  unfolding Owns
+  nodes-few =
+      pigeonhole (places p) (length (nodes p)) Owns
+      (λ i h.
+          let n = node-is p i h in
+          let (z, c, v) = own-pixel p (nodeAt p i .height) (nodeAt p i .first) (n .place) (n .fork) in
+          ( z
+          , conn-target c .within
+          , ap₂ node (sym v)
+            (sym (n .first) ∙ (first-same p (nodeAt p i .height) c ∙ ap (λ (k : ℕ). firstAt p k z) (sym v))) ))
+      (λ i j z a b r s. node-equal i j a b (r ∙ sym s))
