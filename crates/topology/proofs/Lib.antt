@@ -14,3 +14,7 @@ pub mod Water
 pub mod Branches
 pub mod Numbers
 pub mod Nodes
+pub mod Fathers
+pub mod Minima
+pub mod Partners
+pub mod Demand

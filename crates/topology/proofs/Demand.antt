@@ -1,0 +1,120 @@
+-- Demand 3: the watershed keeps every connected part, the tree with its fathers and every pass between minima,
+-- and no other picture nowhere above it does.
+use mathlib.Core.Path.{_≡_, refl, sym, ap, ap₂, subst, _∙_}
+use mathlib.Core.Bool.{Bool, true, false, _&&_}
+use mathlib.Core.List.{List, [], _∷_}
+use Prim.Native.Nat.{ℕ, zero, suc, _+_, _-_, _≤_, _<_}
+use native.Mathlib.Omega.{arith}
+use lib.ListN.{length, getD}
+use lib.Seq.{ext-getD}
+use Rattle.picture.specs.Lists.{isIn}
+use Rattle.picture.specs.Pictures.{Picture, places, valueAt, withPixels, allBytes, isPicture}
+use Rattle.picture.specs.Components.{inSection, componentAt, passFrom, pass}
+use Rattle.picture.specs.Watersheds.{watershed}
+use Rattle.picture.specs.Patches.{patchAt}
+use Rattle.picture.specs.Kept.{nowhereAbove, keepsParts, Kept, Demand-3}
+use Rattle.topology.proofs.Tests.{and-left, and-right, and-both, same-test}
+use Rattle.topology.proofs.Connected.{conn-target}
+use Rattle.topology.proofs.Keeping.{Keeps, Lowers}
+use Rattle.topology.proofs.Least.{least-sections}
+use Rattle.topology.proofs.Adjacency.{Adj, At, Joined, adj-sym, section-at, at-section}
+use Rattle.topology.proofs.Reached.{in-joined, joined-in}
+use Rattle.topology.proofs.Bridge.{lowers-lowerable, keeps-parts, parts-keeps}
+use Rattle.topology.proofs.Accepted.{Accepted, accepted-is, is-accepted, accepted-with, byte-at, at-byte, above-at, at-above}
+use Rattle.topology.proofs.Water.{Watered, watershed-shape, watershed-watered}
+use Rattle.topology.proofs.Branches.{joined-kept}
+use Rattle.topology.proofs.Minima.{InMinimum, patch-minimum, minimum-kept}
+use Rattle.topology.proofs.Partners.{partner-found, partner-of, fathers-partners, roots-partners}
+
+-- passes in two pictures whose components hold both places at the same heights
+pass-same :
+    (f a : Picture) (x y : ℕ) →
+    ((k : ℕ) → (inSection f k x && isIn y (componentAt f k x)) ≡ (inSection a k x && isIn y (componentAt a k x))) →
+    (l k : ℕ) → passFrom l k f x y ≡ passFrom l k a x y
+pass-same f a x y h zero k = refl
+pass-same f a x y h (suc l) k =
+    ap₂ (λ (t : Bool) (r : ℕ). elim t [ true ↦ k | false ↦ r ]) (h k) (pass-same f a x y h l (suc k))
+
+-- the pass between two pixels of minima is kept with the parts
+passes-kept :
+    (f : Picture) (xs : List ℕ) → ((k : ℕ) → Keeps (places f) (Adj f) (valueAt f) (valueAt (withPixels f xs)) k) →
+    (x y : ℕ) → x < places f → y < places f → 1 ≤ patchAt f x → 1 ≤ patchAt f y → pass f x y ≡ pass (withPixels f xs) x y
+unfolding pass
+passes-kept f xs keeps x y bx by px py = pass-same f a x y test 256 0
+  where
+    a : Picture
+    a = withPixels f xs
+
+    kept : (z : ℕ) → 1 ≤ patchAt f z → valueAt a z ≡ valueAt f z
+    kept z h = let (k, m) = patch-minimum f z h in minimum-kept f xs keeps k z m
+
+    test : (k : ℕ) → (inSection f k x && isIn y (componentAt f k x)) ≡ (inSection a k x && isIn y (componentAt a k x))
+    test k =
+        same-test (inSection f k x && isIn y (componentAt f k x)) (inSection a k x && isIn y (componentAt a k x))
+        (λ h.
+            let s = section-at f k x bx (and-left (inSection f k x) (isIn y (componentAt f k x)) h) in
+            let c = in-joined f k x y s (and-right (inSection f k x) (isIn y (componentAt f k x)) h) in
+            and-both (inSection a k x) (isIn y (componentAt a k x)) (at-section a k x (keeps k .subset x s))
+            (joined-in a k (joined-kept f xs keeps c)))
+        (λ h.
+            let s = section-at a k x bx (and-left (inSection a k x) (isIn y (componentAt a k x)) h) in
+            let c = in-joined a k x y s (and-right (inSection a k x) (isIn y (componentAt a k x)) h) in
+            let sx : At f k x = record { within = bx; low = let e = kept x px in let l = s .low in omega arith } in
+            let sy : At f k y = record { within = by; low = let e = kept y py in let l = conn-target c .low in omega arith } in
+            and-both (inSection f k x) (isIn y (componentAt f k x)) (at-section f k x sx)
+            (joined-in f k (keeps k .separates x y sx sy c)))
+
+-- what demand 3 says, of a picture in the same frame that lowering can make and in which it ends
+watered-kept : (f : Picture) (ys : List ℕ) → Accepted f → Watered f (f .pixels) ys → Kept f (withPixels f ys)
+watered-kept f ys ok w =
+    record
+    { sides = refl
+    ; accepted = is-accepted a a-ok
+    ; under = at-above ys (f .pixels) (w .size) (w .under)
+    ; parts = keeps-parts f ys (w .keeps)
+    ; one-partner = partner-found f ys (w .keeps)
+    ; of-each = partner-of f ys (w .keeps)
+    ; fathers = λ i j h l e. fathers-partners f ys (w .keeps) i j h l e a-ok
+    ; roots = λ i j h l e. roots-partners f ys (w .keeps) i j h l e ok
+    ; passes = passes-kept f ys (w .keeps)
+    ; least = least
+    }
+  where
+    a : Picture
+    a = withPixels f ys
+
+    byte : (i : ℕ) → getD ys i 0 ≤ 255
+    byte i = let b = byte-at (f .pixels) (ok .bytes) i in let u = w .under i in omega arith
+
+    size : length ys ≡ places f
+    size = w .size ∙ ok .size
+
+    a-ok : Accepted a
+    a-ok = accepted-with f ys ok size (at-byte ys byte)
+
+    least :
+        (b : List ℕ) → length b ≡ places f → allBytes b ≡ true → nowhereAbove b ys ≡ true →
+        keepsParts f (withPixels f b) ≡ true → b ≡ ys
+    least b e bytes under parts =
+        ext-getD 0 b ys (e ∙ sym size)
+        (λ i h.
+            let k = getD b i 0 in
+            let small = byte-at b bytes i in
+            let above = above-at b ys under i h in
+            let s =
+                least-sections (places f) (Adj f) (adj-sym f) (valueAt f) (valueAt a) (valueAt (withPixels f b))
+                (λ y c. byte y)
+                (λ y c. above-at b ys under y (omega arith))
+                (λ k c. w .keeps k)
+                (parts-keeps f b parts)
+                (λ x k l. w .stuck x (l .within) (lowers-lowerable a x (l .within) k l))
+                (255 - k) k (omega arith) i
+                (record { within = omega arith; low = omega arith })
+            in
+            let below = s .low in
+            omega arith)
+
+pub demand-3 : Demand-3
+demand-3 f h =
+    let ok = accepted-is f h in
+    subst (Kept f) (sym (watershed-shape f (ok .size))) (watered-kept f (watershed f .pixels) ok (watershed-watered f (ok .size)))

@@ -1,0 +1,85 @@
+-- Fathers and the map: which node they are, and that only a root's father is missing.
+use mathlib.Core.Path.{_≡_, refl, sym, ap, subst, _∙_}
+use mathlib.Core.Bool.{Bool, true, false}
+use mathlib.Core.Logic.{_⊎_, inl, inr, by-cases}
+use mathlib.Core.List.{List, [], _∷_}
+use Prim.Native.Nat.{ℕ, zero, suc, _+_, _-_, _≤_, _<_}
+use native.Mathlib.Decide.{ℕ-discrete}
+use native.Mathlib.Omega.{arith}
+use lib.ListN.{length, getD}
+use Rattle.picture.specs.Pictures.{Picture, places, valueAt}
+use Rattle.picture.specs.Components.{componentAt}
+use Rattle.picture.specs.Trees.{Node, below, isBranch, nodes, nodeAt, numberOf, aboveFrom, fatherOf, downFrom, mapOf}
+use Rattle.topology.proofs.Tests.{on-elim}
+use Rattle.topology.proofs.Keeping.{sec-mono}
+use Rattle.topology.proofs.Adjacency.{At}
+use Rattle.topology.proofs.Accepted.{Accepted, byte-at, places-bound}
+use Rattle.topology.proofs.Branches.{branch-zero, branch-sound, branch-below}
+use Rattle.topology.proofs.Nodes.{IsNode, node-is, number-found, nodes-few}
+
+-- r is the number of the least node from height k on that contains x, or 65535 where each component is a branch
+pub data Above (p : Picture) (x k r : ℕ) : Type 0 where
+  top : r ≡ 65535 → ((h : ℕ) → k ≤ h → h ≤ 255 → isBranch p h (componentAt p h x) ≡ true) → Above p x k r
+  fork :
+      (h : ℕ) → k ≤ h → h ≤ 255 → isBranch p h (componentAt p h x) ≡ false →
+      ((j : ℕ) → k ≤ j → j < h → isBranch p j (componentAt p j x) ≡ true) →
+      r ≡ numberOf p h (componentAt p h x) → Above p x k r
+
+from-next : (P : ℕ → Type 0) (k h : ℕ) → k ≤ h → P k → (suc k ≤ h → P h) → P h
+from-next P k h a e f =
+    by-cases (ℕ-discrete k h) (λ i. subst P i e) (λ d. f (omega arith))
+
+module _ (p : Picture) (x : ℕ) where
+  -- one branch more below
+  extend : (k : ℕ) {r : ℕ} → isBranch p k (componentAt p k x) ≡ true → Above p x (suc k) r → Above p x k r
+  extend k e (top q f) = top q (λ h a b. from-next (λ m. isBranch p m (componentAt p m x) ≡ true) k h a e (λ c. f h c b))
+  extend k e (fork h a b n f q) =
+      fork h (omega arith) b n
+      (λ j c d. from-next (λ m. isBranch p m (componentAt p m x) ≡ true) k j c e (λ i. f j i d))
+      q
+
+  above-is : (l k : ℕ) → l + k ≡ 256 → Above p x k (aboveFrom l k p x)
+  above-is zero k e = top refl (λ h a b. absurd (omega arith))
+  above-is (suc l) k e =
+      on-elim (Above p x k) (isBranch p k (componentAt p k x))
+      (λ h. extend k h (above-is l (suc k) (omega arith)))
+      (λ h. fork k (omega arith) (omega arith) h (λ j a b. absurd (omega arith)) refl)
+
+module _ (p : Picture) where
+  pub father-is : (n : Node) → n .height ≤ 255 → Above p (n .first) (suc (n .height)) (fatherOf p n)
+  unfolding fatherOf
+  father-is n h = above-is p (n .first) (255 - n .height) (suc (n .height)) (omega arith)
+
+  -- the number of a father misses only for the root
+  pub father-found :
+      (n : Node) → IsNode p n →
+      (fatherOf p n < length (nodes p)) ⊎
+      ((fatherOf p n ≡ 65535) × ((h : ℕ) → n .height < h → h ≤ 255 → isBranch p h (componentAt p h (n .first)) ≡ true))
+  father-found n i = found (father-is n (i .low))
+    where
+      found :
+          {r : ℕ} → Above p (n .first) (suc (n .height)) r →
+          (r < length (nodes p)) ⊎
+          ((r ≡ 65535) × ((h : ℕ) → n .height < h → h ≤ 255 → isBranch p h (componentAt p h (n .first)) ≡ true))
+      found (top e f) = inr (e, f)
+      found (fork h a b e f q) =
+          let g = number-found p h (n .first) b (sec-mono (omega arith) (n .first) (i .place)) e .0 in inl (omega arith)
+
+  down-found : (k x : ℕ) → k ≤ 255 → At p k x → downFrom k p (componentAt p k x) < length (nodes p)
+  down-found zero x b s = number-found p 0 x b s (branch-zero p (componentAt p 0 x)) .0
+  down-found (suc k) x b s =
+      on-elim (λ (m : ℕ). m < length (nodes p)) (isBranch p (suc k) (componentAt p (suc k) x))
+      (λ e.
+          let i = branch-sound p k x s e in
+          subst (λ (c : List ℕ). downFrom k p c < length (nodes p)) (sym (branch-below p k x s i))
+          (down-found k (i .low) (omega arith) (i .place)))
+      (λ e. number-found p (suc k) x b s e .0)
+
+  -- every place is mapped to a node
+  pub map-found : Accepted p → (x : ℕ) → x < places p → mapOf p x < length (nodes p)
+  unfolding mapOf
+  map-found a x b = down-found (valueAt p x) x (byte-at (p .pixels) (a .bytes) x) (record { within = b; low = omega arith })
+
+  -- 65535 is no node's number
+  pub number-small : Accepted p → (i : ℕ) → i < length (nodes p) → i < 65535
+  number-small a i b = let c = nodes-few p in let d = places-bound p a in omega arith

@@ -1,0 +1,250 @@
+-- Partners: keeping parts keeps the nodes of the tree, one for one, with their fathers.
+use mathlib.Core.Path.{_≡_, refl, sym, ap, ap₂, subst, _∙_}
+use mathlib.Core.Bool.{Bool, true, false, _&&_}
+use mathlib.Core.Logic.{by-cases}
+use mathlib.Core.List.{List, [], _∷_}
+use Prim.Native.Nat.{ℕ, zero, suc, _+_, _-_, _≤_, _<_}
+use native.Mathlib.Decide.{ℕ-discrete, decLt}
+use native.Mathlib.Omega.{arith}
+use lib.Dec.{eqb}
+use lib.ListN.{length, getD}
+use lib.Seq.{ext-getD}
+use borrow.Author.Tests.{eqb-true, eq-eqb}
+use Rattle.picture.specs.Lists.{tally, isIn, allWithin}
+use Rattle.picture.specs.Pictures.{Picture, places, valueAt, withPixels, allBytes, isPicture}
+use Rattle.picture.specs.Components.{inSection, componentAt, passFrom, pass}
+use Rattle.picture.specs.Trees.{Node, isBranch, nodes, nodeAt, componentOf, numberOf, fatherOf}
+use Rattle.picture.specs.Watersheds.{watershed}
+use Rattle.picture.specs.Patches.{patchAt}
+use Rattle.picture.specs.Kept.{nowhereAbove, keepsParts, partners, Kept, Demand-3}
+use Rattle.topology.proofs.Tests.{and-left, and-right, and-both, same-test, clash}
+use Rattle.topology.proofs.Connected.{start, conn-target, conn-trans}
+use Rattle.topology.proofs.Keeping.{Keeps, Lowers, sec-mono}
+use Rattle.topology.proofs.Least.{least-sections}
+use Rattle.topology.proofs.Adjacency.{Adj, At, Joined, adj-sym, joined-sym, section-at, at-section}
+use Rattle.topology.proofs.Reached.{firstAt, component-same, in-joined, joined-in, first-joined, first-same, same-first}
+use Rattle.topology.proofs.Bridge.{within-joined, joined-within, lowers-lowerable, keeps-parts, parts-keeps}
+use Rattle.topology.proofs.Accepted.{Accepted, accepted-is, is-accepted, accepted-with, byte-at, at-byte, above-at, at-above}
+use Rattle.topology.proofs.Water.{Watered, watershed-shape, watershed-watered}
+use Rattle.topology.proofs.Branches.{joined-mono, joined-kept, branch-same}
+use Rattle.topology.proofs.Numbers.{one-index}
+use Rattle.topology.proofs.Nodes.{IsNode, node-is, node-equal, number-found}
+use Rattle.topology.proofs.Fathers.{Above, top, fork, father-is, number-small}
+use Rattle.topology.proofs.Minima.{InMinimum, patch-minimum, minimum-kept}
+
+abbrev node : ℕ → ℕ → Node
+node k y = record { height = k; first = y }
+
+-- a picture that keeps f's parts, in the same frame
+module _ (f : Picture) (xs : List ℕ) (keeps : (k : ℕ) → Keeps (places f) (Adj f) (valueAt f) (valueAt (withPixels f xs)) k) where
+  abbrev a : Picture
+  a = withPixels f xs
+
+  -- partners are nodes of one height whose first places are joined in a
+  module _ (n m : Node) (s : At f (n .height) (n .first)) (t : At a (m .height) (m .first)) where
+    partners-joined : partners f a n m ≡ true → (n .height ≡ m .height) × Joined a (n .height) (n .first) (m .first)
+    unfolding partners
+    partners-joined h =
+        let e = eqb-true (n .height) (m .height) (and-left (eqb (n .height) (m .height)) (allWithin (componentOf f n) (componentOf a m)) h) in
+        let w = and-right (eqb (n .height) (m .height)) (allWithin (componentOf f n) (componentOf a m)) h in
+        ( e
+        , at-height (m .height) (sym e) t w )
+      where
+        at-height :
+            (k : ℕ) → k ≡ n .height → At a k (m .first) → allWithin (componentOf f n) (componentAt a k (m .first)) ≡ true →
+            Joined a (n .height) (n .first) (m .first)
+        at-height k e u w =
+            let u′ = subst (λ (j : ℕ). At a j (m .first)) e u in
+            let w′ = subst (λ (j : ℕ). allWithin (componentOf f n) (componentAt a j (m .first)) ≡ true) e w in
+            joined-sym a (n .height) (within-joined f a (n .height) (n .first) (m .first) s u′ w′ (n .first) (start s))
+
+    joined-partners : n .height ≡ m .height → Joined a (n .height) (n .first) (m .first) → partners f a n m ≡ true
+    unfolding partners
+    joined-partners e c =
+        and-both (eqb (n .height) (m .height)) (allWithin (componentOf f n) (componentOf a m)) (eq-eqb (n .height) (m .height) e)
+        (subst (λ (j : ℕ). allWithin (componentOf f n) (componentAt a j (m .first)) ≡ true) e
+        (joined-within f a (n .height) (n .first) (m .first) s (conn-target c)
+        (λ z d. conn-trans (joined-sym a (n .height) c) (joined-kept f xs keeps d))))
+
+  -- each node of f has exactly one partner
+  module _ (i : ℕ) (h : i < length (nodes f)) where
+    pub partner-found : tally (λ m. partners f a (nodeAt f i) m) (nodes a) ≡ 1
+    partner-found =
+        one-index (λ m. partners f a n m) (node 0 0) (nodes a) j (found .0)
+        (subst (λ (m : Node). partners f a n m ≡ true) (sym (found .1))
+        (joined-partners n (node k (firstAt a k y)) (g .place) (conn-target c) refl c))
+        (λ l b e.
+            let q = node-is a l b in
+            let (w, d) = partners-joined n (nodeAt a l) (g .place) (q .place) e in
+            node-equal a l j b (found .0)
+            (ap₂ node (sym w)
+            (sym (q .first) ∙ (ap (λ (v : ℕ). firstAt a v (nodeAt a l .first)) (sym w) ∙ sym (first-same a k d))) ∙
+            sym (found .1)))
+      where
+        n : Node
+        n = nodeAt f i
+
+        k : ℕ
+        k = n .height
+
+        y : ℕ
+        y = n .first
+
+        g : IsNode f n
+        g = node-is f i h
+
+        t : At a k y
+        t = keeps k .subset y (g .place)
+
+        c : Joined a k y (firstAt a k y)
+        c = first-joined a k y t
+
+        free : isBranch a k (componentAt a k y) ≡ false
+        free = sym (branch-same f xs keeps k (g .place) (start t)) ∙ g .fork
+
+        j : ℕ
+        j = numberOf a k (componentAt a k y)
+
+        found : (j < length (nodes a)) × (nodeAt a j ≡ node k (firstAt a k y))
+        found = number-found a k y (g .low) t free
+
+  -- and each node of a is the partner of exactly one
+  module _ (j : ℕ) (h : j < length (nodes a)) where
+    pub partner-of : tally (λ n. partners f a n (nodeAt a j)) (nodes f) ≡ 1
+    partner-of =
+        one-index (λ n. partners f a n m) (node 0 0) (nodes f) i (found .0)
+        (subst (λ (n : Node). partners f a n m ≡ true) (sym (found .1))
+        (joined-partners (node k (firstAt f k z)) m (conn-target first) (g .place) refl
+        (conn-trans (joined-sym a k (joined-kept f xs keeps first)) (joined-sym a k c))))
+        (λ l b e.
+            let q = node-is f l b in
+            let (w, d) = partners-joined (nodeAt f l) m (q .place) (g .place) e in
+            let d′ = subst (λ (v : ℕ). Joined a v (nodeAt f l .first) y) w d in
+            let s′ = subst (λ (v : ℕ). At f v (nodeAt f l .first)) w (q .place) in
+            let r = keeps k .separates (nodeAt f l .first) z s′ s (conn-trans d′ c) in
+            node-equal f l i b (found .0)
+            (ap₂ node w
+            (sym (q .first) ∙ (ap (λ (v : ℕ). firstAt f v (nodeAt f l .first)) w ∙ first-same f k r)) ∙
+            sym (found .1)))
+      where
+        m : Node
+        m = nodeAt a j
+
+        k : ℕ
+        k = m .height
+
+        y : ℕ
+        y = m .first
+
+        g : IsNode a m
+        g = node-is a j h
+
+        reached : (z : ℕ) × At f k z × Joined a k y z
+        reached = keeps k .reaches y (g .place)
+
+        z : ℕ
+        z = reached .0
+
+        s : At f k z
+        s = reached .1
+
+        c : Joined a k y z
+        c = reached .2
+
+        first : Joined f k z (firstAt f k z)
+        first = first-joined f k z s
+
+        free : isBranch f k (componentAt f k z) ≡ false
+        free = branch-same f xs keeps k s (joined-sym a k c) ∙ g .fork
+
+        i : ℕ
+        i = numberOf f k (componentAt f k z)
+
+        found : (i < length (nodes f)) × (nodeAt f i ≡ node k (firstAt f k z))
+        found = number-found f k z (g .low) s free
+
+  -- the least nodes above joined places have one height in f and in a, or there is none in either
+  data Both (y z k r q : ℕ) : Type 0 where
+    neither : r ≡ 65535 → q ≡ 65535 → Both y z k r q
+    forks :
+        (h : ℕ) → k ≤ h → h ≤ 255 →
+        isBranch f h (componentAt f h y) ≡ false → isBranch a h (componentAt a h z) ≡ false →
+        r ≡ numberOf f h (componentAt f h y) → q ≡ numberOf a h (componentAt a h z) → Both y z k r q
+
+  both-above : {y z k r q : ℕ} → At f k y → Joined a k y z → Above f y (suc k) r → Above a z (suc k) q → Both y z (suc k) r q
+  both-above {y} {z} {k} s c = pair
+    where
+      same : (h : ℕ) → k ≤ h → isBranch f h (componentAt f h y) ≡ isBranch a h (componentAt a h z)
+      same h b = branch-same f xs keeps h (sec-mono b y s) (joined-mono a b c)
+
+      pair : {r q : ℕ} → Above f y (suc k) r → Above a z (suc k) q → Both y z (suc k) r q
+      pair (top e u) (top g v) = neither e g
+      pair (top e u) (fork h b d n v g) = absurd (clash (sym (same h (omega arith)) ∙ u h b d) n)
+      pair (fork h b d n u e) (top g v) = absurd (clash (same h (omega arith) ∙ v h b d) n)
+      pair (fork h b d n u e) (fork i b′ d′ n′ v g) =
+          by-cases (ℕ-discrete i h)
+          (λ w.
+              forks h b d n
+              (subst (λ (m : ℕ). isBranch a m (componentAt a m z) ≡ false) w n′)
+              e
+              (g ∙ ap (λ (m : ℕ). numberOf a m (componentAt a m z)) w))
+          (λ w.
+              by-cases (decLt h i)
+              (λ l. absurd (clash (same h (omega arith) ∙ v h b l) n))
+              (λ l. absurd (clash (sym (same i (omega arith)) ∙ u i b′ (omega arith)) n′)))
+
+  -- the fathers of partners
+  module _ (i j : ℕ) (h : i < length (nodes f)) (l : j < length (nodes a)) (e : partners f a (nodeAt f i) (nodeAt a j) ≡ true) where
+    fathers-both : Both (nodeAt f i .first) (nodeAt a j .first) (suc (nodeAt f i .height)) (fatherOf f (nodeAt f i)) (fatherOf a (nodeAt a j))
+    fathers-both =
+        let g = node-is f i h in
+        let g′ = node-is a j l in
+        let (w, c) = partners-joined (nodeAt f i) (nodeAt a j) (g .place) (g′ .place) e in
+        both-above (g .place) c (father-is f (nodeAt f i) (g .low))
+        (subst (λ (k : ℕ). Above a (nodeAt a j .first) (suc k) (fatherOf a (nodeAt a j))) (sym w) (father-is a (nodeAt a j) (g′ .low)))
+
+    father-joined : Joined a (nodeAt f i .height) (nodeAt f i .first) (nodeAt a j .first)
+    father-joined =
+        partners-joined (nodeAt f i) (nodeAt a j) (node-is f i h .place) (node-is a j l .place) e .1
+
+    pub fathers-partners :
+        Accepted a → fatherOf f (nodeAt f i) < 65535 →
+        (fatherOf a (nodeAt a j) < 65535) ×
+        (partners f a (nodeAt f (fatherOf f (nodeAt f i))) (nodeAt a (fatherOf a (nodeAt a j))) ≡ true)
+    fathers-partners ok = paired fathers-both
+      where
+        y : ℕ
+        y = nodeAt f i .first
+
+        z : ℕ
+        z = nodeAt a j .first
+
+        paired :
+            {r q : ℕ} → Both y z (suc (nodeAt f i .height)) r q → r < 65535 →
+            (q < 65535) × (partners f a (nodeAt f r) (nodeAt a q) ≡ true)
+        paired (neither u v) b = absurd (omega arith)
+        paired {r} {q} (forks k b d nf na u v) c =
+            let above : nodeAt f i .height ≤ k = omega arith in
+            let sf = sec-mono above y (node-is f i h .place) in
+            let yz = joined-mono a above father-joined in
+            let (fl, fe) = number-found f k y d sf nf in
+            let (al, ae) = number-found a k z d (conn-target yz) na in
+            let first-f = first-joined f k y sf in
+            let first-a = first-joined a k z (conn-target yz) in
+            let s = number-small a ok (numberOf a k (componentAt a k z)) al in
+            ( omega arith
+            , subst (λ (n : Node). partners f a n (nodeAt a q) ≡ true) (sym (ap (nodeAt f) u ∙ fe))
+              (subst (λ (n : Node). partners f a (node k (firstAt f k y)) n ≡ true) (sym (ap (nodeAt a) v ∙ ae))
+              (joined-partners (node k (firstAt f k y)) (node k (firstAt a k z)) (conn-target first-f) (conn-target first-a) refl
+              (conn-trans (joined-sym a k (joined-kept f xs keeps first-f)) (conn-trans yz first-a)))) )
+
+    pub roots-partners : Accepted f → fatherOf f (nodeAt f i) ≡ 65535 → fatherOf a (nodeAt a j) ≡ 65535
+    roots-partners ok = paired fathers-both
+      where
+        paired : {r q : ℕ} → Both (nodeAt f i .first) (nodeAt a j .first) (suc (nodeAt f i .height)) r q → r ≡ 65535 → q ≡ 65535
+        paired (neither u v) b = v
+        paired (forks k b d nf na u v) c =
+            let above : nodeAt f i .height ≤ k = omega arith in
+            let sf = sec-mono above (nodeAt f i .first) (node-is f i h .place) in
+            let fl = number-found f k (nodeAt f i .first) d sf nf .0 in
+            absurd (let s = number-small f ok (numberOf f k (componentAt f k (nodeAt f i .first))) fl in omega arith)
