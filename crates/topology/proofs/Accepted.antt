@@ -31,16 +31,16 @@ accepted-is p h =
     let h₂ = and-right (sideFits (p .width)) _ h₁ in
     let t = and-left (sideFits (p .height)) _ h₂ in
     let h₃ = and-right (sideFits (p .height)) _ h₂ in
-    record
-    { adjacency =
-        ⊎-elim (λ e. inl (eqb-true (p .adjacency) 4 e)) (λ e. inr (eqb-true (p .adjacency) 8 e))
-        (or-cases (eqb (p .adjacency) 4) (eqb (p .adjacency) 8) a)
-    ; wide = leb-true 1 (p .width) (and-left (leb 1 (p .width)) (leb (p .width) 40) w)
-    ; narrow = leb-true (p .width) 40 (and-right (leb 1 (p .width)) (leb (p .width) 40) w)
-    ; tall = leb-true 1 (p .height) (and-left (leb 1 (p .height)) (leb (p .height) 40) t)
-    ; short = leb-true (p .height) 40 (and-right (leb 1 (p .height)) (leb (p .height) 40) t)
-    ; size = eqb-true (length (p .pixels)) (places p) (and-left (eqb (length (p .pixels)) (places p)) _ h₃)
-    ; bytes = and-right (eqb (length (p .pixels)) (places p)) (allBytes (p .pixels)) h₃
+    record {
+      adjacency =
+          ⊎-elim (λ e. inl (eqb-true (p .adjacency) 4 e)) (λ e. inr (eqb-true (p .adjacency) 8 e))
+          (or-cases (eqb (p .adjacency) 4) (eqb (p .adjacency) 8) a);
+      wide = leb-true 1 (p .width) (and-left (leb 1 (p .width)) (leb (p .width) 40) w);
+      narrow = leb-true (p .width) 40 (and-right (leb 1 (p .width)) (leb (p .width) 40) w);
+      tall = leb-true 1 (p .height) (and-left (leb 1 (p .height)) (leb (p .height) 40) t);
+      short = leb-true (p .height) 40 (and-right (leb 1 (p .height)) (leb (p .height) 40) t);
+      size = eqb-true (length (p .pixels)) (places p) (and-left (eqb (length (p .pixels)) (places p)) _ h₃);
+      bytes = and-right (eqb (length (p .pixels)) (places p)) (allBytes (p .pixels)) h₃;
     }
 
 pub is-accepted : (p : Picture) → Accepted p → isPicture p ≡ true
@@ -65,14 +65,14 @@ places-bound p a = mul-le-mul (a .narrow) (a .short)
 -- other pixels in the same frame
 pub accepted-with : (p : Picture) (xs : List ℕ) → Accepted p → length xs ≡ places p → allBytes xs ≡ true → Accepted (withPixels p xs)
 accepted-with p xs a e b =
-    record
-    { adjacency = a .adjacency
-    ; wide = a .wide
-    ; narrow = a .narrow
-    ; tall = a .tall
-    ; short = a .short
-    ; size = e
-    ; bytes = b
+    record {
+      adjacency = a .adjacency;
+      wide = a .wide;
+      narrow = a .narrow;
+      tall = a .tall;
+      short = a .short;
+      size = e;
+      bytes = b;
     }
 
 pub byte-at : (xs : List ℕ) → allBytes xs ≡ true → (i : ℕ) → getD xs i 0 ≤ 255

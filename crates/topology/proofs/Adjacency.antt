@@ -27,13 +27,13 @@ distance-sym : (a b : ℕ) → distance a b ≡ distance b a
 distance-sym a b =
     on-pick (λ (d : ℕ). d ≡ distance b a) (leb a b)
     (λ e.
-        on-pick (λ (d : ℕ). b - a ≡ d) (leb b a)
-        (λ g. let p = leb-true a b e in let q = leb-true b a g in omega arith)
-        (λ g. refl))
+    on-pick (λ (d : ℕ). b - a ≡ d) (leb b a)
+    (λ g. let p = leb-true a b e in let q = leb-true b a g in omega arith)
+    (λ g. refl))
     (λ e.
-        on-pick (λ (d : ℕ). a - b ≡ d) (leb b a)
-        (λ g. refl)
-        (λ g. let p = leb-false a b e in let q = leb-false b a g in omega arith))
+    on-pick (λ (d : ℕ). a - b ≡ d) (leb b a)
+    (λ g. refl)
+    (λ g. let p = leb-false a b e in let q = leb-false b a g in omega arith))
 
 pub touch-sym : (p : Picture) (x y : ℕ) → touch p x y ≡ touch p y x
 unfolding adjacent

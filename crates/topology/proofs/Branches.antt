@@ -51,14 +51,14 @@ module _ (p : Picture) (j x : ℕ) (s : At p (suc j) x) where
   unfolding isBranch within
   branch-sound h =
       let o =
-          tally-part p j within
-          (sym below-length ∙ eqb-true (length (below p (suc j) (componentAt p (suc j) x))) 1 h)
+      tally-part p j within
+      (sym below-length ∙ eqb-true (length (below p (suc j) (componentAt p (suc j) x))) 1 h)
       in
-      record
-      { low = o .at
-      ; place = o .place
-      ; inside = below-joined (o .at) (o .place) (o .passes)
-      ; only = λ y t c. o .only y t (joined-below y t c)
+      record {
+        low = o .at;
+        place = o .place;
+        inside = below-joined (o .at) (o .place) (o .passes);
+        only = λ y t c. o .only y t (joined-below y t c);
       }
 
   pub branch-complete : Branch p j x → isBranch p (suc j) (componentAt p (suc j) x) ≡ true
@@ -67,11 +67,11 @@ module _ (p : Picture) (j x : ℕ) (s : At p (suc j) x) where
       eq-eqb (length (below p (suc j) (componentAt p (suc j) x))) 1
       (below-length ∙
       part-tally p j within
-      (record
-      { at = b .low
-      ; place = b .place
-      ; passes = joined-below (b .low) (b .place) (b .inside)
-      ; only = λ y t h. b .only y t (below-joined y t h)
+      (record {
+        at = b .low;
+        place = b .place;
+        passes = joined-below (b .low) (b .place) (b .inside);
+        only = λ y t h. b .only y t (below-joined y t h);
       }))
 
   -- the only component below a branch
@@ -98,24 +98,24 @@ own-pixel p zero x s h = (x, start s, omega (arith, s .low))
 own-pixel p (suc j) x s h =
     on-test (any (λ z. eqb (valueAt p z) (suc j)) (componentAt p (suc j) x))
     (λ e.
-        let (z, m, q) = any-mem (λ z. eqb (valueAt p z) (suc j)) (componentAt p (suc j) x) e in
-        (z, mem-joined p (suc j) x z s m, eqb-true (valueAt p z) (suc j) q))
+    let (z, m, q) = any-mem (λ z. eqb (valueAt p z) (suc j)) (componentAt p (suc j) x) e in
+    (z, mem-joined p (suc j) x z s m, eqb-true (valueAt p z) (suc j) q))
     (λ e. absurd (clash (branch-complete p j x s (all-low e)) h))
   where
     lower : any (λ z. eqb (valueAt p z) (suc j)) (componentAt p (suc j) x) ≡ false → (z : ℕ) → Joined p (suc j) x z → At p j z
     lower e z c =
         let d : ¬ (valueAt p z ≡ suc j) =
-            λ q. clash (mem-any (λ u. eqb (valueAt p u) (suc j)) (joined-mem p (suc j) c) (eq-eqb (valueAt p z) (suc j) q)) e
+        λ q. clash (mem-any (λ u. eqb (valueAt p u) (suc j)) (joined-mem p (suc j) c) (eq-eqb (valueAt p z) (suc j) q)) e
         in
         record { within = conn-target c .within; low = omega (arith, conn-target c .low) }
 
     all-low : any (λ z. eqb (valueAt p z) (suc j)) (componentAt p (suc j) x) ≡ false → Branch p j x
     all-low e =
-        record
-        { low = x
-        ; place = lower e x (start s)
-        ; inside = start s
-        ; only = λ y t c. descend y c
+        record {
+          low = x;
+          place = lower e x (start s);
+          inside = start s;
+          only = λ y t c. descend y c;
         }
       where
         descend : (y : ℕ) → Joined p (suc j) x y → Joined p j x y
@@ -135,28 +135,28 @@ module _ (f : Picture) (xs : List ℕ) (keeps : (k : ℕ) → Keeps (places f) (
 
   branch-kept : (j x : ℕ) → At f (suc j) x → Branch f j x → Branch a j x
   branch-kept j x s b =
-      record
-      { low = b .low
-      ; place = keeps j .subset (b .low) (b .place)
-      ; inside = joined-kept (b .inside)
-      ; only =
-          λ y t c.
-          let (z, sz, cz) = keeps j .reaches y t in
-          let back = keeps (suc j) .separates x z s (sec-mono (omega arith) z sz) (conn-trans c (joined-mono a (omega arith) cz)) in
-          conn-trans (joined-kept (b .only z sz back)) (joined-sym a j cz)
+      record {
+        low = b .low;
+        place = keeps j .subset (b .low) (b .place);
+        inside = joined-kept (b .inside);
+        only =
+            λ y t c.
+            let (z, sz, cz) = keeps j .reaches y t in
+            let back = keeps (suc j) .separates x z s (sec-mono (omega arith) z sz) (conn-trans c (joined-mono a (omega arith) cz)) in
+            conn-trans (joined-kept (b .only z sz back)) (joined-sym a j cz);
       }
 
   branch-back : (j x : ℕ) → At f (suc j) x → Branch a j x → Branch f j x
   branch-back j x s b =
       let (z, sz, cz) = keeps j .reaches (b .low) (b .place) in
-      record
-      { low = z
-      ; place = sz
-      ; inside = keeps (suc j) .separates x z s (sec-mono (omega arith) z sz) (conn-trans (b .inside) (joined-mono a (omega arith) cz))
-      ; only =
-          λ y t c.
-          keeps j .separates z y sz t
-          (conn-trans (joined-sym a j cz) (b .only y (keeps j .subset y t) (joined-kept c)))
+      record {
+        low = z;
+        place = sz;
+        inside = keeps (suc j) .separates x z s (sec-mono (omega arith) z sz) (conn-trans (b .inside) (joined-mono a (omega arith) cz));
+        only =
+            λ y t c.
+            keeps j .separates z y sz t
+            (conn-trans (joined-sym a j cz) (b .only y (keeps j .subset y t) (joined-kept c)));
       }
 
   -- the component of f that holds x is a branch exactly if a's that holds x is

@@ -50,14 +50,14 @@ module _ (p : Picture) (x : ℕ) (b : x < places p) where
       made : Lowers (places p) (Adj p) (valueAt p) x j
       made =
           let (z, a, c) = touches-low j (o .at) (o .place) (o .passes) in
-          record
-          { within = b
-          ; value = e
-          ; near = z
-          ; touches = a
-          ; below = conn-target c
-          ; joined =
-              λ y ay sy. conn-trans (joined-sym p j c) (o .only y sy (low-touches j ay (start sy)))
+          record {
+            within = b;
+            value = e;
+            near = z;
+            touches = a;
+            below = conn-target c;
+            joined =
+                λ y ay sy. conn-trans (joined-sym p j c) (o .only y sy (low-touches j ay (start sy)));
           }
 
   pub lowerable-lowers : (k : ℕ) → valueAt p x ≡ suc k → lowerable p x ≡ true → Lowers (places p) (Adj p) (valueAt p) x k
@@ -70,14 +70,14 @@ module _ (p : Picture) (x : ℕ) (b : x < places p) where
       subst (λ (v : ℕ). lowerableAt v p x ≡ true) (sym (l .value))
       (eq-eqb (tally (touchesSome p x) (components p k)) 1
       (part-tally p k (touchesSome p x)
-      (record
-      { at = l .near
-      ; place = l .below
-      ; passes = low-touches k (l .touches) (start (l .below))
-      ; only =
-          λ y sy h.
-          let (z, a, c) = touches-low k y sy h in
-          conn-trans (l .joined z a (conn-target c)) (joined-sym p k c)
+      (record {
+        at = l .near;
+        place = l .below;
+        passes = low-touches k (l .touches) (start (l .below));
+        only =
+            λ y sy h.
+            let (z, a, c) = touches-low k y sy h in
+            conn-trans (l .joined z a (conn-target c)) (joined-sym p k c);
       })))
 
   -- a pixel of value 0 is not lowerable
@@ -143,27 +143,27 @@ module _ (f : Picture) (xs : List ℕ) (k : ℕ) where
       and-both (all hosted (components f k)) (all guest (components b k))
       (parts-all f k hosted
       (λ y s.
-          eq-eqb (tally (λ d. allWithin (componentAt f k y) d) (components b k)) 1
-          (part-tally b k (λ d. allWithin (componentAt f k y) d)
-          (record
-          { at = y
-          ; place = e .subset y s
-          ; passes = joined-within f b k y y s (e .subset y s) (λ z c. conn-mono (e .subset) c)
-          ; only = λ z sz h. joined-sym b k (within-joined f b k y z s sz h y (start s))
-          }))))
+      eq-eqb (tally (λ d. allWithin (componentAt f k y) d) (components b k)) 1
+      (part-tally b k (λ d. allWithin (componentAt f k y) d)
+      (record {
+        at = y;
+        place = e .subset y s;
+        passes = joined-within f b k y y s (e .subset y s) (λ z c. conn-mono (e .subset) c);
+        only = λ z sz h. joined-sym b k (within-joined f b k y z s sz h y (start s));
+      }))))
       (parts-all b k guest
       (λ y s.
-          let (z, sz, c) = e .reaches y s in
-          eq-eqb (tally (λ d. allWithin d (componentAt b k y)) (components f k)) 1
-          (part-tally f k (λ d. allWithin d (componentAt b k y))
-          (record
-          { at = z
-          ; place = sz
-          ; passes = joined-within f b k z y sz s (λ u d. conn-trans c (conn-mono (e .subset) d))
-          ; only =
-              λ u su h.
-              e .separates z u sz su (conn-trans (joined-sym b k c) (within-joined f b k u y su s h u (start su)))
-          }))))
+      let (z, sz, c) = e .reaches y s in
+      eq-eqb (tally (λ d. allWithin d (componentAt b k y)) (components f k)) 1
+      (part-tally f k (λ d. allWithin d (componentAt b k y))
+      (record {
+        at = z;
+        place = sz;
+        passes = joined-within f b k z y sz s (λ u d. conn-trans c (conn-mono (e .subset) d));
+        only =
+            λ u su h.
+            e .separates z u sz su (conn-trans (joined-sym b k c) (within-joined f b k u y su s h u (start su)));
+      }))))
 
 -- at every height
 module _ (f : Picture) (xs : List ℕ) where

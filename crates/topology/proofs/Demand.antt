@@ -52,32 +52,32 @@ passes-kept f xs keeps x y bx by px py = pass-same f a x y test 256 0
     test k =
         same-test (inSection f k x && isIn y (componentAt f k x)) (inSection a k x && isIn y (componentAt a k x))
         (λ h.
-            let s = section-at f k x bx (and-left (inSection f k x) (isIn y (componentAt f k x)) h) in
-            let c = in-joined f k x y s (and-right (inSection f k x) (isIn y (componentAt f k x)) h) in
-            and-both (inSection a k x) (isIn y (componentAt a k x)) (at-section a k x (keeps k .subset x s))
-            (joined-in a k (joined-kept f xs keeps c)))
+        let s = section-at f k x bx (and-left (inSection f k x) (isIn y (componentAt f k x)) h) in
+        let c = in-joined f k x y s (and-right (inSection f k x) (isIn y (componentAt f k x)) h) in
+        and-both (inSection a k x) (isIn y (componentAt a k x)) (at-section a k x (keeps k .subset x s))
+        (joined-in a k (joined-kept f xs keeps c)))
         (λ h.
-            let s = section-at a k x bx (and-left (inSection a k x) (isIn y (componentAt a k x)) h) in
-            let c = in-joined a k x y s (and-right (inSection a k x) (isIn y (componentAt a k x)) h) in
-            let sx : At f k x = record { within = bx; low = let e = kept x px in let l = s .low in omega arith } in
-            let sy : At f k y = record { within = by; low = let e = kept y py in let l = conn-target c .low in omega arith } in
-            and-both (inSection f k x) (isIn y (componentAt f k x)) (at-section f k x sx)
-            (joined-in f k (keeps k .separates x y sx sy c)))
+        let s = section-at a k x bx (and-left (inSection a k x) (isIn y (componentAt a k x)) h) in
+        let c = in-joined a k x y s (and-right (inSection a k x) (isIn y (componentAt a k x)) h) in
+        let sx : At f k x = record { within = bx; low = let e = kept x px in let l = s .low in omega arith } in
+        let sy : At f k y = record { within = by; low = let e = kept y py in let l = conn-target c .low in omega arith } in
+        and-both (inSection f k x) (isIn y (componentAt f k x)) (at-section f k x sx)
+        (joined-in f k (keeps k .separates x y sx sy c)))
 
 -- what demand 3 says, of a picture in the same frame that lowering can make and in which it ends
 watered-kept : (f : Picture) (ys : List ℕ) → Accepted f → Watered f (f .pixels) ys → Kept f (withPixels f ys)
 watered-kept f ys ok w =
-    record
-    { sides = refl
-    ; accepted = is-accepted a a-ok
-    ; under = at-above ys (f .pixels) (w .size) (w .under)
-    ; parts = keeps-parts f ys (w .keeps)
-    ; one-partner = partner-found f ys (w .keeps)
-    ; of-each = partner-of f ys (w .keeps)
-    ; fathers = λ i j h l e. fathers-partners f ys (w .keeps) i j h l e a-ok
-    ; roots = λ i j h l e. roots-partners f ys (w .keeps) i j h l e ok
-    ; passes = passes-kept f ys (w .keeps)
-    ; least = least
+    record {
+      sides = refl;
+      accepted = is-accepted a a-ok;
+      under = at-above ys (f .pixels) (w .size) (w .under);
+      parts = keeps-parts f ys (w .keeps);
+      one-partner = partner-found f ys (w .keeps);
+      of-each = partner-of f ys (w .keeps);
+      fathers = λ i j h l e. fathers-partners f ys (w .keeps) i j h l e a-ok;
+      roots = λ i j h l e. roots-partners f ys (w .keeps) i j h l e ok;
+      passes = passes-kept f ys (w .keeps);
+      least = least;
     }
   where
     a : Picture
@@ -98,21 +98,21 @@ watered-kept f ys ok w =
     least b e bytes under parts =
         ext-getD 0 b ys (e ∙ sym size)
         (λ i h.
-            let k = getD b i 0 in
-            let small = byte-at b bytes i in
-            let above = above-at b ys under i h in
-            let s =
-                least-sections (places f) (Adj f) (adj-sym f) (valueAt f) (valueAt a) (valueAt (withPixels f b))
-                (λ y c. byte y)
-                (λ y c. above-at b ys under y (omega arith))
-                (λ k c. w .keeps k)
-                (parts-keeps f b parts)
-                (λ x k l. w .stuck x (l .within) (lowers-lowerable a x (l .within) k l))
-                (255 - k) k (omega arith) i
-                (record { within = omega arith; low = omega arith })
-            in
-            let below = s .low in
-            omega arith)
+        let k = getD b i 0 in
+        let small = byte-at b bytes i in
+        let above = above-at b ys under i h in
+        let s =
+        least-sections (places f) (Adj f) (adj-sym f) (valueAt f) (valueAt a) (valueAt (withPixels f b))
+        (λ y c. byte y)
+        (λ y c. above-at b ys under y (omega arith))
+        (λ k c. w .keeps k)
+        (parts-keeps f b parts)
+        (λ x k l. w .stuck x (l .within) (lowers-lowerable a x (l .within) k l))
+        (255 - k) k (omega arith) i
+        (record { within = omega arith; low = omega arith })
+        in
+        let below = s .low in
+        omega arith)
 
 pub demand-3 : Demand-3
 demand-3 f h =

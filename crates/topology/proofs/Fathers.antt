@@ -70,9 +70,9 @@ module _ (p : Picture) where
   down-found (suc k) x b s =
       on-elim (λ (m : ℕ). m < length (nodes p)) (isBranch p (suc k) (componentAt p (suc k) x))
       (λ e.
-          let i = branch-sound p k x s e in
-          subst (λ (c : List ℕ). downFrom k p c < length (nodes p)) (sym (branch-below p k x s i))
-          (down-found k (i .low) (omega arith) (i .place)))
+      let i = branch-sound p k x s e in
+      subst (λ (c : List ℕ). downFrom k p c < length (nodes p)) (sym (branch-below p k x s i))
+      (down-found k (i .low) (omega arith) (i .place)))
       (λ e. number-found p (suc k) x b s e .0)
 
   -- every place is mapped to a node

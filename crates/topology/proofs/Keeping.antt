@@ -40,23 +40,23 @@ sec-dec n v k y h = by-cases (decLe (v y) k) (λ l. inl (record { within = h; lo
 module _ (n : ℕ) (R : ℕ → ℕ → Type 0) where
   pub keeps-compose : {f a b : ℕ → ℕ} {k : ℕ} → Keeps n R f a k → Keeps n R a b k → Keeps n R f b k
   keeps-compose {f} {a} {b} {k} fa ab =
-      record
-      { subset = λ y s. ab .subset y (fa .subset y s)
-      ; reaches =
-          λ y s.
-          let (z, sz, cz) = ab .reaches y s in
-          let (u, su, cu) = fa .reaches z sz in
-          (u, su, conn-trans cz (conn-mono (ab .subset) cu))
-      ; separates = λ y z sy sz c. fa .separates y z sy sz (ab .separates y z (fa .subset y sy) (fa .subset z sz) c)
+      record {
+        subset = λ y s. ab .subset y (fa .subset y s);
+        reaches =
+            λ y s.
+            let (z, sz, cz) = ab .reaches y s in
+            let (u, su, cu) = fa .reaches z sz in
+            (u, su, conn-trans cz (conn-mono (ab .subset) cu));
+        separates = λ y z sy sz c. fa .separates y z sy sz (ab .separates y z (fa .subset y sy) (fa .subset z sz) c);
       }
 
   -- equal sections keep each other's parts
   pub keeps-same : {f b : ℕ → ℕ} {k : ℕ} → ((y : ℕ) → Sec n f k y ↔ Sec n b k y) → Keeps n R f b k
   keeps-same e =
-      record
-      { subset = λ y s. e y .0 s
-      ; reaches = λ y s. (y, e y .1 s, start s)
-      ; separates = λ y z sy sz c. conn-mono (λ u s. e u .1 s) c
+      record {
+        subset = λ y s. e y .0 s;
+        reaches = λ y s. (y, e y .1 s, start s);
+        separates = λ y z sy sz c. conn-mono (λ u s. e u .1 s) c;
       }
 
   pub keeps-refl : {f : ℕ → ℕ} {k : ℕ} → Keeps n R f f k
@@ -89,10 +89,10 @@ module _ (n : ℕ) (R : ℕ → ℕ → Type 0) where
           by-cases (ℕ-discrete u x)
           (λ g. upon g c t-near)
           (λ g.
-              let su = old-sec u g s in
-              let tx = l .joined t (symmetric t x t-near) (conn-target c) in
-              let ux = l .joined u (subst (λ (m : ℕ). R m u) h r) su in
-              away (conn-trans c (conn-trans (conn-sym symmetric tx) ux)))
+          let su = old-sec u g s in
+          let tx = l .joined t (symmetric t x t-near) (conn-target c) in
+          let ux = l .joined u (subst (λ (m : ℕ). R m u) h r) su in
+          away (conn-trans c (conn-trans (conn-sym symmetric tx) ux)))
 
       old-path : (y z : ℕ) → Sec n v k y → Conn R (Sec n w k) y z → Old y z
       old-path y z s c = conn-closed (Old y) (away (start s)) (old-step y) c
@@ -104,31 +104,34 @@ module _ (n : ℕ) (R : ℕ → ℕ → Type 0) where
 
       lowering-at : Keeps n R v w k
       lowering-at =
-          record
-          { subset = new-sec
-          ; reaches =
-              λ y s.
-              by-cases (ℕ-discrete y x)
-              (λ h.
-                  (l .near
-                  , l .below
-                  , conn-edge s (subst (λ (m : ℕ). R m (l .near)) (sym h) (l .touches)) (new-sec (l .near) (l .below))))
-              (λ h. (y, old-sec y h s, start s))
-          ; separates = λ y z sy sz c. led-round y z (old-path y z sy c) sz
+          record {
+            subset = new-sec;
+            reaches =
+                λ y s.
+                by-cases (ℕ-discrete y x)
+                (λ h. (
+                  l .near,
+                  l .below,
+                  conn-edge s (subst (λ (m : ℕ). R m (l .near)) (sym h) (l .touches)) (new-sec (l .near) (l .below)),
+                ))
+                (λ h. (y, old-sec y h s, start s));
+            separates = λ y z sy sz c. led-round y z (old-path y z sy c) sz;
           }
 
       other-height : (j : ℕ) → j ≢ k → (y : ℕ) → Sec n v j y ↔ Sec n w j y
       other-height j h y =
           by-cases (ℕ-discrete y x)
           (λ g.
-              let p : v y ≡ suc k = subst (λ (m : ℕ). v m ≡ suc k) (sym g) (l .value) in
-              let q : w y ≡ k = subst (λ (m : ℕ). w m ≡ k) (sym g) (e .at) in
-              ( λ s. record { within = s .within; low = omega (arith, s .low) }
-              , λ s. record { within = s .within; low = omega (arith, s .low) } ))
+          let p : v y ≡ suc k = subst (λ (m : ℕ). v m ≡ suc k) (sym g) (l .value) in
+          let q : w y ≡ k = subst (λ (m : ℕ). w m ≡ k) (sym g) (e .at) in (
+            λ s. record { within = s .within; low = omega (arith, s .low) },
+            λ s. record { within = s .within; low = omega (arith, s .low) },
+          ))
           (λ g.
-              let q = e .other y g in
-              ( λ s. record { within = s .within; low = omega (arith, s .low) }
-              , λ s. record { within = s .within; low = omega (arith, s .low) } ))
+          let q = e .other y g in (
+            λ s. record { within = s .within; low = omega (arith, s .low) },
+            λ s. record { within = s .within; low = omega (arith, s .low) },
+          ))
 
       -- lowering such a vertex by one keeps the parts of every height
       pub lowering-keeps : (j : ℕ) → Keeps n R v w j

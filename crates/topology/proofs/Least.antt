@@ -29,13 +29,13 @@ module _ (n : ℕ) (R : ℕ → ℕ → Type 0) (symmetric : (y z : ℕ) → R y
       (k : ℕ) → Keeps n R f a k → Keeps n R f b k → ((y : ℕ) → Sec n a k y → Sec n b k y) →
       (e : Exit R (Sec n a k) (Sec n b k)) → a (e .next) ≤ suc k → Lowers n R a (e .next) k
   exit-lowers k fa fb ab e h =
-      record
-      { within = e .allowed .within
-      ; value = not-below
-      ; near = e .last
-      ; touches = symmetric (e .last) (e .next) (e .edge)
-      ; below = e .inside
-      ; joined = λ u r s. joined u r s
+      record {
+        within = e .allowed .within;
+        value = not-below;
+        near = e .last;
+        touches = symmetric (e .last) (e .next) (e .edge);
+        below = e .inside;
+        joined = λ u r s. joined u r s;
       }
     where
       not-below : a (e .next) ≡ suc k
@@ -48,9 +48,9 @@ module _ (n : ℕ) (R : ℕ → ℕ → Type 0) (symmetric : (y z : ℕ) → R y
           let (w₀, sw, cw) = fa .reaches (e .last) (e .inside) in
           let (u₀, su, cu) = fa .reaches u s in
           let across =
-              conn-trans
-              (conn-edge (ab (e .last) (e .inside)) (e .edge) (e .allowed))
-              (conn-edge (e .allowed) r (ab u s))
+          conn-trans
+          (conn-edge (ab (e .last) (e .inside)) (e .edge) (e .allowed))
+          (conn-edge (e .allowed) r (ab u s))
           in
           let inb = conn-trans (conn-sym symmetric (conn-mono ab cw)) (conn-trans across (conn-mono ab cu)) in
           let inf = fb .separates w₀ u₀ sw su inb in
@@ -70,10 +70,10 @@ module _ (n : ℕ) (R : ℕ → ℕ → Type 0) (symmetric : (y z : ℕ) → R y
       let h : k ≤ 255 = omega arith in
       let (z, sz, c) = fb k h .reaches y s in
       let ab : (u : ℕ) → Sec n a k u → Sec n b k u =
-          λ u t. record { within = t .within; low = omega (arith, under u (t .within), t .low) }
+      λ u t. record { within = t .within; low = omega (arith, under u (t .within), t .low) }
       in
       let up : (u : ℕ) → Sec n b k u → a u ≤ suc k =
-          λ u t. least-sections bytes under fa fb stuck l (suc k) (omega arith) u (sec-mono (omega arith) u t) .low
+      λ u t. least-sections bytes under fa fb stuck l (suc k) (omega arith) u (sec-mono (omega arith) u t) .low
       in
       ⊎-elim
       (λ i. i)

@@ -16,5 +16,6 @@ pub mod Numbers
 pub mod Nodes
 pub mod Fathers
 pub mod Minima
+pub mod Grid
 pub mod Partners
 pub mod Demand

@@ -53,10 +53,10 @@ module _ {A : Type 0} (t : A → Bool) where
       step r =
           on-test (t y)
           (λ e.
-              ⊎-elim
-              (λ f. (List·Memᴰ·head f, subst (λ (z : A). t z ≡ true) (sym f) e))
-              (λ k. (List·Memᴰ·tail (r k .0), r k .1))
-              (List·Memᴰ·cases-cons (subst (λ (l : List A). List·Memᴰ x l) (select-in y ys e) m)))
+          ⊎-elim
+          (λ f. (List·Memᴰ·head f, subst (λ (z : A). t z ≡ true) (sym f) e))
+          (λ k. (List·Memᴰ·tail (r k .0), r k .1))
+          (List·Memᴰ·cases-cons (subst (λ (l : List A). List·Memᴰ x l) (select-in y ys e) m)))
           (λ e. let k = subst (λ (l : List A). List·Memᴰ x l) (select-out y ys e) m in (List·Memᴰ·tail (r k .0), r k .1))
 
   pub mem-select : {x : A} (l : List A) → List·Memᴰ x l → t x ≡ true → List·Memᴰ x (select t l)
@@ -120,12 +120,12 @@ module _ {A : Type 0} (s t : A → Bool) where
       let r = tally-select xs in
       on-test (s x)
       (λ e.
-          ap (tally t) (select-in s x xs e) ∙
-          (ap (λ (m : ℕ). pick (t x) 1 0 + m) r ∙
-          sym (ap (λ (b : Bool). pick (b && t x) 1 0 + tally (λ y. s y && t y) xs) e)))
+      ap (tally t) (select-in s x xs e) ∙
+      (ap (λ (m : ℕ). pick (t x) 1 0 + m) r ∙
+      sym (ap (λ (b : Bool). pick (b && t x) 1 0 + tally (λ y. s y && t y) xs) e)))
       (λ e.
-          ap (tally t) (select-out s x xs e) ∙
-          (r ∙ sym (tally-out (λ y. s y && t y) x xs (ap (λ (b : Bool). b && t x) e))))
+      ap (tally t) (select-out s x xs e) ∙
+      (r ∙ sym (tally-out (λ y. s y && t y) x xs (ap (λ (b : Bool). b && t x) e))))
 
   -- a stronger test passes no more often, and if as often then alike
   pub tally-stronger : (l : List A) → ((x : A) → s x ≡ true → t x ≡ true) → tally s l ≤ tally t l
@@ -135,8 +135,8 @@ module _ {A : Type 0} (s t : A → Bool) where
       on-test (s x)
       (λ e. let p = tally-in s x xs e in let q = tally-in t x xs (h x e) in omega arith)
       (λ e.
-          let p = tally-out s x xs e in
-          on-test (t x) (λ g. let q = tally-in t x xs g in omega arith) (λ g. let q = tally-out t x xs g in omega arith))
+      let p = tally-out s x xs e in
+      on-test (t x) (λ g. let q = tally-in t x xs g in omega arith) (λ g. let q = tally-out t x xs g in omega arith))
 
   pub tally-equal : (l : List A) → ((x : A) → s x ≡ true → t x ≡ true) → tally s l ≡ tally t l → {x : A} → List·Memᴰ x l → t x ≡ true → s x ≡ true
   tally-equal [] h e m p = absurd (List·Memᴰ·not-nil m)
@@ -150,17 +150,17 @@ module _ {A : Type 0} (s t : A → Bool) where
           on-test (s y)
           (λ g. subst (λ (z : A). s z ≡ true) (sym f) g)
           (λ g.
-              let a = tally-out s y ys g in
-              let b = tally-in t y ys (subst (λ (z : A). t z ≡ true) f p) in
-              absurd (omega (arith, less)))
+          let a = tally-out s y ys g in
+          let b = tally-in t y ys (subst (λ (z : A). t z ≡ true) f p) in
+          absurd (omega (arith, less)))
       step r (inr k) =
           on-test (s y)
           (λ g. let a = tally-in s y ys g in let b = tally-in t y ys (h y g) in r (omega arith) k)
           (λ g.
-              let a = tally-out s y ys g in
-              on-test (t y)
-              (λ i. let b = tally-in t y ys i in absurd (omega (arith, less)))
-              (λ i. let b = tally-out t y ys i in r (omega arith) k))
+          let a = tally-out s y ys g in
+          on-test (t y)
+          (λ i. let b = tally-in t y ys i in absurd (omega (arith, less)))
+          (λ i. let b = tally-out t y ys i in r (omega arith) k))
 
 pub tally-map : {A B : Type 0} (t : B → Bool) (f : A → B) (l : List A) → tally t (map f l) ≡ tally (λ x. t (f x)) l
 tally-map t f [] = refl
@@ -180,12 +180,12 @@ select-select {A} s t (x ∷ xs) =
     let r = select-select s t xs in
     on-test (s x)
     (λ e.
-        ap (select t) (select-in s x xs e) ∙
-        (ap (λ (l : List A). pick (t x) (x ∷ []) [] ++ l) r ∙
-        sym (ap (λ (b : Bool). pick (b && t x) (x ∷ []) [] ++ select (λ y. s y && t y) xs) e)))
+    ap (select t) (select-in s x xs e) ∙
+    (ap (λ (l : List A). pick (t x) (x ∷ []) [] ++ l) r ∙
+    sym (ap (λ (b : Bool). pick (b && t x) (x ∷ []) [] ++ select (λ y. s y && t y) xs) e)))
     (λ e.
-        ap (select t) (select-out s x xs e) ∙
-        (r ∙ sym (select-out (λ y. s y && t y) x xs (ap (λ (b : Bool). b && t x) e))))
+    ap (select t) (select-out s x xs e) ∙
+    (r ∙ sym (select-out (λ y. s y && t y) x xs (ap (λ (b : Bool). b && t x) e))))
 
 -- membership of numbers
 pub in-mem : (x : ℕ) (l : List ℕ) → isIn x l ≡ true → List·Memᴰ x l

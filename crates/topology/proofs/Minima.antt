@@ -30,10 +30,10 @@ insert-mem {n} m (k ∷ ks) i =
     on-elim (λ (l : List Node). List·Memᴰ n l → (n ≡ m) ⊎ List·Memᴰ n (k ∷ ks)) (ltb (m .first) (k .first))
     (λ e i. List·Memᴰ·cases-cons i)
     (λ e i.
-        ⊎-elim
-        (λ q. inr (List·Memᴰ·head q))
-        (λ j. ⊎-elim inl (λ q. inr (List·Memᴰ·tail q)) (insert-mem m ks j))
-        (List·Memᴰ·cases-cons i))
+    ⊎-elim
+    (λ q. inr (List·Memᴰ·head q))
+    (λ j. ⊎-elim inl (λ q. inr (List·Memᴰ·tail q)) (insert-mem m ks j))
+    (List·Memᴰ·cases-cons i))
     i
 
 by-first-mem : {n : Node} (ns : List Node) → List·Memᴰ n (byFirst ns) → List·Memᴰ n ns
@@ -61,10 +61,10 @@ module _ (p : Picture) where
   leaf-flat (suc j) x s e y c =
       by-cases (decLe (valueAt p y) j)
       (λ h.
-          let t : At p j y = record { within = conn-target c .within; low = h } in
-          absurd
-          (empty (below p (suc j) (componentAt p (suc j) x)) e
-          (mem-select (λ d. isIn (headOf d) (componentAt p (suc j) x)) (components p j) (mem-components p j y t) (joined-below p j x s y t c))))
+      let t : At p j y = record { within = conn-target c .within; low = h } in
+      absurd
+      (empty (below p (suc j) (componentAt p (suc j) x)) e
+      (mem-select (λ d. isIn (headOf d) (componentAt p (suc j) x)) (components p j) (mem-components p j y t) (joined-below p j x s y t c))))
       (λ h. let l = conn-target c .low in omega arith)
     where
       empty : {d : List ℕ} (l : List (List ℕ)) → length l ≡ 0 → List·Memᴰ d l → ⊥
@@ -79,9 +79,10 @@ module _ (p : Picture) where
       let (j, l) = select-mem (isLeaf p) (nodes p) (by-first-mem (select (isLeaf p) (nodes p)) i) in
       let g = nodes-mem p j in
       let c = in-joined p (n .height) (n .first) x (g .place) e in
-      let flat = leaf-flat (n .height) (n .first) (g .place) (eqb-true (length (below p (n .height) (componentOf p n))) 0 l) in
-      ( n .height
-      , record { place = conn-target c; value = flat x c; flat = λ y d. flat y (conn-trans c d) } )
+      let flat = leaf-flat (n .height) (n .first) (g .place) (eqb-true (length (below p (n .height) (componentOf p n))) 0 l) in (
+        n .height,
+        record { place = conn-target c; value = flat x c; flat = λ y d. flat y (conn-trans c d) },
+      )
 
 -- keeping parts keeps the values of minima
 pub minimum-kept :
@@ -95,7 +96,7 @@ minimum-kept f xs keeps (suc j) x m =
     let v = m .value in
     by-cases (decLe (valueAt a x) j)
     (λ h.
-        let (z, sz, c) = keeps j .reaches x (record { within = m .place .within; low = h }) in
-        let d = keeps (suc j) .separates x z (m .place) (sec-mono (omega arith) z sz) (joined-mono a (omega arith) c) in
-        absurd (let q = m .flat z d in let r = sz .low in omega arith))
+    let (z, sz, c) = keeps j .reaches x (record { within = m .place .within; low = h }) in
+    let d = keeps (suc j) .separates x z (m .place) (sec-mono (omega arith) z sz) (joined-mono a (omega arith) c) in
+    absurd (let q = m .flat z d in let r = sz .low in omega arith))
     (λ h. omega arith)

@@ -22,7 +22,8 @@ use Rattle.topology.proofs.Parts.{isFirst, first-is, is-first, componen
 use Rattle.topology.proofs.Branches.{own-pixel}
 use Rattle.topology.proofs.Numbers.{mem-index, index-mem, map-same, pigeonhole}
 
-abbrev node : ℕ → ℕ → Node
+-- the node of a height and a first place
+abbrev pub node : ℕ → ℕ → Node
 node k y = record { height = k; first = y }
 
 -- y is the first place of a leaf or a fork of height k
@@ -46,9 +47,9 @@ module _ (p : Picture) where
       (ap (map (λ x. named (componentAt p k x))) (select-select (isFirst p k) (λ x. free (componentAt p k x)) (range 0 (places p))) ∙
       map-same (λ x. named (componentAt p k x)) (node k) (select (isNode p k) (range 0 (places p)))
       (λ x m.
-          let (i, h) = select-mem (isNode p k) (range 0 (places p)) m in
-          let b = range-mem 0 (places p) i in
-          ap (node k) (first-is p k x (omega arith) (and-left (isFirst p k x) (free (componentAt p k x)) h) .1)))))
+      let (i, h) = select-mem (isNode p k) (range 0 (places p)) m in
+      let b = range-mem 0 (places p) i in
+      ap (node k) (first-is p k x (omega arith) (and-left (isFirst p k x) (free (componentAt p k x)) h) .1)))))
     where
       named : List ℕ → Node
       named c = node k (headOf c)
@@ -64,18 +65,18 @@ module _ (p : Picture) where
   unfolding isNode
   mem-at k {n} b m =
       let (y, i, e) =
-          Memᴰ·of-map (node k) (select (isNode p k) (range 0 (places p)))
-          (subst (λ (l : List Node). List·Memᴰ n l) (nodes-at k) m)
+      Memᴰ·of-map (node k) (select (isNode p k) (range 0 (places p)))
+      (subst (λ (l : List Node). List·Memᴰ n l) (nodes-at k) m)
       in
       let (j, h) = select-mem (isNode p k) (range 0 (places p)) i in
       let c = range-mem 0 (places p) j in
       let (s, q) = first-is p k y (omega arith) (and-left (isFirst p k y) (not (isBranch p k (componentAt p k y))) h) in
       subst (IsNode p) e
-      (record
-      { low = b
-      ; place = s
-      ; first = q
-      ; fork = not-true (isBranch p k (componentAt p k y)) (and-right (isFirst p k y) (not (isBranch p k (componentAt p k y))) h)
+      (record {
+        low = b;
+        place = s;
+        first = q;
+        fork = not-true (isBranch p k (componentAt p k y)) (and-right (isFirst p k y) (not (isBranch p k (componentAt p k y))) h);
       })
 
   at-mem : (k y : ℕ) → At p k y → isBranch p k (componentAt p k y) ≡ false → List·Memᴰ (node k (firstAt p k y)) (nodesAt p k)
@@ -102,11 +103,11 @@ module _ (p : Picture) where
   from-mem (suc l) k h y a b s e =
       on-test (eqb k h)
       (λ q.
-          Memᴰ·append-left (nodesFrom l (suc k) p)
-          (subst (λ (j : ℕ). List·Memᴰ (node h (firstAt p h y)) (nodesAt p j)) (sym (eqb-true k h q)) (at-mem h y s e)))
+      Memᴰ·append-left (nodesFrom l (suc k) p)
+      (subst (λ (j : ℕ). List·Memᴰ (node h (firstAt p h y)) (nodesAt p j)) (sym (eqb-true k h q)) (at-mem h y s e)))
       (λ q.
-          let d : ¬ (k ≡ h) = λ w. clash (eq-eqb k h w) q in
-          Memᴰ·append-right (nodesAt p k) (from-mem l (suc k) h y (omega arith) (omega arith) s e))
+      let d : ¬ (k ≡ h) = λ w. clash (eq-eqb k h w) q in
+      Memᴰ·append-right (nodesAt p k) (from-mem l (suc k) h y (omega arith) (omega arith) s e))
 
   pub nodes-mem : {n : Node} → List·Memᴰ n (nodes p) → IsNode p n
   unfolding nodes
@@ -146,9 +147,9 @@ sorted-later {k} {y} (next {n = n} {ns} g s) (suc i) h =
     ⊎-elim
     (λ a. inl (⊎-elim (λ b. omega arith) (λ b. let c = b .0 in omega arith) g))
     (λ a.
-        let e = a .0 in
-        let q = a .1 in
-        ⊎-elim (λ b. inl (omega arith)) (λ b. let c = b .0 in let d = b .1 in inr (omega arith, omega arith)) g)
+    let e = a .0 in
+    let q = a .1 in
+    ⊎-elim (λ b. inl (omega arith)) (λ b. let c = b .0 in let d = b .1 in inr (omega arith, omega arith)) g)
     (sorted-later s i (omega arith))
 
 -- the number of a node is its index
@@ -158,16 +159,16 @@ number-index (next {n = n} {ns} g s) b zero h =
     on-elim (λ (m : ℕ). m ≡ b + 0) (eqb (n .height) (n .height) && eqb (n .first) (n .first))
     (λ e. omega arith)
     (λ e.
-        absurd
-        (clash
-        (and-both (eqb (n .height) (n .height)) (eqb (n .first) (n .first)) (eq-eqb (n .height) (n .height) refl) (eq-eqb (n .first) (n .first) refl))
-        e))
+    absurd
+    (clash
+    (and-both (eqb (n .height) (n .height)) (eqb (n .first) (n .first)) (eq-eqb (n .height) (n .height) refl) (eq-eqb (n .first) (n .first) refl))
+    e))
 number-index (next {n = n} {ns} g s) b (suc i) h =
     on-elim (λ (m : ℕ). m ≡ b + suc i) (eqb (n .height) (getD ns i (node 0 0) .height) && eqb (n .first) (getD ns i (node 0 0) .first))
     (λ e.
-        let p = eqb-true (n .height) (getD ns i (node 0 0) .height) (and-left (eqb (n .height) (getD ns i (node 0 0) .height)) _ e) in
-        let q = eqb-true (n .first) (getD ns i (node 0 0) .first) (and-right (eqb (n .height) (getD ns i (node 0 0) .height)) _ e) in
-        absurd (⊎-elim (λ a. omega arith) (λ a. let c = a .1 in omega arith) (sorted-later s i (omega arith))))
+    let p = eqb-true (n .height) (getD ns i (node 0 0) .height) (and-left (eqb (n .height) (getD ns i (node 0 0) .height)) _ e) in
+    let q = eqb-true (n .first) (getD ns i (node 0 0) .first) (and-right (eqb (n .height) (getD ns i (node 0 0) .height)) _ e) in
+    absurd (⊎-elim (λ a. omega arith) (λ a. let c = a .1 in omega arith) (sorted-later s i (omega arith))))
     (λ e. number-index s (suc b) i (omega arith) ∙ omega arith)
 
 module _ (p : Picture) where
@@ -187,7 +188,7 @@ module _ (p : Picture) where
   number-found k y b s e =
       let (i, h, q) = mem-index (node 0 0) (mem-nodes p k y b s e) in
       let w : numberOf p k (componentAt p k y) ≡ i =
-          sym (ap (λ (n : Node). numberFrom 0 (n .height) (n .first) (nodes p)) q) ∙ number-at i h
+      sym (ap (λ (n : Node). numberFrom 0 (n .height) (n .first) (nodes p)) q) ∙ number-at i h
       in
       (omega arith, ap (nodeAt p) w ∙ q)
 
@@ -201,10 +202,11 @@ module _ (p : Picture) where
   nodes-few =
       pigeonhole (places p) (length (nodes p)) Owns
       (λ i h.
-          let n = node-is p i h in
-          let (z, c, v) = own-pixel p (nodeAt p i .height) (nodeAt p i .first) (n .place) (n .fork) in
-          ( z
-          , conn-target c .within
-          , ap₂ node (sym v)
-            (sym (n .first) ∙ (first-same p (nodeAt p i .height) c ∙ ap (λ (k : ℕ). firstAt p k z) (sym v))) ))
+      let n = node-is p i h in
+      let (z, c, v) = own-pixel p (nodeAt p i .height) (nodeAt p i .first) (n .place) (n .fork) in (
+        z,
+        conn-target c .within,
+        ap₂ node (sym v)
+            (sym (n .first) ∙ (first-same p (nodeAt p i .height) c ∙ ap (λ (k : ℕ). firstAt p k z) (sym v))),
+      ))
       (λ i j z a b r s. node-equal i j a b (r ∙ sym s))

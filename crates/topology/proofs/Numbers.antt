@@ -30,9 +30,9 @@ one-index t d (x ∷ xs) zero h e f =
     ap suc
     (tally-none t xs
     (λ y m.
-        let (j, b, q) = mem-index d m in
-        test-false (t y)
-        (λ g. let w = f (suc j) (omega arith) (subst (λ z. t z ≡ true) (sym q) g) in omega arith)))
+    let (j, b, q) = mem-index d m in
+    test-false (t y)
+    (λ g. let w = f (suc j) (omega arith) (subst (λ z. t z ≡ true) (sym q) g) in omega arith)))
 one-index t d (x ∷ xs) (suc i) h e f =
     tally-out t x xs (test-false (t x) (λ g. let w = f 0 (omega arith) g in omega arith)) ∙
     one-index t d xs i (omega arith) e (λ j b g. let w = f (suc j) (omega arith) g in omega arith)
@@ -71,12 +71,12 @@ pigeonhole (suc n) (suc m) R f u = let r = pigeonhole n m moved found single in 
         let (z, b, r) = f i (omega arith) in
         by-cases (ℕ-discrete z n)
         (λ e.
-            let rn = subst (R i) e r in
-            let c = last-found .1 in
-            let d : ¬ (last ≡ n) =
-                λ q. let w = u i m n (omega arith) (omega arith) rn (subst (R m) q last-is) in omega arith
-            in
-            (last, omega arith, inr (rn, refl)))
+        let rn = subst (R i) e r in
+        let c = last-found .1 in
+        let d : ¬ (last ≡ n) =
+        λ q. let w = u i m n (omega arith) (omega arith) rn (subst (R m) q last-is) in omega arith
+        in
+        (last, omega arith, inr (rn, refl)))
         (λ d. (z, omega arith, inl r))
 
     single : (i j z : ℕ) → i < m → j < m → moved i z → moved j z → i ≡ j

@@ -28,12 +28,9 @@ use Rattle.topology.proofs.Accepted.{Accepted, accepted-is, is-accepted
 use Rattle.topology.proofs.Water.{Watered, watershed-shape, watershed-watered}
 use Rattle.topology.proofs.Branches.{joined-mono, joined-kept, branch-same}
 use Rattle.topology.proofs.Numbers.{one-index}
-use Rattle.topology.proofs.Nodes.{IsNode, node-is, node-equal, number-found}
+use Rattle.topology.proofs.Nodes.{node, IsNode, node-is, node-equal, number-found}
 use Rattle.topology.proofs.Fathers.{Above, top, fork, father-is, number-small}
 use Rattle.topology.proofs.Minima.{InMinimum, patch-minimum, minimum-kept}
-
-abbrev node : ℕ → ℕ → Node
-node k y = record { height = k; first = y }
 
 -- a picture that keeps f's parts, in the same frame
 module _ (f : Picture) (xs : List ℕ) (keeps : (k : ℕ) → Keeps (places f) (Adj f) (valueAt f) (valueAt (withPixels f xs)) k) where
@@ -46,9 +43,10 @@ module _ (f : Picture) (xs : List ℕ) (keeps : (k : ℕ) → Keeps (places f) (
     unfolding partners
     partners-joined h =
         let e = eqb-true (n .height) (m .height) (and-left (eqb (n .height) (m .height)) (allWithin (componentOf f n) (componentOf a m)) h) in
-        let w = and-right (eqb (n .height) (m .height)) (allWithin (componentOf f n) (componentOf a m)) h in
-        ( e
-        , at-height (m .height) (sym e) t w )
+        let w = and-right (eqb (n .height) (m .height)) (allWithin (componentOf f n) (componentOf a m)) h in (
+          e,
+          at-height (m .height) (sym e) t w,
+        )
       where
         at-height :
             (k : ℕ) → k ≡ n .height → At a k (m .first) → allWithin (componentOf f n) (componentAt a k (m .first)) ≡ true →
@@ -74,12 +72,12 @@ module _ (f : Picture) (xs : List ℕ) (keeps : (k : ℕ) → Keeps (places f) (
         (subst (λ (m : Node). partners f a n m ≡ true) (sym (found .1))
         (joined-partners n (node k (firstAt a k y)) (g .place) (conn-target c) refl c))
         (λ l b e.
-            let q = node-is a l b in
-            let (w, d) = partners-joined n (nodeAt a l) (g .place) (q .place) e in
-            node-equal a l j b (found .0)
-            (ap₂ node (sym w)
-            (sym (q .first) ∙ (ap (λ (v : ℕ). firstAt a v (nodeAt a l .first)) (sym w) ∙ sym (first-same a k d))) ∙
-            sym (found .1)))
+        let q = node-is a l b in
+        let (w, d) = partners-joined n (nodeAt a l) (g .place) (q .place) e in
+        node-equal a l j b (found .0)
+        (ap₂ node (sym w)
+        (sym (q .first) ∙ (ap (λ (v : ℕ). firstAt a v (nodeAt a l .first)) (sym w) ∙ sym (first-same a k d))) ∙
+        sym (found .1)))
       where
         n : Node
         n = nodeAt f i
@@ -117,15 +115,15 @@ module _ (f : Picture) (xs : List ℕ) (keeps : (k : ℕ) → Keeps (places f) (
         (joined-partners (node k (firstAt f k z)) m (conn-target first) (g .place) refl
         (conn-trans (joined-sym a k (joined-kept f xs keeps first)) (joined-sym a k c))))
         (λ l b e.
-            let q = node-is f l b in
-            let (w, d) = partners-joined (nodeAt f l) m (q .place) (g .place) e in
-            let d′ = subst (λ (v : ℕ). Joined a v (nodeAt f l .first) y) w d in
-            let s′ = subst (λ (v : ℕ). At f v (nodeAt f l .first)) w (q .place) in
-            let r = keeps k .separates (nodeAt f l .first) z s′ s (conn-trans d′ c) in
-            node-equal f l i b (found .0)
-            (ap₂ node w
-            (sym (q .first) ∙ (ap (λ (v : ℕ). firstAt f v (nodeAt f l .first)) w ∙ first-same f k r)) ∙
-            sym (found .1)))
+        let q = node-is f l b in
+        let (w, d) = partners-joined (nodeAt f l) m (q .place) (g .place) e in
+        let d′ = subst (λ (v : ℕ). Joined a v (nodeAt f l .first) y) w d in
+        let s′ = subst (λ (v : ℕ). At f v (nodeAt f l .first)) w (q .place) in
+        let r = keeps k .separates (nodeAt f l .first) z s′ s (conn-trans d′ c) in
+        node-equal f l i b (found .0)
+        (ap₂ node w
+        (sym (q .first) ∙ (ap (λ (v : ℕ). firstAt f v (nodeAt f l .first)) w ∙ first-same f k r)) ∙
+        sym (found .1)))
       where
         m : Node
         m = nodeAt a j
@@ -184,14 +182,14 @@ module _ (f : Picture) (xs : List ℕ) (keeps : (k : ℕ) → Keeps (places f) (
       pair (fork h b d n u e) (fork i b′ d′ n′ v g) =
           by-cases (ℕ-discrete i h)
           (λ w.
-              forks h b d n
-              (subst (λ (m : ℕ). isBranch a m (componentAt a m z) ≡ false) w n′)
-              e
-              (g ∙ ap (λ (m : ℕ). numberOf a m (componentAt a m z)) w))
+          forks h b d n
+          (subst (λ (m : ℕ). isBranch a m (componentAt a m z) ≡ false) w n′)
+          e
+          (g ∙ ap (λ (m : ℕ). numberOf a m (componentAt a m z)) w))
           (λ w.
-              by-cases (decLt h i)
-              (λ l. absurd (clash (same h (omega arith) ∙ v h b l) n))
-              (λ l. absurd (clash (sym (same i (omega arith)) ∙ u i b′ (omega arith)) n′)))
+          by-cases (decLt h i)
+          (λ l. absurd (clash (same h (omega arith) ∙ v h b l) n))
+          (λ l. absurd (clash (sym (same i (omega arith)) ∙ u i b′ (omega arith)) n′)))
 
   -- the fathers of partners
   module _ (i j : ℕ) (h : i < length (nodes f)) (l : j < length (nodes a)) (e : partners f a (nodeAt f i) (nodeAt a j) ≡ true) where
@@ -231,12 +229,13 @@ module _ (f : Picture) (xs : List ℕ) (keeps : (k : ℕ) → Keeps (places f) (
             let (al, ae) = number-found a k z d (conn-target yz) na in
             let first-f = first-joined f k y sf in
             let first-a = first-joined a k z (conn-target yz) in
-            let s = number-small a ok (numberOf a k (componentAt a k z)) al in
-            ( omega arith
-            , subst (λ (n : Node). partners f a n (nodeAt a q) ≡ true) (sym (ap (nodeAt f) u ∙ fe))
-              (subst (λ (n : Node). partners f a (node k (firstAt f k y)) n ≡ true) (sym (ap (nodeAt a) v ∙ ae))
-              (joined-partners (node k (firstAt f k y)) (node k (firstAt a k z)) (conn-target first-f) (conn-target first-a) refl
-              (conn-trans (joined-sym a k (joined-kept f xs keeps first-f)) (conn-trans yz first-a)))) )
+            let s = number-small a ok (numberOf a k (componentAt a k z)) al in (
+              omega arith,
+              subst (λ (n : Node). partners f a n (nodeAt a q) ≡ true) (sym (ap (nodeAt f) u ∙ fe))
+                  (subst (λ (n : Node). partners f a (node k (firstAt f k y)) n ≡ true) (sym (ap (nodeAt a) v ∙ ae))
+                  (joined-partners (node k (firstAt f k y)) (node k (firstAt a k z)) (conn-target first-f) (conn-target first-a) refl
+                  (conn-trans (joined-sym a k (joined-kept f xs keeps first-f)) (conn-trans yz first-a)))),
+            )
 
     pub roots-partners : Accepted f → fatherOf f (nodeAt f i) ≡ 65535 → fatherOf a (nodeAt a j) ≡ 65535
     roots-partners ok = paired fathers-both

@@ -27,15 +27,16 @@ any-append t (x ∷ xs) m =
     on-test (t x)
     (λ e. ap (λ (b : Bool). b || any t (xs ++ m)) e ∙ sym (ap (λ (b : Bool). b || any t xs || any t m) e))
     (λ e.
-        ap (λ (b : Bool). b || any t (xs ++ m)) e ∙
-        (any-append t xs m ∙ sym (ap (λ (b : Bool). (b || any t xs) || any t m) e)))
+    ap (λ (b : Bool). b || any t (xs ++ m)) e ∙
+    (any-append t xs m ∙ sym (ap (λ (b : Bool). (b || any t xs) || any t m) e)))
 
 module _ (p : Picture) (k : ℕ) where
   pub first-is : (x : ℕ) → x < places p → isFirst p k x ≡ true → At p k x × (firstAt p k x ≡ x)
   unfolding isFirst
-  first-is x b h =
-      ( section-at p k x b (and-left (inSection p k x) (eqb (firstAt p k x) x) h)
-      , eqb-true (firstAt p k x) x (and-right (inSection p k x) (eqb (firstAt p k x) x) h) )
+  first-is x b h = (
+    section-at p k x b (and-left (inSection p k x) (eqb (firstAt p k x) x) h),
+    eqb-true (firstAt p k x) x (and-right (inSection p k x) (eqb (firstAt p k x) x) h),
+  )
 
   pub is-first : (x : ℕ) → At p k x → firstAt p k x ≡ x → isFirst p k x ≡ true
   unfolding isFirst
@@ -60,11 +61,11 @@ module _ (p : Picture) (k : ℕ) where
     passes h =
         test-false (inSection p k x && not (any (isIn x) cs))
         (λ g.
-            let s = section-at p k x b (and-left (inSection p k x) (not (any (isIn x) cs)) g) in
-            let n = and-right (inSection p k x) (not (any (isIn x) cs)) g in
-            let d : ¬ (firstAt p k x ≡ x) = λ e. clash (is-first x s e) h in
-            let le : firstAt p k x ≤ x = first-least p k (start s) in
-            not-both (any (isIn x) cs) (c x s .1 (omega arith)) n)
+        let s = section-at p k x b (and-left (inSection p k x) (not (any (isIn x) cs)) g) in
+        let n = and-right (inSection p k x) (not (any (isIn x) cs)) g in
+        let d : ¬ (firstAt p k x ≡ x) = λ e. clash (is-first x s e) h in
+        let le : firstAt p k x ≤ x = first-least p k (start s) in
+        not-both (any (isIn x) cs) (c x s .1 (omega arith)) n)
       where
         not-both : (t : Bool) → t ≡ true → not t ≡ true → ⊥
         not-both true e f = clash f refl
@@ -74,35 +75,36 @@ module _ (p : Picture) (k : ℕ) where
     unfolding Covered
     covered-in h y s =
         let (sx, e) = first-is x b h in
-        let split = any-append (isIn y) cs (componentAt p k x ∷ []) in
-        ( λ g.
-            ⊎-elim
-            (λ i. let q = c y s .0 i in omega arith)
-            (λ i.
-                ⊎-elim
-                (λ j. let q = first-same p k (in-joined p k x y sx j) in omega arith)
-                (λ j. absurd (clash j refl))
-                (or-cases (isIn y (componentAt p k x)) false i))
-            (or-cases (any (isIn y) cs) (any (isIn y) (componentAt p k x ∷ [])) (sym split ∙ g))
-        , λ g.
-            split ∙
-            on-test (eqb (firstAt p k y) x)
-            (λ i.
-                or-right (any (isIn y) cs) (any (isIn y) (componentAt p k x ∷ []))
-                (or-left (isIn y (componentAt p k x)) false
-                (joined-in p k (same-first p k x y sx s (e ∙ sym (eqb-true (firstAt p k y) x i))))))
-            (λ i.
-                let d : ¬ (firstAt p k y ≡ x) = λ q. clash (eq-eqb (firstAt p k y) x q) i in
-                or-left (any (isIn y) cs) (any (isIn y) (componentAt p k x ∷ [])) (c y s .1 (omega arith))) )
+        let split = any-append (isIn y) cs (componentAt p k x ∷ []) in (
+          λ g.
+              ⊎-elim
+              (λ i. let q = c y s .0 i in omega arith)
+              (λ i.
+              ⊎-elim
+              (λ j. let q = first-same p k (in-joined p k x y sx j) in omega arith)
+              (λ j. absurd (clash j refl))
+              (or-cases (isIn y (componentAt p k x)) false i))
+              (or-cases (any (isIn y) cs) (any (isIn y) (componentAt p k x ∷ [])) (sym split ∙ g)),
+          λ g.
+              split ∙
+              on-test (eqb (firstAt p k y) x)
+              (λ i.
+              or-right (any (isIn y) cs) (any (isIn y) (componentAt p k x ∷ []))
+              (or-left (isIn y (componentAt p k x)) false
+              (joined-in p k (same-first p k x y sx s (e ∙ sym (eqb-true (firstAt p k y) x i))))))
+              (λ i.
+              let d : ¬ (firstAt p k y ≡ x) = λ q. clash (eq-eqb (firstAt p k y) x q) i in
+              or-left (any (isIn y) cs) (any (isIn y) (componentAt p k x ∷ [])) (c y s .1 (omega arith))),
+        )
 
     covered-out : isFirst p k x ≡ false → Covered (suc x) cs
     unfolding Covered
     covered-out h y s =
         let d : ¬ (firstAt p k y ≡ x) =
-            λ e.
-            clash
-            (is-first x (subst (λ (z : ℕ). At p k z) e (first-at p k y s)) (ap (firstAt p k) (sym e) ∙ (first-first p k y s ∙ e)))
-            h
+        λ e.
+        clash
+        (is-first x (subst (λ (z : ℕ). At p k z) e (first-at p k y s)) (ap (firstAt p k) (sym e) ∙ (first-first p k y s ∙ e)))
+        h
         in
         (λ g. let q = c y s .0 g in omega arith, λ g. c y s .1 (omega arith))
 
@@ -115,20 +117,20 @@ module _ (p : Picture) (k : ℕ) where
       let rest = map (componentAt p k) (select (isFirst p k) (range (suc x) l)) in
       on-test (isFirst p k x)
       (λ h.
-          on-elim (λ (r : List (List ℕ)). r ≡ cs ++ map (componentAt p k) (select (isFirst p k) (range x (suc l))))
-          (inSection p k x && not (any (isIn x) cs))
-          (λ e.
-              collected l (suc x) (omega arith) (cs ++ (componentAt p k x ∷ [])) (covered-in x bx cs c h) ∙
-              (append-assoc cs (componentAt p k x ∷ []) rest ∙
-              sym (ap (λ (m : List ℕ). cs ++ map (componentAt p k) m) (select-in (isFirst p k) x (range (suc x) l) h))))
-          (λ e. absurd (clash (starts x bx cs c h) e)))
+      on-elim (λ (r : List (List ℕ)). r ≡ cs ++ map (componentAt p k) (select (isFirst p k) (range x (suc l))))
+      (inSection p k x && not (any (isIn x) cs))
+      (λ e.
+      collected l (suc x) (omega arith) (cs ++ (componentAt p k x ∷ [])) (covered-in x bx cs c h) ∙
+      (append-assoc cs (componentAt p k x ∷ []) rest ∙
+      sym (ap (λ (m : List ℕ). cs ++ map (componentAt p k) m) (select-in (isFirst p k) x (range (suc x) l) h))))
+      (λ e. absurd (clash (starts x bx cs c h) e)))
       (λ h.
-          on-elim (λ (r : List (List ℕ)). r ≡ cs ++ map (componentAt p k) (select (isFirst p k) (range x (suc l))))
-          (inSection p k x && not (any (isIn x) cs))
-          (λ e. absurd (clash e (passes x bx cs c h)))
-          (λ e.
-              collected l (suc x) (omega arith) cs (covered-out x bx cs c h) ∙
-              sym (ap (λ (m : List ℕ). cs ++ map (componentAt p k) m) (select-out (isFirst p k) x (range (suc x) l) h))))
+      on-elim (λ (r : List (List ℕ)). r ≡ cs ++ map (componentAt p k) (select (isFirst p k) (range x (suc l))))
+      (inSection p k x && not (any (isIn x) cs))
+      (λ e. absurd (clash e (passes x bx cs c h)))
+      (λ e.
+      collected l (suc x) (omega arith) cs (covered-out x bx cs c h) ∙
+      sym (ap (λ (m : List ℕ). cs ++ map (componentAt p k) m) (select-out (isFirst p k) x (range (suc x) l) h))))
 
   pub components-are : components p k ≡ map (componentAt p k) (select (isFirst p k) (range 0 (places p)))
   unfolding components Covered
@@ -157,8 +159,8 @@ module _ (p : Picture) (k : ℕ) where
   pub components-mem : {c : List ℕ} → List·Memᴰ c (components p k) → (x : ℕ) × At p k x × (componentAt p k x ≡ c)
   components-mem {c} m =
       let (x, i, e) =
-          Memᴰ·of-map (componentAt p k) (select (isFirst p k) (range 0 (places p)))
-          (subst (λ (l : List (List ℕ)). List·Memᴰ c l) (components-are p k) m)
+      Memᴰ·of-map (componentAt p k) (select (isFirst p k) (range 0 (places p)))
+      (subst (λ (l : List (List ℕ)). List·Memᴰ c l) (components-are p k) m)
       in
       let (j, h) = select-mem (isFirst p k) (range 0 (places p)) i in
       let b = range-mem 0 (places p) j in
@@ -185,35 +187,35 @@ module _ (p : Picture) (k : ℕ) where
         let o = tally-one 0 (places p) (λ x. isFirst p k x && t (componentAt p k x)) (sym tally-components ∙ h) in
         let b = o .to in
         let (s, e) = first-is p k (o .at) (omega arith) (and-left (isFirst p k (o .at)) (t (componentAt p k (o .at))) (o .passes)) in
-        record
-        { at = o .at
-        ; place = s
-        ; passes = and-right (isFirst p k (o .at)) (t (componentAt p k (o .at))) (o .passes)
-        ; only =
-            λ y sy g.
-            let q =
-                o .only (firstAt p k y) (omega arith) (omega (arith, first-at p k y sy .within))
-                (and-both (isFirst p k (firstAt p k y)) (t (componentAt p k (firstAt p k y)))
-                (is-first p k (firstAt p k y) (first-at p k y sy) (first-first p k y sy))
-                (subst (λ (c : List ℕ). t c ≡ true) (component-same p k (first-joined p k y sy)) g))
-            in
-            same-first p k (o .at) y s sy (e ∙ sym q)
+        record {
+          at = o .at;
+          place = s;
+          passes = and-right (isFirst p k (o .at)) (t (componentAt p k (o .at))) (o .passes);
+          only =
+              λ y sy g.
+              let q =
+              o .only (firstAt p k y) (omega arith) (omega (arith, first-at p k y sy .within))
+              (and-both (isFirst p k (firstAt p k y)) (t (componentAt p k (firstAt p k y)))
+              (is-first p k (firstAt p k y) (first-at p k y sy) (first-first p k y sy))
+              (subst (λ (c : List ℕ). t c ≡ true) (component-same p k (first-joined p k y sy)) g))
+              in
+              same-first p k (o .at) y s sy (e ∙ sym q);
         }
 
     pub part-tally : OnePart p k t → tally t (components p k) ≡ 1
     part-tally o =
         tally-components ∙
         one-tally 0 (places p) (λ x. isFirst p k x && t (componentAt p k x))
-        (record
-        { at = firstAt p k (o .at)
-        ; from = omega arith
-        ; to = omega (arith, first-at p k (o .at) (o .place) .within)
-        ; passes =
-            and-both (isFirst p k (firstAt p k (o .at))) (t (componentAt p k (firstAt p k (o .at))))
-            (is-first p k (firstAt p k (o .at)) (first-at p k (o .at) (o .place)) (first-first p k (o .at) (o .place)))
-            (subst (λ (c : List ℕ). t c ≡ true) (component-same p k (first-joined p k (o .at) (o .place))) (o .passes))
-        ; only =
-            λ y a b g.
-            let (s, e) = first-is p k y (omega arith) (and-left (isFirst p k y) (t (componentAt p k y)) g) in
-            sym e ∙ sym (first-same p k (o .only y s (and-right (isFirst p k y) (t (componentAt p k y)) g)))
+        (record {
+          at = firstAt p k (o .at);
+          from = omega arith;
+          to = omega (arith, first-at p k (o .at) (o .place) .within);
+          passes =
+              and-both (isFirst p k (firstAt p k (o .at))) (t (componentAt p k (firstAt p k (o .at))))
+              (is-first p k (firstAt p k (o .at)) (first-at p k (o .at) (o .place)) (first-first p k (o .at) (o .place)))
+              (subst (λ (c : List ℕ). t c ≡ true) (component-same p k (first-joined p k (o .at) (o .place))) (o .passes));
+          only =
+              λ y a b g.
+              let (s, e) = first-is p k y (omega arith) (and-left (isFirst p k y) (t (componentAt p k y)) g) in
+              sym e ∙ sym (first-same p k (o .only y s (and-right (isFirst p k y) (t (componentAt p k y)) g)));
         })

@@ -38,14 +38,14 @@ module _ (p : Picture) (k : ℕ) where
         agree y =
             same-test (isIn y c) (isIn y (select (λ z. isIn z c) (range 0 (places p))))
             (λ h.
-                mem-in y (select (λ z. isIn z c) (range 0 (places p)))
-                (mem-select (λ z. isIn z c) (range 0 (places p))
-                (mem-range 0 (places p) (omega arith) (omega (arith, low y (in-mem y c h) .within)))
-                h))
+            mem-in y (select (λ z. isIn z c) (range 0 (places p)))
+            (mem-select (λ z. isIn z c) (range 0 (places p))
+            (mem-range 0 (places p) (omega arith) (omega (arith, low y (in-mem y c h) .within)))
+            h))
             (λ h.
-                select-mem (λ z. isIn z c) (range 0 (places p))
-                (in-mem y (select (λ z. isIn z c) (range 0 (places p))) h)
-                .1)
+            select-mem (λ z. isIn z c) (range 0 (places p))
+            (in-mem y (select (λ z. isIn z c) (range 0 (places p))) h)
+            .1)
 
     length-tally : length c ≡ tally (λ y. isIn y c) (range 0 (places p))
     length-tally = ap length as-select ∙ length-select (λ y. isIn y c) (range 0 (places p))
@@ -77,7 +77,7 @@ module _ (p : Picture) (k : ℕ) where
     unfolding grows
     stop-closed e y z m a s =
         let same : tally (λ u. isIn u c) (range 0 (places p)) ≡ tally (grows c) (range 0 (places p)) =
-            sym length-tally ∙ (sym e ∙ grown-tally)
+        sym length-tally ∙ (sym e ∙ grown-tally)
         in
         in-mem z c
         (tally-equal (λ u. isIn u c) (grows c) (range 0 (places p)) stays same
@@ -95,10 +95,10 @@ module _ (p : Picture) (k : ℕ) where
         ⊎-elim
         (λ h. f y (in-mem y c h))
         (λ h.
-            let (z, mz, t) = any-mem (touch p y) c (and-right (inSection p k y) (touchesSome p y c) h) in
-            let b = range-mem 0 (places p) i in
-            step (f z mz) (adj-sym p y z t)
-            (section-at p k y (omega arith) (and-left (inSection p k y) (touchesSome p y c) h)))
+        let (z, mz, t) = any-mem (touch p y) c (and-right (inSection p k y) (touchesSome p y c) h) in
+        let b = range-mem 0 (places p) i in
+        step (f z mz) (adj-sym p y z t)
+        (section-at p k y (omega arith) (and-left (inSection p k y) (touchesSome p y c) h)))
         (or-cases (isIn y c) (inSection p k y && touchesSome p y c) g)
 
     spread-reached :
@@ -110,20 +110,20 @@ module _ (p : Picture) (k : ℕ) where
     spread-reached (suc l) c r f m h =
         on-elim (Reached p k x) (eqb (length (grown p k c)) (length c))
         (λ e.
-            record
-            { rising = r
-            ; sound = f
-            ; self = m
-            ; closed = stop-closed c r (λ y i. conn-target (f y i)) (eqb-true (length (grown p k c)) (length c) e)
-            })
+        record {
+          rising = r;
+          sound = f;
+          self = m;
+          closed = stop-closed c r (λ y i. conn-target (f y i)) (eqb-true (length (grown p k c)) (length c) e);
+        })
         (λ e.
-            let more = grown-more c r (λ y i. conn-target (f y i)) in
-            let other : ¬ (length (grown p k c) ≡ length c) = λ q. clash (eq-eqb (length (grown p k c)) (length c) q) e in
-            spread-reached l (grown p k c) (rising-select (grows c) 0 (places p)) (grown-sound c f)
-            (mem-select (grows c) (range 0 (places p))
-            (mem-range 0 (places p) (omega arith) (omega (arith, conn-source (f x m) .within)))
-            (stays c r (λ y i. conn-target (f y i)) x (mem-in x c m)))
-            (omega arith))
+        let more = grown-more c r (λ y i. conn-target (f y i)) in
+        let other : ¬ (length (grown p k c) ≡ length c) = λ q. clash (eq-eqb (length (grown p k c)) (length c) q) e in
+        spread-reached l (grown p k c) (rising-select (grows c) 0 (places p)) (grown-sound c f)
+        (mem-select (grows c) (range 0 (places p))
+        (mem-range 0 (places p) (omega arith) (omega (arith, conn-source (f x m) .within)))
+        (stays c r (λ y i. conn-target (f y i)) x (mem-in x c m)))
+        (omega arith))
 
 module _ (p : Picture) (k : ℕ) where
   -- the fuel of `spread` suffices
@@ -165,9 +165,9 @@ module _ (p : Picture) (k : ℕ) where
   component-same {x} {y} c =
       rising-equal (component-rising x (conn-source c)) (component-rising y (conn-target c))
       (λ z.
-          same-test (isIn z (componentAt p k x)) (isIn z (componentAt p k y))
-          (λ h. joined-in (conn-trans (joined-sym p k c) (in-joined x z (conn-source c) h)))
-          (λ h. joined-in (conn-trans c (in-joined y z (conn-target c) h))))
+      same-test (isIn z (componentAt p k x)) (isIn z (componentAt p k y))
+      (λ h. joined-in (conn-trans (joined-sym p k c) (in-joined x z (conn-source c) h)))
+      (λ h. joined-in (conn-trans c (in-joined y z (conn-target c) h))))
 
 -- the first place of the component of a place
 unfoldable pub firstAt : Picture → ℕ → ℕ → ℕ

@@ -66,15 +66,16 @@ rising-equal (more {x = x} {xs} g r) (more {x = y} {xs = ys} i s) h =
         on-test (eqb z x)
         (λ e. absent z r (eqb-true z x e) ∙ sym (absent z s (eqb-true z x e ∙ heads)))
         (λ e.
-            let n : eqb z y ≡ false = ap (eqb z) (sym heads) ∙ e in
-            sym (ap (λ (b : Bool). b || isIn z xs) e) ∙ (h z ∙ ap (λ (b : Bool). b || isIn z ys) n))
+        let n : eqb z y ≡ false = ap (eqb z) (sym heads) ∙ e in
+        sym (ap (λ (b : Bool). b || isIn z xs) e) ∙ (h z ∙ ap (λ (b : Bool). b || isIn z ys) n))
 
 -- the first member of a rising list is a member and the least
 pub head-in : {a y : ℕ} {l : List ℕ} → Rising a l → List·Memᴰ y l → List·Memᴰ (headOf l) l × (headOf l ≤ y)
 head-in none m = absurd (List·Memᴰ·not-nil m)
-head-in (more {x = x} {xs} g r) m =
-    ( List·Memᴰ·head refl
-    , ⊎-elim (λ e. omega arith) (λ n. let f = rising-from r n in omega arith) (List·Memᴰ·cases-cons m) )
+head-in (more {x = x} {xs} g r) m = (
+  List·Memᴰ·head refl,
+  ⊎-elim (λ e. omega arith) (λ n. let f = rising-from r n in omega arith) (List·Memᴰ·cases-cons m),
+)
 
 -- exactly one of the l numbers from x on passes the test
 pub record One (x l : ℕ) (t : ℕ → Bool) : Type 0 where
@@ -89,58 +90,58 @@ one-tally x zero t o = absurd (let p = o .from in let q = o .to in omega arith)
 one-tally x (suc l) t o =
     on-test (eqb x (o .at))
     (λ e.
-        let q = eqb-true x (o .at) e in
-        tally-in t x (range (suc x) l) (subst (λ (z : ℕ). t z ≡ true) (sym q) (o .passes)) ∙
-        ap suc
-        (tally-none t (range (suc x) l)
-        (λ y m.
-            let b = range-mem (suc x) l m in
-            test-false (t y) (λ p. let f = o .only y (omega arith) (omega arith) p in omega arith))))
+    let q = eqb-true x (o .at) e in
+    tally-in t x (range (suc x) l) (subst (λ (z : ℕ). t z ≡ true) (sym q) (o .passes)) ∙
+    ap suc
+    (tally-none t (range (suc x) l)
+    (λ y m.
+    let b = range-mem (suc x) l m in
+    test-false (t y) (λ p. let f = o .only y (omega arith) (omega arith) p in omega arith))))
     (λ e.
-        let d : ¬ (x ≡ o .at) = λ q. clash (eq-eqb x (o .at) q) e in
-        let p = o .from in
-        let q = o .to in
-        tally-out t x (range (suc x) l) (test-false (t x) (λ p. d (o .only x (omega arith) (omega arith) p))) ∙
-        one-tally (suc x) l t
-        (record
-        { at = o .at
-        ; from = omega arith
-        ; to = omega arith
-        ; passes = o .passes
-        ; only = λ y a b c. o .only y (omega arith) (omega arith) c
-        }))
+    let d : ¬ (x ≡ o .at) = λ q. clash (eq-eqb x (o .at) q) e in
+    let p = o .from in
+    let q = o .to in
+    tally-out t x (range (suc x) l) (test-false (t x) (λ p. d (o .only x (omega arith) (omega arith) p))) ∙
+    one-tally (suc x) l t
+    (record {
+      at = o .at;
+      from = omega arith;
+      to = omega arith;
+      passes = o .passes;
+      only = λ y a b c. o .only y (omega arith) (omega arith) c;
+    }))
 
 pub tally-one : (x l : ℕ) (t : ℕ → Bool) → tally t (range x l) ≡ 1 → One x l t
 tally-one x zero t h = absurd (omega arith)
 tally-one x (suc l) t h =
     on-test (t x)
     (λ e.
-        let z : tally t (range (suc x) l) ≡ 0 = let q = tally-in t x (range (suc x) l) e in omega arith in
-        record
-        { at = x
-        ; from = omega arith
-        ; to = omega arith
-        ; passes = e
-        ; only =
-            λ y a b p.
-            on-test (eqb y x)
-            (λ f. eqb-true y x f)
-            (λ f.
-                let d : ¬ (y ≡ x) = λ q. clash (eq-eqb y x q) f in
-                absurd (none-tally t (range (suc x) l) z (mem-range (suc x) l (omega arith) (omega arith)) p))
-        })
+    let z : tally t (range (suc x) l) ≡ 0 = let q = tally-in t x (range (suc x) l) e in omega arith in
+    record {
+      at = x;
+      from = omega arith;
+      to = omega arith;
+      passes = e;
+      only =
+          λ y a b p.
+          on-test (eqb y x)
+          (λ f. eqb-true y x f)
+          (λ f.
+          let d : ¬ (y ≡ x) = λ q. clash (eq-eqb y x q) f in
+          absurd (none-tally t (range (suc x) l) z (mem-range (suc x) l (omega arith) (omega arith)) p));
+    })
     (λ e.
-        let o = tally-one (suc x) l t (sym (tally-out t x (range (suc x) l) e) ∙ h) in
-        let p = o .from in
-        let q = o .to in
-        record
-        { at = o .at
-        ; from = omega arith
-        ; to = omega arith
-        ; passes = o .passes
-        ; only =
-            λ y a b p.
-            on-test (eqb y x)
-            (λ f. absurd (clash (subst (λ (z : ℕ). t z ≡ true) (eqb-true y x f) p) e))
-            (λ f. let d : ¬ (y ≡ x) = λ q. clash (eq-eqb y x q) f in o .only y (omega arith) (omega arith) p)
-        })
+    let o = tally-one (suc x) l t (sym (tally-out t x (range (suc x) l) e) ∙ h) in
+    let p = o .from in
+    let q = o .to in
+    record {
+      at = o .at;
+      from = omega arith;
+      to = omega arith;
+      passes = o .passes;
+      only =
+          λ y a b p.
+          on-test (eqb y x)
+          (λ f. absurd (clash (subst (λ (z : ℕ). t z ≡ true) (eqb-true y x f) p) e))
+          (λ f. let d : ¬ (y ≡ x) = λ q. clash (eq-eqb y x q) f in o .only y (omega arith) (omega arith) p);
+    })

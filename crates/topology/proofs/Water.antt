@@ -42,47 +42,47 @@ module _ (p : Picture) where
   best-step x b (nobody f) =
       on-pick (Best p (suc x)) (lowerable p x && (eqb 0 0 || ltb (valueAt p x) (valueAt p (0 - 1))))
       (λ e.
-          leader x (omega arith) (and-left (lowerable p x) _ e)
-          (below-suc x (λ z. lowerable p z ≡ true → Leads p x z)
-          (λ z h g. absurd (f z h g))
-          (λ g. ties refl (omega arith))))
+      leader x (omega arith) (and-left (lowerable p x) _ e)
+      (below-suc x (λ z. lowerable p z ≡ true → Leads p x z)
+      (λ z h g. absurd (f z h g))
+      (λ g. ties refl (omega arith))))
       (λ e.
-          nobody
-          (below-suc x (λ z. lowerable p z ≡ true → ⊥) f
-          (λ g. clash (and-both (lowerable p x) (eqb 0 0 || ltb (valueAt p x) (valueAt p (0 - 1))) g refl) e)))
+      nobody
+      (below-suc x (λ z. lowerable p z ≡ true → ⊥) f
+      (λ g. clash (and-both (lowerable p x) (eqb 0 0 || ltb (valueAt p x) (valueAt p (0 - 1))) g refl) e)))
   best-step x b (leader y h l f) =
       let back : suc y - 1 ≡ y = omega arith in
       on-pick (Best p (suc x)) (lowerable p x && (eqb (suc y) 0 || ltb (valueAt p x) (valueAt p (suc y - 1))))
       (λ e.
-          let t = and-right (lowerable p x) (eqb (suc y) 0 || ltb (valueAt p x) (valueAt p (suc y - 1))) e in
-          let q : valueAt p x < valueAt p y =
-              ⊎-elim
-              (λ g. absurd (let i = eqb-true (suc y) 0 g in omega arith))
-              (λ g. subst (λ (m : ℕ). valueAt p x < valueAt p m) back (ltb-true (valueAt p x) (valueAt p (suc y - 1)) g))
-              (or-cases (eqb (suc y) 0) (ltb (valueAt p x) (valueAt p (suc y - 1))) t)
-          in
-          leader x (omega arith) (and-left (lowerable p x) _ e)
-          (below-suc x (λ z. lowerable p z ≡ true → Leads p x z)
-          (λ z b g. leads-trans x y z q (f z b g))
-          (λ g. ties refl (omega arith))))
+      let t = and-right (lowerable p x) (eqb (suc y) 0 || ltb (valueAt p x) (valueAt p (suc y - 1))) e in
+      let q : valueAt p x < valueAt p y =
+      ⊎-elim
+      (λ g. absurd (let i = eqb-true (suc y) 0 g in omega arith))
+      (λ g. subst (λ (m : ℕ). valueAt p x < valueAt p m) back (ltb-true (valueAt p x) (valueAt p (suc y - 1)) g))
+      (or-cases (eqb (suc y) 0) (ltb (valueAt p x) (valueAt p (suc y - 1))) t)
+      in
+      leader x (omega arith) (and-left (lowerable p x) _ e)
+      (below-suc x (λ z. lowerable p z ≡ true → Leads p x z)
+      (λ z b g. leads-trans x y z q (f z b g))
+      (λ g. ties refl (omega arith))))
       (λ e.
-          leader y (omega arith) l
-          (below-suc x (λ z. lowerable p z ≡ true → Leads p y z) f
-          (λ g.
-              on-test (ltb (valueAt p x) (valueAt p (suc y - 1)))
-              (λ i.
-                  absurd
-                  (clash
-                  (and-both (lowerable p x) (eqb (suc y) 0 || ltb (valueAt p x) (valueAt p (suc y - 1))) g
-                  (or-right (eqb (suc y) 0) (ltb (valueAt p x) (valueAt p (suc y - 1))) i))
-                  e))
-              (λ i.
-                  let q : valueAt p y ≤ valueAt p x =
-                      subst (λ (m : ℕ). valueAt p m ≤ valueAt p x) back (ltb-false (valueAt p x) (valueAt p (suc y - 1)) i)
-                  in
-                  by-cases (ℕ-discrete (valueAt p y) (valueAt p x))
-                  (λ j. ties j (omega arith))
-                  (λ j. less (omega arith))))))
+      leader y (omega arith) l
+      (below-suc x (λ z. lowerable p z ≡ true → Leads p y z) f
+      (λ g.
+      on-test (ltb (valueAt p x) (valueAt p (suc y - 1)))
+      (λ i.
+      absurd
+      (clash
+      (and-both (lowerable p x) (eqb (suc y) 0 || ltb (valueAt p x) (valueAt p (suc y - 1))) g
+      (or-right (eqb (suc y) 0) (ltb (valueAt p x) (valueAt p (suc y - 1))) i))
+      e))
+      (λ i.
+      let q : valueAt p y ≤ valueAt p x =
+      subst (λ (m : ℕ). valueAt p m ≤ valueAt p x) back (ltb-false (valueAt p x) (valueAt p (suc y - 1)) i)
+      in
+      by-cases (ℕ-discrete (valueAt p y) (valueAt p x))
+      (λ j. ties j (omega arith))
+      (λ j. less (omega arith))))))
 
   best-from : (l x b : ℕ) → Best p x b → Best p (x + l) (bestFrom p b (range x l))
   best-from zero x b h = subst (λ (m : ℕ). Best p m b) (omega arith) h
@@ -151,25 +151,27 @@ module _ (f : Picture) where
       next :
           (b : ℕ) → best (withPixels f xs) ≡ b → Best (withPixels f xs) (places f) b →
           ((ys : List ℕ) → length ys ≡ places f → total ys < l → Outcome l ys) → Outcome (suc l) xs
-      next b g (nobody n) r =
-          ( xs
-          , water-stop l (withPixels f xs) g
-          , record { size = refl; under = λ y. omega arith; keeps = λ k. keeps-refl (places f) (Adj f); stuck = n } )
+      next b g (nobody n) r = (
+        xs,
+        water-stop l (withPixels f xs) g,
+        record { size = refl; under = λ y. omega arith; keeps = λ k. keeps-refl (places f) (Adj f); stuck = n },
+      )
       next b g (leader x c m t) r =
           let (k, v) = lowerable-above (withPixels f xs) x c m in
           let w : getD xs x 0 - 1 ≡ k = omega arith in
           let c′ : x < length xs = omega arith in
           let s = total-set xs x k c′ v in
           let (ys, i, d) = r (set xs x k) (length-set xs x k ∙ e) (omega arith) in
-          let lo = lowerable-lowers (withPixels f xs) x c k v m in
-          ( ys
-          , water-step l (withPixels f xs) x g ∙ (ap (λ (z : ℕ). waterFrom l (withPixels f (set xs x z))) w ∙ i)
-          , record
-            { size = d .size ∙ length-set xs x k
-            ; under = λ y. let a = d .under y in let q = lower-under xs x k c′ v y in omega arith
-            ; keeps = λ j. keeps-compose (places f) (Adj f) (lower-keeps xs x k c′ lo j) (d .keeps j)
-            ; stuck = d .stuck
-            } )
+          let lo = lowerable-lowers (withPixels f xs) x c k v m in (
+            ys,
+            water-step l (withPixels f xs) x g ∙ (ap (λ (z : ℕ). waterFrom l (withPixels f (set xs x z))) w ∙ i),
+            record {
+              size = d .size ∙ length-set xs x k;
+              under = λ y. let a = d .under y in let q = lower-under xs x k c′ v y in omega arith;
+              keeps = λ j. keeps-compose (places f) (Adj f) (lower-keeps xs x k c′ lo j) (d .keeps j);
+              stuck = d .stuck;
+            },
+          )
 
   module _ (e : length (f .pixels) ≡ places f) where
     made : Outcome (suc (total (f .pixels))) (f .pixels)

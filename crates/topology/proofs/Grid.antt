@@ -1,0 +1,143 @@
+-- The whole grid is one component, so a pass is a height that a picture can have.
+use mathlib.Core.Path.{_≡_, refl, sym, ap, ap₂, subst, _∙_}
+use mathlib.Core.Bool.{Bool, true, false, _&&_}
+use mathlib.Core.Logic.{by-cases}
+use Prim.Native.Nat.{ℕ, zero, suc, _+_, _-_, _*_, _/_, _%_, _≤_, _<_}
+use native.Mathlib.Nat.{div-add-mod', mod-lt}
+use native.Mathlib.Decide.{ℕ-discrete}
+use native.Mathlib.Omega.{arith}
+use lib.Arith.{digits-div, digits-mod}
+use lib.Dec.{eqb, leb}
+use borrow.Author.Tests.{eq-eqb, le-leb, leb-true, leb-false}
+use Rattle.picture.specs.Lists.{pick, isIn}
+use Rattle.picture.specs.Pictures.{Picture, places, valueAt, distance, adjacent, touch}
+use Rattle.picture.specs.Components.{inSection, componentAt, passFrom, pass}
+use Rattle.topology.proofs.Tests.{and-left, and-right, and-both, on-pick, on-elim, on-test, clash}
+use Rattle.topology.proofs.Connected.{start, step, conn-trans, conn-source}
+use Rattle.topology.proofs.Adjacency.{Adj, At, Joined, adj-sym, joined-sym, section-at, at-section}
+use Rattle.topology.proofs.Reached.{in-joined, joined-in}
+use Rattle.topology.proofs.Accepted.{Accepted, byte-at}
+
+distance-same : (a : ℕ) → distance a a ≡ 0
+distance-same a = on-pick (λ (d : ℕ). d ≡ 0) (leb a a) (λ e. omega arith) (λ e. omega arith)
+
+distance-next : (a b : ℕ) → a ≡ suc b → distance a b ≡ 1
+distance-next a b h =
+    on-pick (λ (d : ℕ). d ≡ 1) (leb a b) (λ e. absurd (let q = leb-true a b e in omega arith)) (λ e. omega arith)
+
+-- places that differ by one in column or row alone are neighbours under either adjacency
+step-adjacent : (a w x y : ℕ) → distance (x % w) (y % w) + distance (x / w) (y / w) ≡ 1 → adjacent a w x y ≡ true
+unfolding adjacent
+step-adjacent a w x y h =
+    let c = distance (x % w) (y % w) in
+    let r = distance (x / w) (y / w) in
+    on-pick (λ (t : Bool). t ≡ true) (eqb a 4)
+    (λ e. eq-eqb (c + r) 1 h)
+    (λ e.
+    and-both (leb c 1) (leb r 1 && leb 1 (c + r)) (le-leb c 1 (omega arith))
+    (and-both (leb r 1) (leb 1 (c + r)) (le-leb r 1 (omega arith)) (le-leb 1 (c + r) (omega arith))))
+
+module _ (p : Picture) (wide : 1 ≤ p .width) where
+  -- the place with column c and row r
+  at-left : (r c : ℕ) → suc c < p .width → Adj p (r * p .width + suc c) (r * p .width + c)
+  at-left r c b =
+      let w = p .width in
+      let e : distance ((r * w + suc c) % w) ((r * w + c) % w) ≡ 1 =
+      distance-next ((r * w + suc c) % w) ((r * w + c) % w)
+      (digits-mod r b ∙ ap suc (sym (digits-mod r (omega arith))))
+      in
+      let g : distance ((r * w + suc c) / w) ((r * w + c) / w) ≡ 0 =
+      ap (λ (q : ℕ). distance q ((r * w + c) / w)) (digits-div r b ∙ sym (digits-div r (omega arith))) ∙
+      distance-same ((r * w + c) / w)
+      in
+      step-adjacent (p .adjacency) w (r * w + suc c) (r * w + c) (omega arith)
+
+  at-above : (r c : ℕ) → c < p .width → Adj p (suc r * p .width + c) (r * p .width + c)
+  at-above r c b =
+      let w = p .width in
+      let e : distance ((suc r * w + c) % w) ((r * w + c) % w) ≡ 0 =
+      ap (λ (q : ℕ). distance q ((r * w + c) % w)) (digits-mod (suc r) b ∙ sym (digits-mod r b)) ∙
+      distance-same ((r * w + c) % w)
+      in
+      let g : distance ((suc r * w + c) / w) ((r * w + c) / w) ≡ 1 =
+      distance-next ((suc r * w + c) / w) ((r * w + c) / w)
+      (digits-div (suc r) b ∙ ap suc (sym (digits-div r b)))
+      in
+      step-adjacent (p .adjacency) w (suc r * w + c) (r * w + c) (omega arith)
+
+  module _ (k : ℕ) (all-in : (x : ℕ) → x < places p → valueAt p x ≤ k) where
+    at-k : (x : ℕ) → x < places p → At p k x
+    at-k x b = record { within = b; low = all-in x b }
+
+    row-joined : (r c : ℕ) → c < p .width → r * p .width + c < places p → Joined p k 0 (r * p .width) → Joined p k 0 (r * p .width + c)
+    row-joined r zero b h s = subst (λ (x : ℕ). Joined p k 0 x) (omega arith) s
+    row-joined r (suc c) b h s =
+        step (row-joined r c (omega arith) (omega arith) s)
+        (adj-sym p (r * p .width + suc c) (r * p .width + c) (at-left r c b))
+        (at-k (r * p .width + suc c) h)
+
+    rows-joined : (r : ℕ) → r * p .width < places p → Joined p k 0 (r * p .width)
+    rows-joined zero h = subst (λ (x : ℕ). Joined p k 0 x) (omega arith) (start (at-k 0 (omega arith)))
+    rows-joined (suc r) h =
+        let up : suc r * p .width ≡ p .width + r * p .width = omega arith in
+        subst (λ (x : ℕ). Joined p k 0 x) (omega arith)
+        (step
+        (subst (λ (x : ℕ). Joined p k 0 x) (omega arith) (rows-joined r (omega arith)))
+        (adj-sym p (suc r * p .width + 0) (r * p .width + 0) (at-above r 0 (omega arith)))
+        (at-k (suc r * p .width + 0) (omega arith)))
+
+    pub grid-joined : (x : ℕ) → x < places p → Joined p k 0 x
+    grid-joined x h =
+        let w = p .width in
+        let e = div-add-mod' x w in
+        let b : x % w < w = mod-lt x (omega arith) in
+        subst (λ (y : ℕ). Joined p k 0 y) e
+        (row-joined (x / w) (x % w) b (omega arith) (rows-joined (x / w) (omega arith)))
+
+-- the pass is at most a height at which both places are joined
+pass-below : (p : Picture) (x y h l k : ℕ) → (inSection p h x && isIn y (componentAt p h x)) ≡ true → k ≤ h → h < k + l → passFrom l k p x y ≤ h
+pass-below p x y h zero k t a b = absurd (omega arith)
+pass-below p x y h (suc l) k t a b =
+    on-elim (λ (m : ℕ). m ≤ h) (inSection p k x && isIn y (componentAt p k x))
+    (λ e. a)
+    (λ e.
+    pass-below p x y h l (suc k) t
+    (by-cases (ℕ-discrete k h)
+    (λ q. absurd (clash (subst (λ (m : ℕ). (inSection p m x && isIn y (componentAt p m x)) ≡ true) (sym q) t) e))
+    (λ d. omega arith))
+    (omega arith))
+
+pub pass-most : (p : Picture) (x y h : ℕ) → h ≤ 255 → Joined p h x y → pass p x y ≤ h
+unfolding pass
+pass-most p x y h b c =
+    pass-below p x y h 256 0
+    (and-both (inSection p h x) (isIn y (componentAt p h x)) (at-section p h x (conn-source c)) (joined-in p h c))
+    (omega arith)
+    (omega arith)
+
+-- the pass between two places of a picture is at most 255
+pub pass-byte : (p : Picture) → Accepted p → (x y : ℕ) → x < places p → y < places p → pass p x y ≤ 255
+pass-byte p a x y bx by =
+    let all-in : (z : ℕ) → z < places p → valueAt p z ≤ 255 = λ z b. byte-at (p .pixels) (a .bytes) z in
+    pass-most p x y 255 (omega arith)
+    (conn-trans
+    (joined-sym p 255 (grid-joined p (a .wide) 255 all-in x bx))
+    (grid-joined p (a .wide) 255 all-in y by))
+
+-- at the pass both places are joined
+pass-from-joined : (p : Picture) (x y : ℕ) → x < places p → (l k : ℕ) → passFrom l k p x y < k + l → Joined p (passFrom l k p x y) x y
+pass-from-joined p x y b zero k h = absurd (omega arith)
+pass-from-joined p x y b (suc l) k h =
+    on-elim (λ (m : ℕ). m < k + suc l → Joined p m x y) (inSection p k x && isIn y (componentAt p k x))
+    (λ e g.
+    in-joined p k x y
+    (section-at p k x b (and-left (inSection p k x) (isIn y (componentAt p k x)) e))
+    (and-right (inSection p k x) (isIn y (componentAt p k x)) e))
+    (λ e g. pass-from-joined p x y b l (suc k) (omega arith))
+    h
+
+pub pass-joined : (p : Picture) → Accepted p → (x y : ℕ) → x < places p → y < places p → Joined p (pass p x y) x y
+unfolding pass
+pass-joined p a x y bx by =
+    let b = pass-byte p a x y bx by in
+    pass-from-joined p x y bx 256 0 (omega arith)
