@@ -16,6 +16,8 @@ pub mod Numbers
 pub mod Nodes
 pub mod Fathers
 pub mod Minima
+pub mod Descent
 pub mod Grid
+pub mod Climb
 pub mod Partners
 pub mod Demand

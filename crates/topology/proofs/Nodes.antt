@@ -152,6 +152,14 @@ sorted-later {k} {y} (next {n = n} {ns} g s) (suc i) h =
     ⊎-elim (λ b. inl (omega arith)) (λ b. let c = b .0 in let d = b .1 in inr (omega arith, omega arith)) g)
     (sorted-later s i (omega arith))
 
+sorted-heights : {k y : ℕ} {ns : List Node} → Sorted k y ns → (i j : ℕ) → i ≤ j → j < length ns → getD ns i (node 0 0) .height ≤ getD ns j (node 0 0) .height
+sorted-heights end i j a b = absurd (omega arith)
+sorted-heights (next g s) zero zero a b = omega arith
+sorted-heights (next g s) zero (suc j) a b =
+    ⊎-elim (λ c. omega arith) (λ c. let d = c .0 in omega arith) (sorted-later s j (omega arith))
+sorted-heights (next g s) (suc i) zero a b = absurd (omega arith)
+sorted-heights (next g s) (suc i) (suc j) a b = sorted-heights s i j (omega arith) (omega arith)
+
 -- the number of a node is its index
 number-index : {k y : ℕ} {ns : List Node} → Sorted k y ns → (b i : ℕ) → i < length ns → numberFrom b (getD ns i (node 0 0) .height) (getD ns i (node 0 0) .first) ns ≡ b + i
 number-index end b i h = absurd (omega arith)
@@ -175,6 +183,11 @@ module _ (p : Picture) where
   pub number-at : (i : ℕ) → i < length (nodes p) → numberFrom 0 (nodeAt p i .height) (nodeAt p i .first) (nodes p) ≡ i
   unfolding nodes
   number-at i h = number-index (sorted-from p 256 0) 0 i h ∙ omega arith
+
+  -- heights rise with the numbers
+  pub heights-rise : (i j : ℕ) → i ≤ j → j < length (nodes p) → nodeAt p i .height ≤ nodeAt p j .height
+  unfolding nodes
+  heights-rise i j a b = sorted-heights (sorted-from p 256 0) i j a b
 
   pub node-equal : (i j : ℕ) → i < length (nodes p) → j < length (nodes p) → nodeAt p i ≡ nodeAt p j → i ≡ j
   node-equal i j a b e =

@@ -1,0 +1,270 @@
+-- The climb from two nodes to their nearest common ancestor, whose height decides at which heights two places are joined.
+use mathlib.Core.Path.{_≡_, refl, sym, ap, subst, _∙_}
+use mathlib.Core.Bool.{Bool, true, false}
+use mathlib.Core.Logic.{_⊎_, inl, inr, ⊎-elim, by-cases, _↔_}
+use mathlib.Core.List.{List, [], _∷_}
+use Prim.Native.Nat.{ℕ, zero, suc, _+_, _-_, _≤_, _<_, max}
+use native.Mathlib.Decide.{decLe, decLt}
+use native.Mathlib.Omega.{arith}
+use lib.ListN.{length, getD}
+use Rattle.picture.specs.Pictures.{Picture, places, valueAt}
+use Rattle.picture.specs.Components.{componentAt, pass}
+use Rattle.picture.specs.Trees.{Node, isBranch, nodes, nodeAt, numberOf, fatherOf, mapOf}
+use Rattle.topology.proofs.Tests.{clash}
+use Rattle.topology.proofs.Connected.{start, conn-source, conn-target, conn-trans}
+use Rattle.topology.proofs.Keeping.{sec-mono}
+use Rattle.topology.proofs.Adjacency.{At, Joined, joined-sym}
+use Rattle.topology.proofs.Reached.{component-same}
+use Rattle.topology.proofs.Accepted.{Accepted, byte-at}
+use Rattle.topology.proofs.Branches.{joined-mono}
+use Rattle.topology.proofs.Nodes.{IsNode, node, node-is, node-equal, number-found, heights-rise}
+use Rattle.topology.proofs.Fathers.{Above, top, fork, father-is, father-found, number-small, map-found}
+use Rattle.topology.proofs.Descent.{under, map-under, under-same, under-fork, Under, under-is, under-joined, under-down, under-up}
+use Rattle.topology.proofs.Grid.{grid-joined, pass-most, pass-byte, pass-joined}
+
+-- c is a or an ancestor of a, by the fathers P of m nodes
+pub data Up (P : ℕ → ℕ) (m c : ℕ) : ℕ → Type 0 where
+  stay : Up P m c c
+  rise : {a : ℕ} → a < m → P a < m → Up P m c (P a) → Up P m c a
+
+-- the climb: the smaller of two numbers goes to its father until they meet
+pub data Meet (P : ℕ → ℕ) : ℕ → ℕ → ℕ → Type 0 where
+  same : {a : ℕ} → Meet P a a a
+  left : {a b r : ℕ} → a < b → Meet P (P a) b r → Meet P a b r
+  right : {a b r : ℕ} → b < a → Meet P a (P b) r → Meet P a b r
+
+-- the father's number
+abbrev pub father : Picture → ℕ → ℕ
+father p i = fatherOf p (nodeAt p i)
+
+module _ (p : Picture) where
+  -- a father's height and number are greater
+  pub father-higher : (i : ℕ) → i < length (nodes p) → father p i < 65535 → nodeAt p i .height < nodeAt p (father p i) .height
+  father-higher i b = higher (father-is p (nodeAt p i) (node-is p i b .low))
+    where
+      higher : {r : ℕ} → Above p (nodeAt p i .first) (suc (nodeAt p i .height)) r → r < 65535 → nodeAt p i .height < nodeAt p r .height
+      higher (top e f) h = absurd (omega arith)
+      higher (fork k u v e f q) h =
+          let s = sec-mono (let g : nodeAt p i .height ≤ k = omega arith in g) (nodeAt p i .first) (node-is p i b .place) in
+          let n = number-found p k (nodeAt p i .first) v s e .1 in
+          let w = ap (λ (j : ℕ). nodeAt p j .height) q ∙ ap (λ (n : Node). n .height) n in
+          omega arith
+
+module _ (p : Picture) (ok : Accepted p) where
+  small : (i : ℕ) → i < length (nodes p) → i < 65535
+  small i b = number-small p ok i b
+
+  pub father-greater : (i : ℕ) → i < length (nodes p) → father p i < length (nodes p) → i < father p i
+  father-greater i b c =
+      by-cases (decLt i (father p i))
+      (λ h. h)
+      (λ h.
+      absurd
+      (let u = father-higher p i b (small (father p i) c) in
+      let w = heights-rise p (father p i) i (omega arith) b in
+      omega arith))
+
+  -- the node of a number is what its own component goes down to
+  under-node : (i : ℕ) → i < length (nodes p) → under p (nodeAt p i .height) (nodeAt p i .first) ≡ i
+  under-node i b =
+      let n = node-is p i b in
+      let k = nodeAt p i .height in
+      let y = nodeAt p i .first in
+      let (h, e) = number-found p k y (n .low) (n .place) (n .fork) in
+      under-fork p k y (n .fork) ∙
+      node-equal p (numberOf p k (componentAt p k y)) i h b (e ∙ ap (node k) (n .first))
+
+  -- from a node whose father is missing nothing changes up to height 255
+  under-root : (i l k : ℕ) → l + k ≡ 255 → father p i ≡ 65535 → (x : ℕ) → At p k x → under p k x ≡ i → under p 255 x ≡ i
+  under-root i zero k e f x s h = ap (λ (j : ℕ). under p j x) (omega arith) ∙ h
+  under-root i (suc l) k e f x s h =
+      let s′ = sec-mono (let g : k ≤ suc k = omega arith in g) x s in
+      ⊎-elim
+      (λ q. under-root i l (suc k) (omega arith) f x s′ (q ∙ h))
+      (λ q.
+      absurd
+      (let u = small (under p (suc k) x) (under-is p (suc k) x (omega arith) s′ .number) in
+      let w : under p (suc k) x ≡ 65535 = sym q ∙ (ap (father p) h ∙ f) in
+      omega arith))
+      (under-up p k x (omega arith) s)
+
+  -- every node without a father is the node of the whole picture
+  pub root-is : (i : ℕ) → i < length (nodes p) → father p i ≡ 65535 → i ≡ under p 255 0
+  root-is i b e =
+      let n = node-is p i b in
+      let k = nodeAt p i .height in
+      let y = nodeAt p i .first in
+      let l = n .low in
+      let all-in : (z : ℕ) → z < places p → valueAt p z ≤ 255 = λ z c. byte-at (p .pixels) (ok .bytes) z in
+      sym
+      (under-same p (grid-joined p (ok .wide) 255 all-in y (n .place .within)) ∙
+      under-root i (255 - k) k (omega arith) e y (n .place) (under-node i b))
+
+  -- every node but the last has a father among the nodes, and the last is the one root
+  pub last-root : (i : ℕ) → suc i ≡ length (nodes p) → father p i ≡ 65535
+  last-root i e =
+      ⊎-elim
+      (λ h. absurd (let g = father-greater i (omega arith) h in omega arith))
+      (λ h. h .0)
+      (father-found p (nodeAt p i) (node-is p i (omega arith)))
+
+  pub father-of : (i : ℕ) → suc i < length (nodes p) → father p i < length (nodes p)
+  father-of i b =
+      ⊎-elim
+      (λ h. h)
+      (λ h.
+      absurd
+      (let l : ℕ = length (nodes p) - 1 in
+      let a = root-is i (omega arith) (h .0) in
+      let c = root-is l (omega arith) (last-root l (omega arith)) in
+      omega arith))
+      (father-found p (nodeAt p i) (node-is p i (omega arith)))
+
+  -- as the height rises the node of a place climbs
+  pub under-climbs :
+      (l k x : ℕ) → l + k ≤ 255 → At p k x → Up (father p) (length (nodes p)) (under p (l + k) x) (under p k x)
+  under-climbs zero k x b s =
+      subst (λ (j : ℕ). Up (father p) (length (nodes p)) (under p j x) (under p k x)) (omega arith) stay
+  under-climbs (suc l) k x b s =
+      let s′ = sec-mono (let g : k ≤ suc k = omega arith in g) x s in
+      let up : l + suc k ≡ suc l + k = omega arith in
+      let r =
+      subst (λ (j : ℕ). Up (father p) (length (nodes p)) (under p j x) (under p (suc k) x)) up
+      (under-climbs l (suc k) x (omega arith) s′)
+      in
+      ⊎-elim
+      (λ q. subst (Up (father p) (length (nodes p)) (under p (suc l + k) x)) q r)
+      (λ q.
+      rise
+      (under-is p k x (omega arith) s .number)
+      (subst (λ (j : ℕ). j < length (nodes p)) (sym q) (under-is p (suc k) x (omega arith) s′ .number))
+      (subst (Up (father p) (length (nodes p)) (under p (suc l + k) x)) (sym q) r))
+      (under-up p k x (omega arith) s)
+
+  -- an ancestor of a place's node is its node at some height
+  record Reach (x r : ℕ) : Type 0 where
+    height : ℕ
+    low : height ≤ 255
+    place : At p height x
+    is : under p height x ≡ r
+
+  -- one step up
+  reach-father : (x a : ℕ) → Reach x a → father p a < length (nodes p) → Reach x (father p a)
+  reach-father x a r b = climb (father-is p (nodeAt p a) (node-is p a (u .number) .low)) b
+    where
+      u : Under p (r .height) x a
+      u = subst (Under p (r .height) x) (r .is) (under-is p (r .height) x (r .low) (r .place))
+
+      climb : {q : ℕ} → Above p (nodeAt p a .first) (suc (nodeAt p a .height)) q → q < length (nodes p) → Reach x q
+      climb {q} (top e f) c = absurd (let g = small q c in omega arith)
+      climb {q} (fork h c d e f g) l =
+          by-cases (decLe h (r .height))
+          (λ w. absurd (clash (u .between h c w) e))
+          (λ w.
+          let above : r .height ≤ h = omega arith in
+          let j = joined-mono p above (u .joined) in
+          let same = component-same p h j in
+          record {
+            height = h;
+            low = d;
+            place = conn-source j;
+            is = under-fork p h x (ap (isBranch p h) same ∙ e) ∙ (ap (numberOf p h) same ∙ sym g);
+          })
+
+  up-reach : (x : ℕ) {r a : ℕ} → Reach x a → Up (father p) (length (nodes p)) r a → Reach x r
+  up-reach x h stay = h
+  up-reach x h (rise {a} b c u) = up-reach x (reach-father x a h c) u
+
+  -- what two places have in common
+  module _ (x y : ℕ) (bx : x < places p) (by : y < places p) where
+    own : (z : ℕ) → z < places p → Reach z (mapOf p z)
+    own z b =
+        record {
+          height = valueAt p z;
+          low = byte-at (p .pixels) (ok .bytes) z;
+          place = record { within = b; low = omega arith };
+          is = sym (map-under p z);
+        }
+
+    -- the node where the climbs meet is an ancestor of both
+    meet-up : {a b r : ℕ} → a < length (nodes p) → b < length (nodes p) → Meet (father p) a b r → Up (father p) (length (nodes p)) r a × Up (father p) (length (nodes p)) r b
+    meet-up h g same = (stay, stay)
+    meet-up {a} {b} h g (left l n) =
+        let f = father-of a (omega arith) in let u = meet-up f g n in (rise h f (u .0), u .1)
+    meet-up {a} {b} h g (right l n) =
+        let f = father-of b (omega arith) in let u = meet-up h f n in (u .0, rise g f (u .1))
+
+    -- numbers rise on the way up
+    up-rises : {c a : ℕ} → Up (father p) (length (nodes p)) c a → a ≤ c
+    up-rises stay = omega arith
+    up-rises (rise {a} h f u) = let g = father-greater a h f in let w = up-rises u in omega arith
+
+    -- every common ancestor is one of the node where the climbs meet
+    meet-least : {a b r c : ℕ} → Meet (father p) a b r → Up (father p) (length (nodes p)) c a → Up (father p) (length (nodes p)) c b → r ≤ c
+    meet-least same u v = up-rises u
+    meet-least (left l n) stay v = absurd (let w = up-rises v in omega arith)
+    meet-least (left l n) (rise h f u) v = meet-least n u v
+    meet-least (right l n) u stay = absurd (let w = up-rises u in omega arith)
+    meet-least (right l n) u (rise h f v) = meet-least n u v
+
+    -- a place is joined to an ancestor of its node from the ancestor's height on
+    reach-joined : (z r : ℕ) → Reach z r → (k : ℕ) → k ≤ 255 → nodeAt p r .height ≤ k → At p k z → Joined p k z (nodeAt p r .first)
+    reach-joined z r h k b l s =
+        by-cases (decLe (h .height) k)
+        (λ w. joined-mono p w (subst (λ (i : ℕ). Joined p (h .height) z (nodeAt p i .first)) (h .is) (under-is p (h .height) z (h .low) (h .place) .joined)))
+        (λ w.
+        let q =
+        under-down p (h .height) k z (h .low) (h .place)
+        (subst (λ (i : ℕ). nodeAt p i .height ≤ k) (sym (h .is)) l)
+        (omega arith)
+        s
+        in
+        subst (λ (i : ℕ). Joined p k z (nodeAt p i .first)) (q ∙ h .is) (under-is p k z b s .joined))
+
+    -- two places are joined at a height exactly if their nodes' nearest common ancestor is no higher
+    pub meet-joined : {r : ℕ} → Meet (father p) (mapOf p x) (mapOf p y) r → (k : ℕ) → k ≤ 255 → At p k x → At p k y → Joined p k x y ↔ (nodeAt p r .height ≤ k)
+    meet-joined {r} n k b s t = (forward, backward)
+      where
+        climbs : (z : ℕ) → At p k z → Up (father p) (length (nodes p)) (under p k z) (mapOf p z)
+        climbs z w =
+            let l = w .low in
+            let up : (k - valueAt p z) + valueAt p z ≡ k = omega arith in
+            subst (λ (j : ℕ). Up (father p) (length (nodes p)) (under p j z) (mapOf p z)) up
+            (subst (Up (father p) (length (nodes p)) (under p ((k - valueAt p z) + valueAt p z) z)) (sym (map-under p z))
+            (under-climbs (k - valueAt p z) (valueAt p z) z (omega arith) (record { within = w .within; low = omega arith })))
+
+        forward : Joined p k x y → nodeAt p r .height ≤ k
+        forward c =
+            let e = under-same p c in
+            let u = under-is p k x b s in
+            let l =
+            meet-least n (climbs x s) (subst (λ (i : ℕ). Up (father p) (length (nodes p)) i (mapOf p y)) (sym e) (climbs y t))
+            in
+            let h = heights-rise p r (under p k x) l (u .number) in
+            let w = u .low in
+            omega arith
+
+        backward : nodeAt p r .height ≤ k → Joined p k x y
+        backward l =
+            let (u, v) = meet-up (map-found p ok x bx) (map-found p ok y by) n in
+            conn-trans
+            (reach-joined x r (up-reach x (own x bx) u) k b l s)
+            (joined-sym p k (reach-joined y r (up-reach y (own y by) v) k b l t))
+
+    -- the pass is the largest of both values and the height of the nearest common ancestor
+    pub pass-meet : {r : ℕ} → Meet (father p) (mapOf p x) (mapOf p y) r → pass p x y ≡ max (max (valueAt p x) (valueAt p y)) (nodeAt p r .height)
+    pass-meet {r} n =
+        let c = pass-joined p ok x y bx by in
+        let a = conn-source c in
+        let b = conn-target c in
+        let la = a .low in
+        let lb = b .low in
+        let pb = pass-byte p ok x y bx by in
+        let up = meet-joined n (pass p x y) pb a b .0 c in
+        let h : ℕ = max (max (valueAt p x) (valueAt p y)) (nodeAt p r .height) in
+        let hb : h ≤ 255 = omega arith in
+        let d =
+        meet-joined n h hb (record { within = bx; low = omega arith }) (record { within = by; low = omega arith }) .1 (omega arith)
+        in
+        let low = pass-most p x y h hb d in
+        omega arith
