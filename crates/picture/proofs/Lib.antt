@@ -1,1 +1,5 @@
+pub mod Accepted
+pub mod Lists
+pub mod Sides
+pub mod Units
 pub mod Worked
