@@ -1,4 +1,5 @@
 // The fault of a picture's arguments.
+use crate::geometry::inside;
 ghost use mathlib.Core.Path.{_≡_};
 ghost use mathlib.Core.Bool.{_&&_, _||_};
 ghost use lib.Dec.{eqb};
@@ -15,22 +16,12 @@ fn adjacency_fits(a: u32) -> bool
     a == 8
 }
 
-// A side is 1 to 40.
-fn side_fits(side: u32) -> bool
-    ensures { λ r. ⌜ r ≡ sideFits side ⌝ }
-{
-    if side < 1 {
-        return false;
-    }
-    side <= 40
-}
-
 // Both sides are 1 to 40.
 fn sides_fit(w: u32, h: u32) -> bool
     ensures { λ r. ⌜ r ≡ (sideFits w && sideFits h) ⌝ }
 {
-    if side_fits(w) {
-        return side_fits(h);
+    if inside(w as usize, 40) {
+        return inside(h as usize, 40);
     }
     false
 }

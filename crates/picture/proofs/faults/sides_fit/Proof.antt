@@ -5,23 +5,23 @@ use Rattle.picture.proofs.faults.sides_fit.Statement.{statement}
 use Rattle.picture.proofs.faults.sides_fit.Tie as tie
 use Rattle.picture.proofs.faults.sides_fit.Reads as reads
 use Rattle.picture.proofs.faults.sides_fit.Lts as lts
-use Rattle.picture.proofs.faults.side_fits.Reads as side-fits-reads
+use Rattle.picture.proofs.geometry.inside.Reads as inside-reads
 
-side-fits-requires : tie.Need-side-fits-requires
-side-fits-requires c κs = search needs
+inside-requires : tie.Need-inside-requires
+inside-requires c κs = search needs
 
-side-fits-requires-2 : tie.Need-side-fits-requires-2
-side-fits-requires-2 c κs = search needs
+inside-requires-2 : tie.Need-inside-requires-2
+inside-requires-2 c κs = search needs
 
 returns : tie.Need-returns
 returns c =
-    let e = sym (c .before .before .side-fits .ensures) ∙ c .before .if1 .taken in
-    rw e (c .side-fits2 .ensures)
+    let e = sym (c .before .before .inside .ensures) ∙ c .before .if1 .taken in
+    rw e (c .inside2 .ensures)
 
 returns-2 : tie.Need-returns-2
 returns-2 c =
-    let e = sym (c .before .side-fits .ensures) ∙ c .if1 .left in
+    let e = sym (c .before .inside .ensures) ∙ c .if1 .left in
     rw e
 
 pub sides-fit-spec : {M : Type 1} → statement M
-sides-fit-spec = tie.close (tie.spec side-fits-requires side-fits-requires-2 returns returns-2)
+sides-fit-spec = tie.close (tie.spec inside-requires inside-requires-2 returns returns-2)

@@ -6,8 +6,8 @@ use lib.IntN.{ℤ, pos, _+ℤ_, natAbs}
 use lib.Signed.{nonNeg}
 use mir.Syntax.{w8, w64}
 use mir.Val.{SFits, Fits, toZ, ofZ}
-use Rattle.picture.specs.Steps.{plusOne}
-use Rattle.picture.proofs.Units.{on-unit}
+use Rattle.picture.specs.Geometry.{plusOne}
+use Rattle.picture.proofs.Steps.{on-unit}
 use Rattle.picture.proofs.geometry.plus_one.Statement.{statement}
 use Rattle.picture.proofs.geometry.plus_one.Tie as tie
 
