@@ -6,3 +6,6 @@ pub mod Trees
 pub mod Watersheds
 pub mod Patches
 pub mod Kept
+pub mod Geometry
+pub mod Faults
+pub mod Steps

@@ -1,0 +1,138 @@
+-- What stands in front of the cells while the neighbours are put there.
+use mathlib.Core.Path.{_≡_, refl, sym, ap, ap₂, _∙_}
+use mathlib.Core.Bool.{Bool, true, false, _&&_}
+use mathlib.Core.List.{List, [], _∷_, _++_, append-assoc, append-nil}
+use Prim.Native.Nat.{ℕ, suc, _+_, _-_, _*_, _≤_, _<_}
+use native.Mathlib.Numerals.{add-one}
+use native.Mathlib.Nat.{add-zero}
+use native.Mathlib.Omega.{arith}
+use lib.Dec.{eqb}
+use lib.ListN.{length, take, drop, set, length-append, length-take, length-drop, take-append-drop, drop-of-length-le}
+use lib.Seq.{set-split, length-take-le, take-at, drop-at, drop-drop}
+use Rattle.picture.specs.declared.geometry.Step.{Step}
+use Rattle.picture.specs.Geometry.{steps, offset, used, within, stays, placeBy, reached, neighboursOf, Listed}
+use Rattle.picture.specs.Steps.{strideOf, stepAt, Leads, Put}
+use Rattle.picture.proofs.Lists.{and-both, on-pick}
+use Rattle.picture.proofs.Steps.{used-step, reached-step, reached-one, reached-none}
+
+-- a step that leaves the edge puts nothing, another puts its place
+module _ (w h x i c r : ℕ) (to : Leads w x i c r) (m : ℕ) (cells : List ℕ) where
+  stays-is : stays w h x (offset (stepAt i)) ≡ (within w c && within h r)
+  stays-is = ap₂ (λ d e. within w d && within h e) (sym (to .column)) (sym (to .row))
+
+  put-none : (within w c && within h r) ≡ false → Put (reached w h x (stepAt i ∷ [])) m cells m cells
+  put-none e =
+      rw (reached-none w h x (stepAt i) (stays-is ∙ e))
+      (record { count = sym (add-zero m); whole = sym (take-append-drop m cells) })
+
+  pub put-beside : within w c ≡ false → Put (reached w h x (stepAt i ∷ [])) m cells m cells
+  put-beside e = put-none (rw e)
+
+  pub put-beyond : within w c ≡ true → within h r ≡ false → Put (reached w h x (stepAt i ∷ [])) m cells m cells
+  put-beyond d e = put-none (rw (d, e))
+
+  pub put-one :
+      within w c ≡ true → within h r ≡ true → m < length cells →
+      Put (reached w h x (stepAt i ∷ [])) m cells (m + 1) (set cells m ((r - 1) * w + (c - 1)))
+  put-one d e l =
+      let at : (r - 1) * w + (c - 1) ≡ placeBy w x (offset (stepAt i)) =
+      ap₂ (λ k n. (n - 1) * w + (k - 1)) (to .column) (to .row) in
+      rw (reached-one w h x (stepAt i) (stays-is ∙ and-both d e), at)
+      (record { count = refl; whole = set-split cells m _ l ∙ rw add-one })
+
+-- a step puts one place at most
+pub put-most : (w h x : ℕ) (s : Step) → length (reached w h x (s ∷ [])) ≤ 1
+put-most w h x s = by (stays w h x (offset s)) refl
+  where
+    by : (t : Bool) → stays w h x (offset s) ≡ t → length (reached w h x (s ∷ [])) ≤ 1
+    by true e = rw (reached-one w h x s e) (omega arith)
+    by false e = rw (reached-none w h x s e) (omega arith)
+
+-- what is put stands behind the first cells, and the cells behind it are as they were
+module _ (zs : List ℕ) (m : ℕ) (cells : List ℕ) (n : ℕ) (after : List ℕ) (fits : m + length zs ≤ length cells) where
+  front-length : n ≡ m + length zs → length (take m cells ++ zs) ≡ n
+  front-length e = length-append (take m cells) zs ∙ ap (λ k. k + length zs) (length-take-le m cells (omega arith)) ∙ sym e
+
+  parted : Put zs m cells n after → after ≡ (take m cells ++ zs) ++ drop n cells
+  parted p = p .whole ∙ sym (append-assoc (take m cells) zs (drop n cells))
+
+  pub put-take : Put zs m cells n after → take n after ≡ take m cells ++ zs
+  put-take p = ap (take n) (parted p) ∙ take-at (take m cells ++ zs) (drop n cells) n (front-length (p .count))
+
+  pub put-drop : Put zs m cells n after → drop n after ≡ drop n cells
+  put-drop p = ap (drop n) (parted p) ∙ drop-at (take m cells ++ zs) (drop n cells) n (front-length (p .count))
+
+  pub put-size : Put zs m cells n after → length after ≡ length cells
+  put-size p =
+      let e = ap length (parted p) ∙ length-append (take m cells ++ zs) (drop n cells) in
+      omega (arith, front-length (p .count), length-drop n cells, p .count)
+
+-- the first m cells hold the places of the steps used before index i, and the others are as they were
+pub record Front (a w h x : ℕ) (old cells : List ℕ) (m i : ℕ) : Type 0 where
+  pub large : 8 ≤ length old
+  pub size : length cells ≡ length old
+  pub room : m ≤ 8
+  pub under : m ≤ i
+  pub done : take m cells ++ reached w h x (used a (drop i steps)) ≡ neighboursOf a w h x
+  pub rest : drop m cells ≡ drop m old
+
+-- an adjacency goes on in the table by one or two steps
+pub stride-some : (a : ℕ) → 1 ≤ strideOf a
+stride-some a = on-pick (λ n. 1 ≤ n) (eqb a 4) (λ e. omega arith) (λ e. omega arith)
+
+pub stride-most : (a : ℕ) → strideOf a ≤ 2
+stride-most a = on-pick (λ n. n ≤ 2) (eqb a 4) (λ e. omega arith) (λ e. omega arith)
+
+-- past the table's end no step is used
+used-none : (a i : ℕ) → 8 ≤ i → used a (drop i steps) ≡ []
+used-none a i l = rw (drop-of-length-le steps l) (on-pick (λ ss. ss ≡ []) (eqb a 4) (λ e. refl) (λ e. refl))
+
+module _ (a w h x : ℕ) (old : List ℕ) where
+  -- lists that are equal from m on are equal further on
+  later : (n m : ℕ) (zs cells : List ℕ) → n ≡ m + length zs → drop m cells ≡ drop m old → drop n cells ≡ drop n old
+  later n m zs cells e r =
+      ap (λ k. drop k cells) e ∙
+      (sym (drop-drop (length zs) m cells) ∙
+      (ap (drop (length zs)) r ∙ (drop-drop (length zs) m old ∙ sym (ap (λ k. drop k old) e))))
+
+  pub front-start : 8 ≤ length old → Front a w h x old old 0 0
+  unfolding neighboursOf
+  front-start e = record { large = e; size = refl; room = omega arith; under = omega arith; done = refl; rest = refl }
+
+  pub front-turn :
+      (cells : List ℕ) (m i : ℕ) (after : List ℕ) (n : ℕ) →
+      Front a w h x old cells m i → i < 8 →
+      Put (reached w h x (stepAt i ∷ [])) m cells n after →
+      Front a w h x old after n (i + strideOf a)
+  front-turn cells m i after n f l p =
+      let zs = reached w h x (stepAt i ∷ []) in
+      let more = used a (drop (i + strideOf a) steps) in
+      let most = put-most w h x (stepAt i) in
+      let next = stride-some a in
+      let fits : m + length zs ≤ length cells = omega arith in
+      record {
+        large = f .large;
+        size = put-size zs m cells n after fits p ∙ f .size;
+        room = omega arith;
+        under = omega arith;
+        done =
+            ap (λ l. l ++ reached w h x more) (put-take zs m cells n after fits p) ∙
+            (append-assoc (take m cells) zs (reached w h x more) ∙
+            (ap (λ l. take m cells ++ l)
+            (sym (ap (reached w h x) (used-step a i l) ∙ reached-step w h x (stepAt i) more)) ∙
+            f .done));
+        rest = put-drop zs m cells n after fits p ∙ later n m zs cells (p .count) (f .rest);
+      }
+
+  pub front-end :
+      (cells : List ℕ) (m i : ℕ) → Front a w h x old cells m i → 8 ≤ i →
+      Listed (neighboursOf a w h x) old m cells
+  front-end cells m i f l =
+      let e : take m cells ≡ neighboursOf a w h x =
+      sym (append-nil (take m cells)) ∙
+      (ap (λ l. take m cells ++ reached w h x l) (sym (used-none a i l)) ∙ f .done) in
+      record {
+        count = sym (length-take-le m cells (omega arith)) ∙ ap length e;
+        few = f .room;
+        whole = sym (take-append-drop m cells) ∙ ap₂ _++_ e (f .rest);
+      }

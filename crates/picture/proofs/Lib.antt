@@ -1,0 +1,6 @@
+pub mod Accepted
+pub mod Front
+pub mod Lists
+pub mod Sides
+pub mod Steps
+pub mod Worked

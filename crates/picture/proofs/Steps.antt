@@ -1,0 +1,88 @@
+-- Laws of the steps of the table.
+use mathlib.Core.Path.{_≡_, refl, sym, ap, _∙_}
+use mathlib.Core.Bool.{Bool, true, false, _&&_}
+use mathlib.Core.List.{List, [], _∷_, _++_, map}
+use Prim.Native.Nat.{ℕ, zero, suc, _+_, _-_, _*_, _/_, _%_, _≤_, _<_}
+use native.Mathlib.Nat.{not-suc-le-zero, le-of-suc-le-suc, lt-of-lt-of-le}
+use native.Mathlib.Numerals.{add-one, add-two}
+use native.Mathlib.Omega.{arith}
+use lib.Arith.{digits-lt}
+use lib.Dec.{leb, eqb}
+use lib.IntN.{ℤ, pos, negsuc}
+use Rattle.picture.specs.declared.geometry.Step.{Step}
+use lib.ListN.{length, getD, drop}
+use lib.Seq.{drop-cons}
+use borrow.Author.Tests.{leb-true}
+use Rattle.picture.specs.Lists.{pick}
+use Rattle.picture.specs.Geometry.{step, steps, offset, everySecond, used, within, stays, placeBy, reached}
+use Rattle.picture.specs.Steps.{isUnit, strideOf, stepAt}
+use Rattle.picture.proofs.Lists.{and-left, and-right, all-at}
+use Rattle.picture.proofs.Sides.{area-most}
+
+-- what holds of −1, 0 and 1 holds of every step
+pub on-unit : (P : ℤ → Type 0) → P (negsuc 0) → P (pos 0) → P (pos 1) → (z : ℤ) → isUnit z ≡ true → P z
+on-unit P a b d (pos zero) t = b
+on-unit P a b d (pos (suc zero)) t = d
+on-unit P a b d (pos (suc (suc n))) t = let h = leb-true (suc (suc n)) 1 t in absurd (omega arith)
+on-unit P a b d (negsuc zero) t = a
+on-unit P a b d (negsuc (suc n)) t = let h = leb-true (suc n) 0 t in absurd (omega arith)
+
+-- a step of the table with one added is at most 2
+abbrev small : Step → Bool
+small s = leb (offset s .column) 2 && leb (offset s .row) 2
+
+pub column-most : (i : ℕ) → offset (stepAt i) .column ≤ 2
+column-most i = leb-true _ 2 (and-left (leb (offset (stepAt i) .column) 2) _ (all-at small steps _ refl refl i))
+
+pub row-most : (i : ℕ) → offset (stepAt i) .row ≤ 2
+row-most i = leb-true _ 2 (and-right (leb (offset (stepAt i) .column) 2) _ (all-at small steps _ refl refl i))
+
+-- a number from 1 to side
+pub within-some : (side c : ℕ) → within side c ≡ true → 1 ≤ c
+within-some side c e = leb-true 1 c (and-left (leb 1 c) _ e)
+
+pub within-most : (side c : ℕ) → within side c ≡ true → c ≤ side
+within-most side c e = leb-true c side (and-right (leb 1 c) _ e)
+
+-- a column and a row inside the edge make a place below the area
+pub place-most :
+    (w h c r : ℕ) → w ≤ 40 → h ≤ 40 → within w c ≡ true → within h r ≡ true → (r - 1) * w + (c - 1) < 1600
+place-most w h c r p q d e =
+    let c1 = within-some w c d in
+    let c2 = within-most w c d in
+    let r1 = within-some h r e in
+    let r2 = within-most h r e in
+    lt-of-lt-of-le (digits-lt {q = r - 1} {m = h} {r = c - 1} {c = w} (omega arith) (omega arith)) (area-most h w q p)
+
+-- the steps used from an index on begin with the one there
+second : (l : List Step) (i : ℕ) (d : Step) → i < length l →
+    everySecond (drop i l) ≡ getD l i d ∷ everySecond (drop (suc (suc i)) l)
+second [] i d h = absurd (not-suc-le-zero h)
+second (o ∷ []) zero d h = refl
+second (o ∷ (q ∷ l)) zero d h = refl
+second (o ∷ l) (suc i) d h = second l i d (le-of-suc-le-suc h)
+
+pub used-step : (a i : ℕ) → i < 8 → used a (drop i steps) ≡ stepAt i ∷ used a (drop (i + strideOf a) steps)
+used-step a i h = by (eqb a 4)
+  where
+    by : (t : Bool) →
+        pick t (everySecond (drop i steps)) (drop i steps) ≡
+        stepAt i ∷ pick t (everySecond (drop (i + pick t 2 1) steps)) (drop (i + pick t 2 1) steps)
+    by true = rw add-two (second steps i (step (pos 0) (pos 0)) h)
+    by false = rw add-one (drop-cons steps i (step (pos 0) (pos 0)) h)
+
+-- the places of one step come before those of the others
+pub reached-step : (w h x : ℕ) (o : Step) (os : List Step) →
+    reached w h x (o ∷ os) ≡ reached w h x (o ∷ []) ++ reached w h x os
+reached-step w h x o os = by (stays w h x (offset o)) refl
+  where
+    by : (t : Bool) → stays w h x (offset o) ≡ t → reached w h x (o ∷ os) ≡ reached w h x (o ∷ []) ++ reached w h x os
+    by true e = rw e
+    by false e = rw e
+
+-- a step leads to one place or to none
+pub reached-one : (w h x : ℕ) (o : Step) → stays w h x (offset o) ≡ true → reached w h x (o ∷ []) ≡ placeBy w x (offset o) ∷ []
+reached-one w h x o e = rw e
+
+pub reached-none : (w h x : ℕ) (o : Step) → stays w h x (offset o) ≡ false → reached w h x (o ∷ []) ≡ []
+reached-none w h x o e = rw e

@@ -1,0 +1,93 @@
+-- The pictures worked by hand, H1 to H10, their trees and a pass: each table by one test that antt computes.
+use mathlib.Core.Path.{_≡_, refl}
+use mathlib.Core.Bool.{Bool, true, false, _&&_}
+use mathlib.Core.List.{List, [], _∷_}
+use Prim.Native.Nat.{ℕ}
+use lib.Dec.{eqb}
+use Rattle.picture.specs.Lists.{all}
+use Rattle.picture.specs.Pictures.{Picture, adjacent, isPicture}
+use Rattle.picture.specs.Components.{componentAt, components, pass}
+use Rattle.picture.specs.Trees.{Tree, isBranch, nodesAt, nodes, fatherOf, mapOf, treeOf}
+use Rattle.picture.specs.Watersheds.{lowerable, best, watershed}
+
+-- two lists hold the same numbers
+abbrev pub sameList : List ℕ → List ℕ → Bool
+sameList [] [] = true
+sameList [] (y ∷ ys) = false
+sameList (x ∷ xs) [] = false
+sameList (x ∷ xs) (y ∷ ys) = eqb x y && sameList xs ys
+
+-- the picture of an adjacency, a width, a height and pixels
+abbrev pub picture : ℕ → ℕ → ℕ → List ℕ → Picture
+picture a w h xs = record { adjacency = a; width = w; height = h; pixels = xs }
+
+-- a picture worked by hand: its mark, and the pixels of its watershed
+pub record Row : Type 0 where
+  pub mark : ℕ
+  pub picture : Picture
+  pub water : List ℕ
+
+abbrev row : ℕ → Picture → List ℕ → Row
+row m p xs = record { mark = m; picture = p; water = xs }
+
+-- H3 and H10, whose trees are worked too
+abbrev pub h3 : Picture
+h3 = picture 4 5 1 (3 ∷ 1 ∷ 4 ∷ 0 ∷ 2 ∷ [])
+
+abbrev pub h10 : Picture
+h10 = picture 4 3 2 (0 ∷ 5 ∷ 2 ∷ 3 ∷ 3 ∷ 3 ∷ [])
+
+-- H1 to H10
+abbrev pub table : List Row
+table =
+    row 1 (picture 4 1 1 (9 ∷ [])) (9 ∷ []) ∷
+    row 2 (picture 4 2 1 (0 ∷ 1 ∷ [])) (0 ∷ 0 ∷ []) ∷
+    row 3 h3 (1 ∷ 1 ∷ 4 ∷ 0 ∷ 0 ∷ []) ∷
+    row 4 (picture 4 2 2 (0 ∷ 5 ∷ 5 ∷ 0 ∷ [])) (0 ∷ 5 ∷ 5 ∷ 0 ∷ []) ∷
+    row 5 (picture 8 2 2 (0 ∷ 5 ∷ 5 ∷ 0 ∷ [])) (0 ∷ 0 ∷ 0 ∷ 0 ∷ []) ∷
+    row 6 (picture 4 3 3 (7 ∷ 7 ∷ 7 ∷ 7 ∷ 7 ∷ 7 ∷ 7 ∷ 7 ∷ 7 ∷ [])) (7 ∷ 7 ∷ 7 ∷ 7 ∷ 7 ∷ 7 ∷ 7 ∷ 7 ∷ 7 ∷ []) ∷
+    row 7 (picture 4 3 3 (0 ∷ 0 ∷ 0 ∷ 0 ∷ 5 ∷ 0 ∷ 0 ∷ 0 ∷ 0 ∷ [])) (0 ∷ 0 ∷ 0 ∷ 0 ∷ 0 ∷ 0 ∷ 0 ∷ 0 ∷ 0 ∷ []) ∷
+    row 8 (picture 4 5 1 (0 ∷ 3 ∷ 3 ∷ 3 ∷ 1 ∷ [])) (0 ∷ 0 ∷ 0 ∷ 3 ∷ 1 ∷ []) ∷
+    row 9 (picture 4 4 1 (0 ∷ 3 ∷ 3 ∷ 1 ∷ [])) (0 ∷ 0 ∷ 3 ∷ 1 ∷ []) ∷
+    row 10 h10 (0 ∷ 3 ∷ 2 ∷ 0 ∷ 0 ∷ 3 ∷ []) ∷
+    []
+
+-- the picture of a row is accepted, and its watershed is the row's
+abbrev pub rowHolds : Row → Bool
+rowHolds r = isPicture (r .picture) && sameList (watershed (r .picture) .pixels) (r .water)
+
+-- each worked picture has the watershed of its row
+pub worked : all rowHolds table ≡ true
+unfolding adjacent isPicture componentAt components lowerable best watershed
+worked = refl
+
+-- a tree worked by hand: its picture, heights, first places, fathers and map
+pub record TreeRow : Type 0 where
+  pub picture : Picture
+  pub tree : Tree
+
+abbrev treeRow : Picture → List ℕ → List ℕ → List ℕ → List ℕ → TreeRow
+treeRow p hs xs fs ms = record { picture = p; tree = record { heights = hs; fathers = fs; firsts = xs; map = ms } }
+
+-- the trees of H3 and H10
+abbrev pub trees : List TreeRow
+trees =
+    treeRow h3 (0 ∷ 1 ∷ 4 ∷ []) (3 ∷ 1 ∷ 0 ∷ []) (2 ∷ 2 ∷ 65535 ∷ []) (1 ∷ 1 ∷ 2 ∷ 0 ∷ 0 ∷ []) ∷
+    treeRow h10 (0 ∷ 2 ∷ 3 ∷ []) (0 ∷ 2 ∷ 0 ∷ []) (2 ∷ 2 ∷ 65535 ∷ []) (0 ∷ 2 ∷ 1 ∷ 2 ∷ 2 ∷ 2 ∷ []) ∷
+    []
+
+-- two trees have the same lists
+abbrev pub sameTree : Tree → Tree → Bool
+sameTree t u =
+    sameList (t .heights) (u .heights) &&
+    (sameList (t .fathers) (u .fathers) && (sameList (t .firsts) (u .firsts) && sameList (t .map) (u .map)))
+
+-- each worked tree is that of its picture
+pub worked-trees : all (λ r. sameTree (treeOf (r .picture)) (r .tree)) trees ≡ true
+unfolding adjacent componentAt components isBranch nodesAt nodes fatherOf mapOf treeOf
+worked-trees = refl
+
+-- the pass of H10 between places 0 and 2
+pub worked-pass : pass h10 0 2 ≡ 3
+unfolding adjacent componentAt pass
+worked-pass = refl

@@ -1,0 +1,15 @@
+-- `picture::faults::adjacency_fits` meets its contract.
+use borrow.Author.Tests.{eq-eqb, ne-eqb}
+use Rattle.picture.proofs.faults.adjacency_fits.Statement.{statement}
+use Rattle.picture.proofs.faults.adjacency_fits.Tie as tie
+use Rattle.picture.proofs.faults.adjacency_fits.Reads as reads
+use Rattle.picture.proofs.faults.adjacency_fits.Lts as lts
+
+returns : tie.Need-returns
+returns c = simp (eq-eqb _ _ (c .if1 .taken))
+
+returns-2 : tie.Need-returns-2
+returns-2 c = simp (ne-eqb _ _ (c .if1 .left))
+
+pub adjacency-fits-spec : {M : Type 1} → statement M
+adjacency-fits-spec = tie.close (tie.spec returns returns-2)

@@ -1,0 +1,15 @@
+-- `picture::geometry::inside` meets its contract.
+use borrow.Author.Tests.{le-leb, lt-leb}
+use Rattle.picture.proofs.geometry.inside.Statement.{statement}
+use Rattle.picture.proofs.geometry.inside.Tie as tie
+use Rattle.picture.proofs.geometry.inside.Reads as reads
+use Rattle.picture.proofs.geometry.inside.Lts as lts
+
+returns : tie.Need-returns
+returns c = simp (lt-leb _ _ (c .if1 .taken))
+
+returns-2 : tie.Need-returns-2
+returns-2 c = simp (le-leb _ _ (c .if1 .left))
+
+pub inside-spec : {M : Type 1} → statement M
+inside-spec = tie.close (tie.spec returns returns-2)

@@ -1,0 +1,66 @@
+-- `picture::geometry::neighbours` meets its contract. The invariant is Front: what stands in front of the cells.
+use Prim.Native.Nat.{ℕ, _-_}
+use native.Mathlib.Omega.{arith}
+use mathlib.Core.Path.{_≡_, ap, _∙_}
+use borrow.Author.Needs.{needs}
+use Rattle.picture.specs.Steps.{strideOf}
+use Rattle.picture.proofs.Front.{Front, stride-some, stride-most, front-start, front-turn, front-end}
+use Rattle.picture.proofs.geometry.neighbours.Statement.{statement}
+use Rattle.picture.proofs.geometry.neighbours.Tie as tie
+use Rattle.picture.proofs.geometry.neighbours.Reads as reads
+use Rattle.picture.proofs.geometry.neighbours.Lts as lts
+use Rattle.picture.proofs.geometry.put_step.Reads as put-step-reads
+use Rattle.picture.proofs.geometry.stride.Reads as stride-reads
+
+abbrev Inv-loop : tie.InvT-loop
+Inv-loop a w h x cells₀ width height next m₀ i₀ cells m i = Front a w h x cells₀ cells m i
+
+abbrev μ-loop : tie.MeasureT-loop
+μ-loop a w h x cells₀ width height next m₀ i₀ cells m i = 8 - i
+
+stride-requires : tie.Need-stride-requires Inv-loop μ-loop
+stride-requires c κs = search needs
+
+loop-holds : tie.Need-loop-holds Inv-loop μ-loop
+loop-holds c = front-start _ _ _ _ _ (search needs)
+
+put-step-requires : tie.Need-put-step-requires Inv-loop μ-loop
+put-step-requires c κs = (c .before .before .before .before .before .pre .0, search needs, search needs)
+
+add-i : tie.Need-add-i Inv-loop μ-loop
+add-i c =
+    let s = c .before .before .before .before .before .before in
+    omega (arith, s .stride .ensures, stride-most (s .before .before .args .a))
+
+loop-less : tie.Need-loop-less Inv-loop μ-loop
+loop-less c =
+    let s = c .before .before .before .before .before .before in
+    omega (arith, s .stride .ensures, stride-some (s .before .before .args .a))
+
+loop-again : tie.Need-loop-again Inv-loop μ-loop
+loop-again c =
+    let test = c .before .before .before .before in
+    let top = test .before in
+    rw (top .before .stride .ensures)
+    (front-turn _ _ _ _ _ _ _ _ _ _ (top .loop .inv) (test .loop-test .taken) (c .before .before .put-step .ensures))
+
+same-length : tie.Need-same-length Inv-loop μ-loop
+same-length c = search needs
+
+returns : tie.Need-returns Inv-loop μ-loop
+returns c = front-end _ _ _ _ _ _ _ _ (c .before .loop .inv) (c .loop-test .left)
+
+pub neighbours-spec : {M : Type 1} → statement M
+neighbours-spec =
+    tie.close
+    (tie.spec
+    Inv-loop
+    μ-loop
+    stride-requires
+    loop-holds
+    put-step-requires
+    add-i
+    loop-less
+    loop-again
+    same-length
+    returns)

@@ -1,0 +1,38 @@
+-- `picture::geometry::plus_one` meets its contract: at each of the three steps antt computes the sum.
+use mathlib.Core.Path.{_≡_, refl}
+use Prim.Native.Nat.{ℕ}
+use lib.Dec.{T, lit<}
+use lib.IntN.{ℤ, pos, _+ℤ_, natAbs}
+use lib.Signed.{nonNeg}
+use mir.Syntax.{w8, w64}
+use mir.Val.{SFits, Fits, toZ, ofZ}
+use Rattle.picture.specs.Geometry.{plusOne}
+use Rattle.picture.proofs.Steps.{on-unit}
+use Rattle.picture.proofs.geometry.plus_one.Statement.{statement}
+use Rattle.picture.proofs.geometry.plus_one.Tie as tie
+
+-- the sum as the machine makes it
+abbrev sum : ℤ → ℤ
+sum z = toZ w8 (ofZ w8 z) +ℤ pos 1
+
+add-result : tie.Need-add-result
+add-result c =
+    on-unit (λ z. SFits w8 (sum z)) (record { sfits = lit< tt }) (record { sfits = lit< tt }) (record { sfits = lit< tt })
+    (c .args .step)
+    (c .pre)
+
+cast-result : tie.Need-cast-result
+cast-result c =
+    on-unit (λ z. T (nonNeg (toZ w8 (ofZ w8 (sum z)))) × Fits w64 (natAbs (toZ w8 (ofZ w8 (sum z)))))
+    (tt, record { fits = lit< tt })
+    (tt, record { fits = lit< tt })
+    (tt, record { fits = lit< tt })
+    (c .args .step)
+    (c .pre)
+
+returns : tie.Need-returns
+returns c =
+    on-unit (λ z. natAbs (toZ w8 (ofZ w8 (sum z))) ≡ plusOne z) refl refl refl (c .args .step) (c .pre)
+
+pub plus-one-spec : {M : Type 1} → statement M
+plus-one-spec = tie.close (tie.spec add-result cast-result returns)

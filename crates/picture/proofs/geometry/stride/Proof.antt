@@ -1,0 +1,15 @@
+-- `picture::geometry::stride` meets its contract.
+use borrow.Author.Tests.{eq-eqb, ne-eqb}
+use Rattle.picture.proofs.geometry.stride.Statement.{statement}
+use Rattle.picture.proofs.geometry.stride.Tie as tie
+use Rattle.picture.proofs.geometry.stride.Reads as reads
+use Rattle.picture.proofs.geometry.stride.Lts as lts
+
+returns : tie.Need-returns
+returns c = rw (eq-eqb _ _ (c .if1 .taken))
+
+returns-2 : tie.Need-returns-2
+returns-2 c = rw (ne-eqb _ _ (c .if1 .left))
+
+pub stride-spec : {M : Type 1} → statement M
+stride-spec = tie.close (tie.spec returns returns-2)
