@@ -1,0 +1,2 @@
+-- What the arrays of the tree hold.
+pub mod Arrays
