@@ -1,6 +1,6 @@
 -- Adjacency of places as a relation; sections and joined places of a picture.
 use mathlib.Core.Path.{_≡_, refl, sym, ap₂, _∙_}
-use mathlib.Core.Bool.{Bool, true, _&&_}
+use mathlib.Core.Bool.{Bool, true, false, _&&_}
 use Prim.Native.Nat.{ℕ, _+_, _-_, _/_, _%_, _<_}
 use native.Mathlib.Omega.{arith}
 use lib.Dec.{eqb, leb}
@@ -8,7 +8,7 @@ use borrow.Author.Tests.{leb-true, leb-false, le-leb}
 use Rattle.picture.specs.Lists.{pick}
 use Rattle.picture.specs.Pictures.{Picture, places, valueAt, distance, adjacent, touch}
 use Rattle.picture.specs.Components.{inSection}
-use Rattle.topology.proofs.Tests.{on-pick}
+use Rattle.topology.proofs.Tests.{on-pick, clash}
 use Rattle.topology.proofs.Connected.{Conn, conn-sym}
 use Rattle.topology.proofs.Keeping.{Sec}
 
@@ -45,6 +45,20 @@ touch-sym p x y =
 
 pub adj-sym : (p : Picture) (x y : ℕ) → Adj p x y → Adj p y x
 adj-sym p x y h = touch-sym p y x ∙ h
+
+pub distance-same : (a : ℕ) → distance a a ≡ 0
+distance-same a = on-pick (λ (d : ℕ). d ≡ 0) (leb a a) (λ e. omega arith) (λ e. omega arith)
+
+-- no place is its own neighbour
+pub adj-irreflexive : (p : Picture) (x : ℕ) → Adj p x x → ⊥
+unfolding adjacent
+adj-irreflexive p x h =
+    clash h
+    (ap₂
+    (λ (c r : ℕ). pick (eqb (p .adjacency) 4) (eqb (c + r) 1) (leb c 1 && (leb r 1 && leb 1 (c + r))))
+    (distance-same (x % p .width))
+    (distance-same (x / p .width)) ∙
+    on-pick (λ (t : Bool). t ≡ false) (eqb (p .adjacency) 4) (λ e. refl) (λ e. refl))
 
 pub joined-sym : (p : Picture) (k : ℕ) {x y : ℕ} → Joined p k x y → Joined p k y x
 joined-sym p k c = conn-sym (adj-sym p) c

@@ -14,12 +14,9 @@ use Rattle.picture.specs.Pictures.{Picture, places, valueAt, distance, adjacent
 use Rattle.picture.specs.Components.{inSection, componentAt, passFrom, pass}
 use Rattle.topology.proofs.Tests.{and-left, and-right, and-both, on-pick, on-elim, on-test, clash}
 use Rattle.topology.proofs.Connected.{start, step, conn-trans, conn-source}
-use Rattle.topology.proofs.Adjacency.{Adj, At, Joined, adj-sym, joined-sym, section-at, at-section}
+use Rattle.topology.proofs.Adjacency.{Adj, At, Joined, distance-same, adj-sym, joined-sym, section-at, at-section}
 use Rattle.topology.proofs.Reached.{in-joined, joined-in}
 use Rattle.topology.proofs.Accepted.{Accepted, byte-at}
-
-distance-same : (a : ℕ) → distance a a ≡ 0
-distance-same a = on-pick (λ (d : ℕ). d ≡ 0) (leb a a) (λ e. omega arith) (λ e. omega arith)
 
 distance-next : (a b : ℕ) → a ≡ suc b → distance a b ≡ 1
 distance-next a b h =

@@ -21,3 +21,6 @@ pub mod Grid
 pub mod Climb
 pub mod Partners
 pub mod Demand
+pub mod Oracle
+pub mod TreeOracle
+pub mod Falls
