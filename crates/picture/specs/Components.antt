@@ -4,7 +4,7 @@ use mathlib.Core.List.{List, [], _∷_, _++_, map}
 use Prim.Native.Nat.{ℕ, zero, suc}
 use lib.Dec.{eqb, leb}
 use lib.ListN.{length}
-use Rattle.picture.specs.Lists.{pick, any, select, range, isIn}
+use Rattle.picture.specs.Lists.{any, select, range, isIn}
 use Rattle.picture.specs.Pictures.{Picture, places, valueAt, touch}
 
 -- a place is in the section at height k (standard term: lower threshold set)
@@ -56,6 +56,6 @@ passFrom zero k p x y = k
 passFrom (suc l) k p x y =
     elim (inSection p k x && isIn y (componentAt p k x)) [ true ↦ k | false ↦ passFrom l (suc k) p x y ]
 
--- the pass between two places: the least height at which a component holds both (standard term: minimax path height)
+-- the pass between two places: the least height at which a component holds both (standard terms: minimax path height, connection value)
 unfoldable pub pass : Picture → ℕ → ℕ → ℕ
 pass p x y = passFrom 256 0 p x y

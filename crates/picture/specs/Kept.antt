@@ -51,7 +51,11 @@ pub record Kept (f a : Picture) : Type 0 where
       fatherOf f (nodeAt f i) < 65535 →
       (fatherOf a (nodeAt a j) < 65535) ×
       (partners f a (nodeAt f (fatherOf f (nodeAt f i))) (nodeAt a (fatherOf a (nodeAt a j))) ≡ true)
-  -- the root's partner is the root
+  -- the roots are partners, and the root's partner is the root
+  pub root-partners :
+      (i j : ℕ) → i < length (nodes f) → j < length (nodes a) →
+      fatherOf f (nodeAt f i) ≡ 65535 → fatherOf a (nodeAt a j) ≡ 65535 →
+      partners f a (nodeAt f i) (nodeAt a j) ≡ true
   pub roots :
       (i j : ℕ) → i < length (nodes f) → j < length (nodes a) →
       partners f a (nodeAt f i) (nodeAt a j) ≡ true →

@@ -1,11 +1,11 @@
 -- Patches: the regional minima, their records, and the patch of a place.
 use mathlib.Core.Bool.{Bool, true, false}
 use mathlib.Core.List.{List, [], _∷_, map}
-use Prim.Native.Nat.{ℕ, zero, suc, _-_, _*_, _/_}
+use Prim.Native.Nat.{ℕ, suc, _-_, _*_, _/_}
 use lib.Dec.{eqb, ltb}
 use lib.ListN.{length}
-use Rattle.picture.specs.Lists.{pick, select, isIn, total, highest}
-use Rattle.picture.specs.Pictures.{Picture, column, row}
+use Rattle.picture.specs.Lists.{pick, tally, select, range, isIn, total, highest}
+use Rattle.picture.specs.Pictures.{Picture, places, column, row}
 use Rattle.picture.specs.Trees.{Node, nodes, nodeAt, componentOf, fatherOf, below}
 
 -- a node is a leaf: it contains no component of the height below
@@ -26,7 +26,7 @@ byFirst (n ∷ ns) = insertByFirst n (byFirst ns)
 unfoldable pub patchNodes : Picture → List Node
 patchNodes p = byFirst (select (isLeaf p) (nodes p))
 
--- a patch's depth: its father's height, or for the root the largest value, less its own height
+-- a patch's depth: its father's height, or for the root the largest value, less its own height (not the field's dynamics)
 unfoldable pub depthOf : Picture → Node → ℕ
 depthOf p n =
     let f = fatherOf p n in
@@ -68,10 +68,14 @@ abbrev pub patchFrom : ℕ → Picture → ℕ → List Node → ℕ
 patchFrom i p x [] = 0
 patchFrom i p x (n ∷ ns) = elim (isIn x (componentOf p n)) [ true ↦ i | false ↦ patchFrom (suc i) p x ns ]
 
--- the number of the patch of a place, 0 on the line (standard term: watershed line)
+-- the number of the patch of a place, 0 on the line (in a watershed: the watershed line)
 unfoldable pub patchAt : Picture → ℕ → ℕ
 patchAt p x = patchFrom 1 p x (patchNodes p)
 
--- a centre in tenths: ten times a sum of columns or rows by the size, remainder dropped
+-- how many places of a picture are on the line
+unfoldable pub lineCount : Picture → ℕ
+lineCount p = tally (λ x. eqb (patchAt p x) 0) (range 0 (places p))
+
+-- a centre (standard term: centroid) in tenths: ten times a sum of columns or rows by the size, remainder dropped
 abbrev pub centre : ℕ → ℕ → ℕ
 centre sum size = 10 * sum / size

@@ -17,7 +17,7 @@ abbrev pub below : Picture → ℕ → List ℕ → List (List ℕ)
 below p zero c = []
 below p (suc k) c = select (λ d. isIn (headOf d) c) (components p k)
 
--- a branch contains exactly one component of the height below (standard term: a vertex of degree one, which the tree leaves out)
+-- a branch contains exactly one component of the height below (in the tree of all components: a vertex with one child)
 unfoldable pub isBranch : Picture → ℕ → List ℕ → Bool
 isBranch p k c = eqb (length (below p k c)) 1
 
@@ -26,7 +26,7 @@ pub record Node : Type 0 where
   pub height : ℕ
   pub first : ℕ
 
--- the leaves (none below: regional minima) and forks (several below: saddle components) of height k by first place
+-- the leaves (none below: the regional minima) and the forks (several below: where regions merge) of height k by first place
 unfoldable pub nodesAt : Picture → ℕ → List Node
 nodesAt p k = map (λ c. record { height = k; first = headOf c }) (select (λ c. not (isBranch p k c)) (components p k))
 
@@ -57,25 +57,25 @@ numberFrom i k x (n ∷ ns) =
 abbrev pub numberOf : Picture → ℕ → List ℕ → ℕ
 numberOf p k c = numberFrom 0 k (headOf c) (nodes p)
 
--- the least node of l heights from k on that contains x, 65535 for none
+-- the number of the least node of l heights from k on that contains x, 65535 for none
 abbrev pub aboveFrom : ℕ → ℕ → Picture → ℕ → ℕ
 aboveFrom zero k p x = 65535
 aboveFrom (suc l) k p x =
     let c = componentAt p k x in
     elim (isBranch p k c) [ true ↦ aboveFrom l (suc k) p x | false ↦ numberOf p k c ]
 
--- the father of a node: the least node above it by containment, 65535 for the root's
+-- the father (standard term: parent) of a node: the number of the least node above it by containment, 65535 for the root's
 unfoldable pub fatherOf : Picture → Node → ℕ
 fatherOf p n = aboveFrom (255 - n .height) (suc (n .height)) p (n .first)
 
--- the node that the component c of height k goes down to while it is a branch
+-- the number of the node that the component c of height k goes down to while it is a branch
 abbrev pub downFrom : ℕ → Picture → List ℕ → ℕ
 downFrom zero p c = numberOf p 0 c
 downFrom (suc k) p c =
     elim (isBranch p (suc k) c)
     [ true ↦ downFrom k p (getD (below p (suc k) c) 0 []) | false ↦ numberOf p (suc k) c ]
 
--- the map: the node of a pixel, down from its component of its own value (standard term: component mapping)
+-- the map (standard term: component mapping): the number of a pixel's node, down from its component of its own value
 unfoldable pub mapOf : Picture → ℕ → ℕ
 mapOf p x = downFrom (valueAt p x) p (componentAt p (valueAt p x) x)
 

@@ -173,6 +173,8 @@ module _ (f : Picture) (xs : List ℕ) where
       keeps-sound f xs k
       (all-mem (keepsAt f (withPixels f xs)) h (mem-range 0 256 (omega arith) (omega arith)))
 
-  pub keeps-parts : ((k : ℕ) → Keeps (places f) (Adj f) (valueAt f) (valueAt (withPixels f xs)) k) → keepsParts f (withPixels f xs) ≡ true
+  pub keeps-parts : ((k : ℕ) → k ≤ 255 → Keeps (places f) (Adj f) (valueAt f) (valueAt (withPixels f xs)) k) → keepsParts f (withPixels f xs) ≡ true
   unfolding keepsParts
-  keeps-parts g = mem-all (keepsAt f (withPixels f xs)) (range 0 256) (λ k m. keeps-complete f xs k (g k))
+  keeps-parts g =
+      mem-all (keepsAt f (withPixels f xs)) (range 0 256)
+      (λ k m. let b = range-mem 0 256 m in keeps-complete f xs k (g k (omega arith)))

@@ -5,26 +5,27 @@ use mathlib.Core.Bool.{Bool, true, false, _&&_}
 use mathlib.Core.List.{List, [], _∷_}
 use Prim.Native.Nat.{ℕ, zero, suc, _+_, _-_, _≤_, _<_}
 use native.Mathlib.Omega.{arith}
-use lib.ListN.{length, getD}
-use lib.Seq.{ext-getD}
-use Rattle.picture.specs.Lists.{isIn}
+use lib.ListN.{length, getD, set, length-set}
+use lib.Seq.{ext-getD, getD-set-same}
+use Rattle.picture.specs.Lists.{range, isIn}
 use Rattle.picture.specs.Pictures.{Picture, places, valueAt, withPixels, allBytes, isPicture}
 use Rattle.picture.specs.Components.{inSection, componentAt, passFrom, pass}
-use Rattle.picture.specs.Watersheds.{watershed}
+use Rattle.picture.specs.Watersheds.{lowerable, watershed}
 use Rattle.picture.specs.Patches.{patchAt}
-use Rattle.picture.specs.Kept.{nowhereAbove, keepsParts, Kept, Demand-3}
-use Rattle.topology.proofs.Tests.{and-left, and-right, and-both, same-test}
+use Rattle.picture.specs.Kept.{nowhereAbove, keepsAt, keepsParts, Kept, Demand-3}
+use Rattle.topology.proofs.Tests.{and-left, and-right, and-both, same-test, test-false}
+use Rattle.topology.proofs.Lists.{all-fails, range-mem}
 use Rattle.topology.proofs.Connected.{conn-target}
-use Rattle.topology.proofs.Keeping.{Keeps, Lowers}
+use Rattle.topology.proofs.Keeping.{Keeps, Lowers, keeps-compose}
 use Rattle.topology.proofs.Least.{least-sections}
 use Rattle.topology.proofs.Adjacency.{Adj, At, Joined, adj-sym, section-at, at-section}
 use Rattle.topology.proofs.Reached.{in-joined, joined-in}
-use Rattle.topology.proofs.Bridge.{lowers-lowerable, keeps-parts, parts-keeps}
+use Rattle.topology.proofs.Bridge.{lowerable-above, lowerable-lowers, lowers-lowerable, keeps-parts, parts-keeps}
 use Rattle.topology.proofs.Accepted.{Accepted, accepted-is, is-accepted, accepted-with, byte-at, at-byte, above-at, at-above}
-use Rattle.topology.proofs.Water.{Watered, watershed-shape, watershed-watered}
+use Rattle.topology.proofs.Water.{Watered, lower-under, lower-keeps, watershed-shape, watershed-watered}
 use Rattle.topology.proofs.Branches.{joined-kept}
 use Rattle.topology.proofs.Minima.{InMinimum, patch-minimum, minimum-kept}
-use Rattle.topology.proofs.Partners.{partner-found, partner-of, fathers-partners, roots-partners}
+use Rattle.topology.proofs.Partners.{partner-found, partner-of, fathers-partners, roots-partners, roots-joined}
 
 -- passes in two pictures whose components hold both places at the same heights
 pass-same :
@@ -71,10 +72,11 @@ watered-kept f ys ok w =
       sides = refl;
       accepted = is-accepted a a-ok;
       under = at-above ys (f .pixels) (w .size) (w .under);
-      parts = keeps-parts f ys (w .keeps);
+      parts = keeps-parts f ys (λ k b. w .keeps k);
       one-partner = partner-found f ys (w .keeps);
       of-each = partner-of f ys (w .keeps);
       fathers = λ i j h l e. fathers-partners f ys (w .keeps) i j h l e a-ok;
+      root-partners = roots-joined f ys (w .keeps) ok a-ok;
       roots = λ i j h l e. roots-partners f ys (w .keeps) i j h l e ok;
       passes = passes-kept f ys (w .keeps);
       least = least;
@@ -118,3 +120,44 @@ pub demand-3 : Demand-3
 demand-3 f h =
     let ok = accepted-is f h in
     subst (Kept f) (sym (watershed-shape f (ok .size))) (watered-kept f (watershed f .pixels) ok (watershed-watered f (ok .size)))
+
+-- what follows of any picture a with what demand 3 says
+module _ (f a : Picture) (k : Kept f a) where
+  -- every other picture in f's frame that is nowhere above a fails to keep f's parts, at a height from 0 to 255
+  pub other-fails :
+      (b : List ℕ) → length b ≡ places f → allBytes b ≡ true → nowhereAbove b (a .pixels) ≡ true → (b ≡ a .pixels → ⊥) →
+      (h : ℕ) × (h ≤ 255) × (keepsAt f (withPixels f b) h ≡ false)
+  unfolding keepsParts
+  other-fails b e bytes under other =
+      let (h, m, g) =
+      all-fails (keepsAt f (withPixels f b)) (range 0 256)
+      (test-false (keepsParts f (withPixels f b)) (λ p. other (k .least b e bytes under p)))
+      in
+      let r = range-mem 0 256 m in
+      (h, omega arith, g)
+
+  -- nothing in a is lowerable: neither the picture itself nor one lowered pixel will do where more can be lowered
+  pub nothing-lowerable : Accepted f → (x : ℕ) → x < places f → lowerable a x ≡ true → ⊥
+  nothing-lowerable ok x b l = lowest (a .pixels) (k .sides) l
+    where
+      lowest : (ys : List ℕ) → a ≡ withPixels f ys → lowerable a x ≡ true → ⊥
+      lowest ys e t =
+          let g = subst (λ (p : Picture). Kept f p) e k in
+          let lo = subst (λ (p : Picture). lowerable p x ≡ true) e t in
+          let good = accepted-is (withPixels f ys) (g .accepted) in
+          let size = good .size in
+          let (j, v) = lowerable-above (withPixels f ys) x b lo in
+          let c : x < length ys = omega arith in
+          let down = lowerable-lowers (withPixels f ys) x b j v lo in
+          let under = lower-under f ys x j c v in
+          let bytes = byte-at ys (good .bytes) in
+          let same =
+          g .least (set ys x j) (length-set ys x j ∙ size)
+          (at-byte (set ys x j) (λ i. let p = under i in let q = bytes i in omega arith))
+          (at-above (set ys x j) ys (length-set ys x j) under)
+          (keeps-parts f (set ys x j)
+          (λ h r. keeps-compose (places f) (Adj f) (parts-keeps f ys (g .parts) h r) (lower-keeps f ys x j c down h)))
+          in
+          let p = ap (λ (zs : List ℕ). getD zs x 0) same in
+          let q = getD-set-same ys x j 0 c in
+          omega arith

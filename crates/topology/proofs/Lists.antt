@@ -32,6 +32,15 @@ module _ {A : Type 0} (t : A → Bool) where
   mem-all [] h = refl
   mem-all (x ∷ xs) h = and-both (t x) (all t xs) (h x (List·Memᴰ·head refl)) (mem-all xs (λ y m. h y (List·Memᴰ·tail m)))
 
+  pub all-fails : (l : List A) → all t l ≡ false → (x : A) × List·Memᴰ x l × (t x ≡ false)
+  all-fails [] h = absurd (clash refl h)
+  all-fails (x ∷ xs) h =
+      on-test (t x)
+      (λ e.
+      let (y, m, f) = all-fails xs (sym (ap (λ (b : Bool). b && all t xs) e) ∙ h) in
+      (y, List·Memᴰ·tail m, f))
+      (λ e. (x, List·Memᴰ·head refl, e))
+
   -- selection, an element at a time
   pub select-in : (x : A) (xs : List A) → t x ≡ true → select t (x ∷ xs) ≡ x ∷ select t xs
   select-in x xs e = ap (λ (b : Bool). pick b (x ∷ []) [] ++ select t xs) e

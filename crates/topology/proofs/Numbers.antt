@@ -8,7 +8,7 @@ use native.Mathlib.Decide.{ℕ-discrete}
 use native.Mathlib.Omega.{arith}
 use lib.ListN.{length, getD}
 use Rattle.picture.specs.Lists.{tally}
-use Rattle.topology.proofs.Tests.{test-false}
+use Rattle.topology.proofs.Tests.{on-test, test-false}
 use Rattle.topology.proofs.Lists.{tally-in, tally-out, tally-none}
 
 pub mem-index : {A : Type 0} (d : A) {x : A} {l : List A} → List·Memᴰ x l → (i : ℕ) × (i < length l) × (getD l i d ≡ x)
@@ -36,6 +36,14 @@ one-index t d (x ∷ xs) zero h e f =
 one-index t d (x ∷ xs) (suc i) h e f =
     tally-out t x xs (test-false (t x) (λ g. let w = f 0 (omega arith) g in omega arith)) ∙
     one-index t d xs i (omega arith) e (λ j b g. let w = f (suc j) (omega arith) g in omega arith)
+
+-- a test that one member passes has an index that passes
+pub index-one : {A : Type 0} (t : A → Bool) (d : A) (l : List A) → tally t l ≡ 1 → (i : ℕ) × (i < length l) × (t (getD l i d) ≡ true)
+index-one t d [] h = absurd (omega arith)
+index-one t d (x ∷ xs) h =
+    on-test (t x)
+    (λ e. (0, omega arith, e))
+    (λ e. let (i, b, g) = index-one t d xs (sym (tally-out t x xs e) ∙ h) in (suc i, omega arith, g))
 
 pub map-same : {A B : Type 0} (f g : A → B) (l : List A) → ((x : A) → List·Memᴰ x l → f x ≡ g x) → map f l ≡ map g l
 map-same f g [] h = refl

@@ -27,8 +27,9 @@ use Rattle.topology.proofs.Bridge.{within-joined, joined-within, lowers
 use Rattle.topology.proofs.Accepted.{Accepted, accepted-is, is-accepted, accepted-with, byte-at, at-byte, above-at, at-above}
 use Rattle.topology.proofs.Water.{Watered, watershed-shape, watershed-watered}
 use Rattle.topology.proofs.Branches.{joined-mono, joined-kept, branch-same}
-use Rattle.topology.proofs.Numbers.{one-index}
+use Rattle.topology.proofs.Numbers.{one-index, index-one}
 use Rattle.topology.proofs.Nodes.{node, IsNode, node-is, node-equal, number-found}
+use Rattle.topology.proofs.Climb.{root-is}
 use Rattle.topology.proofs.Fathers.{Above, top, fork, father-is, number-small}
 use Rattle.topology.proofs.Minima.{InMinimum, patch-minimum, minimum-kept}
 
@@ -247,3 +248,13 @@ module _ (f : Picture) (xs : List ℕ) (keeps : (k : ℕ) → Keeps (places f) (
             let sf = sec-mono above (nodeAt f i .first) (node-is f i h .place) in
             let fl = number-found f k (nodeAt f i .first) d sf nf .0 in
             absurd (let s = number-small f ok (numberOf f k (componentAt f k (nodeAt f i .first))) fl in omega arith)
+
+  -- the roots are partners: the root's partner is a root, and there is one
+  pub roots-joined :
+      Accepted f → Accepted a → (i j : ℕ) → i < length (nodes f) → j < length (nodes a) →
+      fatherOf f (nodeAt f i) ≡ 65535 → fatherOf a (nodeAt a j) ≡ 65535 → partners f a (nodeAt f i) (nodeAt a j) ≡ true
+  roots-joined ok a-ok i j h l e g =
+      let o = index-one (λ m. partners f a (nodeAt f i) m) (node 0 0) (nodes a) (partner-found i h) in
+      let r = roots-partners i (o .0) h (o .1) (o .2) ok e in
+      let q : o .0 ≡ j = root-is a a-ok (o .0) (o .1) r ∙ sym (root-is a a-ok j l g) in
+      subst (λ (m : ℕ). partners f a (nodeAt f i) (nodeAt a m) ≡ true) q (o .2)

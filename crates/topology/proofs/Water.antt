@@ -133,7 +133,7 @@ module _ (f : Picture) where
       lowering-keeps (places f) (Adj f) (adj-sym f) (valueAt (withPixels f xs)) (valueAt (withPixels f (set xs x k))) x k l
       (lower-fallen xs x k h (l .value))
 
-  lower-under : (xs : List ℕ) (x k : ℕ) → x < length xs → getD xs x 0 ≡ suc k → (y : ℕ) → getD (set xs x k) y 0 ≤ getD xs y 0
+  pub lower-under : (xs : List ℕ) (x k : ℕ) → x < length xs → getD xs x 0 ≡ suc k → (y : ℕ) → getD (set xs x k) y 0 ≤ getD xs y 0
   lower-under xs x k h e y =
       by-cases (ℕ-discrete y x)
       (λ q. subst (λ (z : ℕ). getD (set xs x k) z 0 ≤ getD xs z 0) (sym q) (let g = getD-set-same xs x k 0 h in omega arith))
