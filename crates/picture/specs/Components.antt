@@ -4,7 +4,7 @@ use mathlib.Core.List.{List, [], _∷_, _++_, map}
 use Prim.Native.Nat.{ℕ, zero, suc}
 use lib.Dec.{eqb, leb}
 use lib.ListN.{length}
-use Rattle.picture.specs.Lists.{any, select, range, isIn}
+use Rattle.picture.specs.Lists.{any, select, indexFrom, range, isIn}
 use Rattle.picture.specs.Pictures.{Picture, places, valueAt, touch}
 
 -- a place is in the section at height k (standard term: lower threshold set)
@@ -43,8 +43,7 @@ components p k = componentsFrom p k [] (range 0 (places p))
 
 -- the number from i + 1 on of the first component that holds x, 0 for none
 abbrev pub labelFrom : ℕ → ℕ → List (List ℕ) → ℕ
-labelFrom i x [] = 0
-labelFrom i x (c ∷ cs) = elim (isIn x c) [ true ↦ suc i | false ↦ labelFrom (suc i) x cs ]
+labelFrom i x cs = indexFrom 0 (suc i) (isIn x) cs
 
 -- the labels of a section: its components numbered from 1 by first place, 0 outside
 unfoldable pub labels : Picture → ℕ → List ℕ

@@ -29,6 +29,11 @@ abbrev pub select : {A : Type 0} → (A → Bool) → List A → List A
 select t [] = []
 select t (x ∷ xs) = pick (t x) (x ∷ []) [] ++ select t xs
 
+-- the number of the first member that passes the test, counted from i on, or m for none
+abbrev pub indexFrom : {A : Type 0} → ℕ → ℕ → (A → Bool) → List A → ℕ
+indexFrom m i t [] = m
+indexFrom m i t (x ∷ xs) = elim (t x) [ true ↦ i | false ↦ indexFrom m (suc i) t xs ]
+
 -- l numbers from x on, rising
 abbrev pub range : ℕ → ℕ → List ℕ
 range x zero = []

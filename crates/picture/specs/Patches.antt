@@ -4,7 +4,7 @@ use mathlib.Core.List.{List, [], _∷_, map}
 use Prim.Native.Nat.{ℕ, suc, _-_, _*_, _/_}
 use lib.Dec.{eqb, ltb}
 use lib.ListN.{length}
-use Rattle.picture.specs.Lists.{pick, tally, select, range, isIn, total, highest}
+use Rattle.picture.specs.Lists.{pick, tally, select, indexFrom, range, isIn, total, highest}
 use Rattle.picture.specs.Pictures.{Picture, places, column, row}
 use Rattle.picture.specs.Trees.{Node, nodes, nodeAt, componentOf, fatherOf, below}
 
@@ -65,8 +65,7 @@ patches p = patchesFrom 1 p (patchNodes p)
 
 -- the number from i on of the first leaf whose patch holds x, 0 for none
 abbrev pub patchFrom : ℕ → Picture → ℕ → List Node → ℕ
-patchFrom i p x [] = 0
-patchFrom i p x (n ∷ ns) = elim (isIn x (componentOf p n)) [ true ↦ i | false ↦ patchFrom (suc i) p x ns ]
+patchFrom i p x ns = indexFrom 0 i (λ n. isIn x (componentOf p n)) ns
 
 -- the number of the patch of a place, 0 on the line (in a watershed: the watershed line)
 unfoldable pub patchAt : Picture → ℕ → ℕ

@@ -4,7 +4,7 @@ use mathlib.Core.List.{List, [], _∷_, _++_, map}
 use Prim.Native.Nat.{ℕ, zero, suc, _-_}
 use lib.Dec.{eqb}
 use lib.ListN.{length, getD}
-use Rattle.picture.specs.Lists.{select, range, isIn}
+use Rattle.picture.specs.Lists.{select, indexFrom, range, isIn}
 use Rattle.picture.specs.Pictures.{Picture, places, valueAt}
 use Rattle.picture.specs.Components.{componentAt, components}
 
@@ -49,9 +49,7 @@ componentOf p n = componentAt p (n .height) (n .first)
 
 -- the number from i on of the node with height k and first place x, 65535 for none
 abbrev pub numberFrom : ℕ → ℕ → ℕ → List Node → ℕ
-numberFrom i k x [] = 65535
-numberFrom i k x (n ∷ ns) =
-    elim (eqb (n .height) k && eqb (n .first) x) [ true ↦ i | false ↦ numberFrom (suc i) k x ns ]
+numberFrom i k x ns = indexFrom 65535 i (λ n. eqb (n .height) k && eqb (n .first) x) ns
 
 -- the number of the node that is the component c of height k
 abbrev pub numberOf : Picture → ℕ → List ℕ → ℕ

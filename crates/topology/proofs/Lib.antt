@@ -24,3 +24,4 @@ pub mod Demand
 pub mod Oracle
 pub mod TreeOracle
 pub mod Falls
+pub mod Positions

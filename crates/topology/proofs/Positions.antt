@@ -1,0 +1,75 @@
+-- The place of a member in a list that a range selects: how many selected numbers come up to it.
+use mathlib.Core.Path.{_≡_, refl, sym, ap, subst, _∙_}
+use mathlib.Core.Bool.{Bool, true, false}
+use mathlib.Core.Logic.{by-cases}
+use mathlib.Core.List.{List, [], _∷_, map, List·Memᴰ}
+use Prim.Native.Nat.{ℕ, zero, suc, _+_, _-_, _≤_, _<_}
+use native.Mathlib.Decide.{ℕ-discrete}
+use native.Mathlib.Omega.{arith}
+use lib.ListN.{length, getD}
+use Rattle.picture.specs.Lists.{tally, select, range}
+use Rattle.topology.proofs.Tests.{on-test, clash}
+use Rattle.topology.proofs.Lists.{select-in, select-out, tally-in, tally-out}
+
+-- a range in two parts
+pub tally-range : (t : ℕ → Bool) (x l m : ℕ) → tally t (range x (l + m)) ≡ tally t (range x l) + tally t (range (x + l) m)
+tally-range t x zero m =
+    let a : 0 + m ≡ m = omega arith in
+    let b : x + 0 ≡ x = omega arith in
+    ap (λ (k : ℕ). tally t (range x k)) a ∙ (ap (λ (y : ℕ). tally t (range y m)) (sym b) ∙ omega arith)
+tally-range t x (suc l) m =
+    let a : suc l + m ≡ suc (l + m) = omega arith in
+    let b : suc x + l ≡ x + suc l = omega arith in
+    let r = tally-range t (suc x) l m ∙ ap (λ (y : ℕ). tally t (range (suc x) l) + tally t (range y m)) b in
+    ap (λ (k : ℕ). tally t (range x k)) a ∙
+    on-test (t x)
+    (λ e. let p = tally-in t x (range (suc x) (l + m)) e in let q = tally-in t x (range (suc x) l) e in omega arith)
+    (λ e. let p = tally-out t x (range (suc x) (l + m)) e in let q = tally-out t x (range (suc x) l) e in omega arith)
+
+-- one number more
+pub tally-next : (t : ℕ → Bool) (x : ℕ) → tally t (range 0 (suc x)) ≡ tally t (range 0 x) + tally t (x ∷ [])
+tally-next t x =
+    let a : suc x ≡ x + 1 = omega arith in
+    let b : 0 + x ≡ x = omega arith in
+    ap (λ (k : ℕ). tally t (range 0 k)) a ∙
+    (tally-range t 0 x 1 ∙ ap (λ (y : ℕ). tally t (range 0 x) + tally t (y ∷ [])) b)
+
+pub tally-next-in : (t : ℕ → Bool) (x : ℕ) → t x ≡ true → tally t (range 0 (suc x)) ≡ suc (tally t (range 0 x))
+tally-next-in t x e = let a = tally-next t x in let b = tally-in t x [] e in omega arith
+
+pub tally-next-out : (t : ℕ → Bool) (x : ℕ) → t x ≡ false → tally t (range 0 (suc x)) ≡ tally t (range 0 x)
+tally-next-out t x e = let a = tally-next t x in let b = tally-out t x [] e in omega arith
+
+-- the selected number z stands at the index that counts those before it
+pub select-index :
+    (t : ℕ → Bool) (d x l z : ℕ) → x ≤ z → z < x + l → t z ≡ true →
+    (tally t (range x (z - x)) < length (select t (range x l))) × (getD (select t (range x l)) (tally t (range x (z - x))) d ≡ z)
+select-index t d x zero z a b e = absurd (omega arith)
+select-index t d x (suc l) z a b e =
+    by-cases (ℕ-discrete x z) first (λ q. later q (select-index t d (suc x) l z (omega arith) (omega arith) e))
+  where
+    rest : List ℕ
+    rest = select t (range (suc x) l)
+
+    Found : ℕ → List ℕ → Type 0
+    Found i l = (i < length l) × (getD l i d ≡ z)
+
+    first : x ≡ z → Found (tally t (range x (z - x))) (select t (range x (suc l)))
+    first q =
+        let g : z - x ≡ 0 = omega arith in
+        subst (λ (k : ℕ). Found (tally t (range x k)) (select t (range x (suc l)))) (sym g)
+        (subst (Found 0) (sym (select-in t x (range (suc x) l) (subst (λ (y : ℕ). t y ≡ true) (sym q) e))) (omega arith, q))
+
+    later : ¬ (x ≡ z) → Found (tally t (range (suc x) (z - suc x))) rest → Found (tally t (range x (z - x))) (select t (range x (suc l)))
+    later q f =
+        let i = f .0 in
+        let r = f .1 in
+        let g : z - x ≡ suc (z - suc x) = omega arith in
+        subst (λ (k : ℕ). Found (tally t (range x k)) (select t (range x (suc l)))) (sym g)
+        (on-test (t x)
+        (λ h.
+        subst (λ (k : ℕ). Found k (select t (range x (suc l)))) (sym (tally-in t x (range (suc x) (z - suc x)) h))
+        (subst (Found (suc (tally t (range (suc x) (z - suc x))))) (sym (select-in t x (range (suc x) l) h)) (omega arith, r)))
+        (λ h.
+        subst (λ (k : ℕ). Found k (select t (range x (suc l)))) (sym (tally-out t x (range (suc x) (z - suc x)) h))
+        (subst (Found (tally t (range (suc x) (z - suc x)))) (sym (select-out t x (range (suc x) l) h)) (i, r))))
