@@ -25,3 +25,4 @@ pub mod Oracle
 pub mod TreeOracle
 pub mod Falls
 pub mod Positions
+pub mod Leaves

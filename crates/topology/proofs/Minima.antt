@@ -24,7 +24,7 @@ use Rattle.topology.proofs.Parts.{mem-components}
 use Rattle.topology.proofs.Branches.{joined-mono, joined-below}
 use Rattle.topology.proofs.Nodes.{IsNode, nodes-mem}
 
-insert-mem : {n : Node} (m : Node) (ns : List Node) → List·Memᴰ n (insertByFirst m ns) → (n ≡ m) ⊎ List·Memᴰ n ns
+pub insert-mem : {n : Node} (m : Node) (ns : List Node) → List·Memᴰ n (insertByFirst m ns) → (n ≡ m) ⊎ List·Memᴰ n ns
 insert-mem m [] i = List·Memᴰ·cases-cons i
 insert-mem {n} m (k ∷ ks) i =
     on-elim (λ (l : List Node). List·Memᴰ n l → (n ≡ m) ⊎ List·Memᴰ n (k ∷ ks)) (ltb (m .first) (k .first))
@@ -36,7 +36,7 @@ insert-mem {n} m (k ∷ ks) i =
     (List·Memᴰ·cases-cons i))
     i
 
-by-first-mem : {n : Node} (ns : List Node) → List·Memᴰ n (byFirst ns) → List·Memᴰ n ns
+pub by-first-mem : {n : Node} (ns : List Node) → List·Memᴰ n (byFirst ns) → List·Memᴰ n ns
 by-first-mem [] i = i
 by-first-mem (m ∷ ms) i =
     ⊎-elim (λ e. List·Memᴰ·head e) (λ j. List·Memᴰ·tail (by-first-mem ms j)) (insert-mem m (byFirst ms) i)
@@ -56,7 +56,7 @@ pub record InMinimum (p : Picture) (k x : ℕ) : Type 0 where
   pub flat : (y : ℕ) → Joined p k x y → valueAt p y ≡ k
 
 module _ (p : Picture) where
-  leaf-flat : (k x : ℕ) → At p k x → length (below p k (componentAt p k x)) ≡ 0 → (y : ℕ) → Joined p k x y → valueAt p y ≡ k
+  pub leaf-flat : (k x : ℕ) → At p k x → length (below p k (componentAt p k x)) ≡ 0 → (y : ℕ) → Joined p k x y → valueAt p y ≡ k
   leaf-flat zero x s e y c = let l = conn-target c .low in omega arith
   leaf-flat (suc j) x s e y c =
       by-cases (decLe (valueAt p y) j)

@@ -121,7 +121,7 @@ module _ (p : Picture) where
   node-is i h = nodes-mem (index-mem (node 0 0) (nodes p) i h)
 
 -- by height, then by first place, from (k, y) on
-data Sorted : ℕ → ℕ → List Node → Type 0 where
+pub data Sorted : ℕ → ℕ → List Node → Type 0 where
   end : {k y : ℕ} → Sorted k y []
   next : {k y : ℕ} {n : Node} {ns : List Node} → (k < n .height) ⊎ ((k ≡ n .height) × (y ≤ n .first)) → Sorted (n .height) (suc (n .first)) ns → Sorted k y (n ∷ ns)
 
@@ -140,7 +140,11 @@ sorted-from p (suc l) k =
     subst (λ (ns : List Node). Sorted k 0 (ns ++ nodesFrom l (suc k) p)) (sym (nodes-at p k))
     (sorted-append (rising-select (isNode p k) 0 (places p)) (sorted-from p l (suc k)))
 
-sorted-later : {k y : ℕ} {ns : List Node} → Sorted k y ns → (i : ℕ) → i < length ns → (k < getD ns i (node 0 0) .height) ⊎ ((k ≡ getD ns i (node 0 0) .height) × (y ≤ getD ns i (node 0 0) .first))
+pub nodes-sorted : (p : Picture) → Sorted 0 0 (nodes p)
+unfolding nodes
+nodes-sorted p = sorted-from p 256 0
+
+pub sorted-later : {k y : ℕ} {ns : List Node} → Sorted k y ns → (i : ℕ) → i < length ns → (k < getD ns i (node 0 0) .height) ⊎ ((k ≡ getD ns i (node 0 0) .height) × (y ≤ getD ns i (node 0 0) .first))
 sorted-later end i h = absurd (omega arith)
 sorted-later (next g s) zero h = g
 sorted-later {k} {y} (next {n = n} {ns} g s) (suc i) h =
@@ -181,13 +185,11 @@ number-index (next {n = n} {ns} g s) b (suc i) h =
 
 module _ (p : Picture) where
   pub number-at : (i : ℕ) → i < length (nodes p) → numberFrom 0 (nodeAt p i .height) (nodeAt p i .first) (nodes p) ≡ i
-  unfolding nodes
-  number-at i h = number-index (sorted-from p 256 0) 0 i h ∙ omega arith
+  number-at i h = number-index (nodes-sorted p) 0 i h ∙ omega arith
 
   -- heights rise with the numbers
   pub heights-rise : (i j : ℕ) → i ≤ j → j < length (nodes p) → nodeAt p i .height ≤ nodeAt p j .height
-  unfolding nodes
-  heights-rise i j a b = sorted-heights (sorted-from p 256 0) i j a b
+  heights-rise i j a b = sorted-heights (nodes-sorted p) i j a b
 
   pub node-equal : (i j : ℕ) → i < length (nodes p) → j < length (nodes p) → nodeAt p i ≡ nodeAt p j → i ≡ j
   node-equal i j a b e =

@@ -2,13 +2,13 @@
 use mathlib.Core.Path.{_≡_, refl, sym, ap, subst, _∙_}
 use mathlib.Core.Bool.{Bool, true, false}
 use mathlib.Core.Logic.{by-cases}
-use mathlib.Core.List.{List, [], _∷_, map, List·Memᴰ}
+use mathlib.Core.List.{List, [], _∷_, map, List·Memᴰ, List·Memᴰ·head, List·Memᴰ·tail}
 use Prim.Native.Nat.{ℕ, zero, suc, _+_, _-_, _≤_, _<_}
 use native.Mathlib.Decide.{ℕ-discrete}
 use native.Mathlib.Omega.{arith}
 use lib.ListN.{length, getD}
-use Rattle.picture.specs.Lists.{tally, select, range}
-use Rattle.topology.proofs.Tests.{on-test, clash}
+use Rattle.picture.specs.Lists.{tally, select, indexFrom, range}
+use Rattle.topology.proofs.Tests.{on-test, on-elim, clash}
 use Rattle.topology.proofs.Lists.{select-in, select-out, tally-in, tally-out}
 
 -- a range in two parts
@@ -73,3 +73,56 @@ select-index t d x (suc l) z a b e =
         (λ h.
         subst (λ (k : ℕ). Found k (select t (range x (suc l)))) (sym (tally-out t x (range (suc x) (z - suc x)) h))
         (subst (Found (tally t (range (suc x) (z - suc x)))) (sym (select-out t x (range (suc x) l) h)) (i, r))))
+
+-- the number of z in a list that a range selects, if z alone passes the test
+pub index-only :
+    {A : Type 0} (g : ℕ → A) (s : A → Bool) (t : ℕ → Bool) (m z : ℕ) → s (g z) ≡ true → t z ≡ true →
+    (l x i : ℕ) → x ≤ z → z < x + l → ((y : ℕ) → x ≤ y → y < x + l → t y ≡ true → s (g y) ≡ true → y ≡ z) →
+    indexFrom m i s (map g (select t (range x l))) ≡ i + tally t (range x (z - x))
+index-only g s t m z p q zero x i a b f = absurd (omega arith)
+index-only {A} g s t m z p q (suc l) x i a b f =
+    by-cases (ℕ-discrete x z) first (λ d. later d (index-only g s t m z p q l (suc x)))
+  where
+    rest : List A
+    rest = map g (select t (range (suc x) l))
+
+    first : x ≡ z → indexFrom m i s (map g (select t (range x (suc l)))) ≡ i + tally t (range x (z - x))
+    first e =
+        let k : z - x ≡ 0 = omega arith in
+        ap (λ (ys : List ℕ). indexFrom m i s (map g ys)) (select-in t x (range (suc x) l) (subst (λ (y : ℕ). t y ≡ true) (sym e) q)) ∙
+        on-elim (λ (r : ℕ). r ≡ i + tally t (range x (z - x))) (s (g x))
+        (λ h. let w = ap (λ (j : ℕ). tally t (range x j)) k in omega arith)
+        (λ h. absurd (clash (subst (λ (y : ℕ). s (g y) ≡ true) (sym e) p) h))
+
+    later :
+        ¬ (x ≡ z) →
+        ((j : ℕ) → suc x ≤ z → z < suc x + l → ((y : ℕ) → suc x ≤ y → y < suc x + l → t y ≡ true → s (g y) ≡ true → y ≡ z) →
+        indexFrom m j s rest ≡ j + tally t (range (suc x) (z - suc x))) →
+        indexFrom m i s (map g (select t (range x (suc l)))) ≡ i + tally t (range x (z - x))
+    later d r =
+        let k : z - x ≡ suc (z - suc x) = omega arith in
+        let w = ap (λ (j : ℕ). tally t (range x j)) k in
+        let only : (y : ℕ) → suc x ≤ y → y < suc x + l → t y ≡ true → s (g y) ≡ true → y ≡ z =
+        λ y c e. f y (omega arith) (omega arith)
+        in
+        on-test (t x)
+        (λ h.
+        ap (λ (ys : List ℕ). indexFrom m i s (map g ys)) (select-in t x (range (suc x) l) h) ∙
+        on-elim (λ (v : ℕ). v ≡ i + tally t (range x (z - x))) (s (g x))
+        (λ e. absurd (d (f x (omega arith) (omega arith) h e)))
+        (λ e.
+        let u = r (suc i) (omega arith) (omega arith) only in
+        let c = tally-in t x (range (suc x) (z - suc x)) h in
+        omega arith))
+        (λ h.
+        let u = r i (omega arith) (omega arith) only in
+        let c = tally-out t x (range (suc x) (z - suc x)) h in
+        ap (λ (ys : List ℕ). indexFrom m i s (map g ys)) (select-out t x (range (suc x) l) h) ∙ omega arith)
+
+-- no member passes the test
+pub index-none : {A : Type 0} (s : A → Bool) (m i : ℕ) (l : List A) → ((x : A) → List·Memᴰ x l → s x ≡ false) → indexFrom m i s l ≡ m
+index-none s m i [] f = refl
+index-none s m i (x ∷ xs) f =
+    on-elim (λ (r : ℕ). r ≡ m) (s x)
+    (λ e. absurd (clash e (f x (List·Memᴰ·head refl))))
+    (λ e. index-none s m (suc i) xs (λ y k. f y (List·Memᴰ·tail k)))

@@ -1,0 +1,226 @@
+-- The patches of a picture are the minima, found at their first places, rising.
+use mathlib.Core.Path.{_≡_, refl, sym, ap, ap₂, subst, _∙_}
+use mathlib.Core.Bool.{Bool, true, false, _&&_}
+use mathlib.Core.Logic.{_⊎_, inl, inr, ⊎-elim, _≢_, by-cases}
+use mathlib.Core.List.{List, [], _∷_, map, map-map, List·Memᴰ, List·Memᴰ·head, List·Memᴰ·tail, List·Memᴰ·not-nil, List·Memᴰ·cases-cons, Memᴰ·map, Memᴰ·of-map}
+use Prim.Native.Nat.{ℕ, zero, suc, _+_, _≤_, _<_}
+use native.Mathlib.Omega.{arith}
+use lib.Dec.{eqb, ltb}
+use lib.ListN.{length, getD}
+use borrow.Author.Tests.{eqb-true, eq-eqb, ltb-true, ltb-false}
+use Rattle.picture.specs.Lists.{tally, select, range, isIn}
+use Rattle.picture.specs.Pictures.{Picture, places, valueAt}
+use Rattle.picture.specs.Components.{componentAt, components}
+use Rattle.picture.specs.Trees.{Node, headOf, below, isBranch, nodes, nodeAt, componentOf}
+use Rattle.picture.specs.Patches.{isLeaf, insertByFirst, byFirst, patchNodes}
+use Rattle.topology.proofs.Tests.{and-left, and-right, and-both, on-test, on-elim, same-test, test-false, clash}
+use Rattle.topology.proofs.Lists.{select-in, select-out, select-mem, mem-select, length-select, tally-none, in-mem, mem-in, range-mem, mem-range}
+use Rattle.topology.proofs.Rising.{Rising, none, more, rising-select, rising-equal}
+use Rattle.topology.proofs.Connected.{start, conn-target, conn-trans}
+use Rattle.topology.proofs.Adjacency.{At, Joined, joined-sym}
+use Rattle.topology.proofs.Accepted.{Accepted, byte-at}
+use Rattle.topology.proofs.Reached.{firstAt, component-same, first-joined, first-least, first-same, first-first}
+use Rattle.topology.proofs.Parts.{isFirst, first-is, is-first, components-mem}
+use Rattle.topology.proofs.Branches.{below-joined}
+use Rattle.topology.proofs.Numbers.{mem-index, map-same}
+use Rattle.topology.proofs.Nodes.{node, IsNode, nodes-mem, mem-nodes, Sorted, end, next, nodes-sorted, sorted-later}
+use Rattle.topology.proofs.Minima.{insert-mem, by-first-mem, leaf-flat}
+
+-- the component of height k with x contains none of the height below
+unfoldable pub leafAt : Picture → ℕ → ℕ → Bool
+leafAt p k x = eqb (length (below p k (componentAt p k x))) 0
+
+-- x is the first place of a minimum
+unfoldable pub bottom : Picture → ℕ → Bool
+bottom p x = isFirst p (valueAt p x) x && leafAt p (valueAt p x) x
+
+-- the leaf whose first place is x
+abbrev pub leaf : Picture → ℕ → Node
+leaf p x = node (valueAt p x) x
+
+module _ (p : Picture) where
+  pub leaf-sound : (k x : ℕ) → At p k x → leafAt p k x ≡ true → (y : ℕ) → Joined p k x y → valueAt p y ≡ k
+  unfolding leafAt
+  leaf-sound k x s h = leaf-flat p k x s (eqb-true (length (below p k (componentAt p k x))) 0 h)
+
+  pub leaf-complete : (k x : ℕ) → At p k x → ((y : ℕ) → Joined p k x y → valueAt p y ≡ k) → leafAt p k x ≡ true
+  unfolding leafAt
+  leaf-complete zero x s f = refl
+  leaf-complete (suc j) x s f =
+      eq-eqb (length (below p (suc j) (componentAt p (suc j) x))) 0
+      (length-select inside (components p j) ∙
+      tally-none inside (components p j)
+      (λ c m.
+      let (y, t, e) = components-mem p j m in
+      test-false (inside c)
+      (λ h.
+      let g = below-joined p j x s y t (subst (λ (d : List ℕ). inside d ≡ true) (sym e) h) in
+      let v = f y g in
+      let l = t .low in
+      omega arith)))
+    where
+      inside : List ℕ → Bool
+      inside d = isIn (headOf d) (componentAt p (suc j) x)
+
+  pub leaf-same : {k x y : ℕ} → Joined p k x y → leafAt p k x ≡ leafAt p k y
+  unfolding leafAt
+  leaf-same {k} c = ap (λ (d : List ℕ). eqb (length (below p k d)) 0) (component-same p k c)
+
+  leaf-no-branch : (k x : ℕ) → leafAt p k x ≡ true → isBranch p k (componentAt p k x) ≡ false
+  unfolding leafAt isBranch
+  leaf-no-branch k x h =
+      test-false (eqb (length (below p k (componentAt p k x))) 1)
+      (λ g.
+      let a = eqb-true (length (below p k (componentAt p k x))) 0 h in
+      let b = eqb-true (length (below p k (componentAt p k x))) 1 g in
+      omega arith)
+
+  -- what the first place of a minimum is
+  pub bottom-is : (x : ℕ) → x < places p → bottom p x ≡ true → At p (valueAt p x) x × (firstAt p (valueAt p x) x ≡ x) × (leafAt p (valueAt p x) x ≡ true)
+  unfolding bottom
+  bottom-is x b h =
+      let (s, e) = first-is p (valueAt p x) x b (and-left (isFirst p (valueAt p x) x) (leafAt p (valueAt p x) x) h) in
+      (s, e, and-right (isFirst p (valueAt p x) x) (leafAt p (valueAt p x) x) h)
+
+  pub is-bottom : (x : ℕ) → At p (valueAt p x) x → firstAt p (valueAt p x) x ≡ x → leafAt p (valueAt p x) x ≡ true → bottom p x ≡ true
+  unfolding bottom
+  is-bottom x s e l = and-both (isFirst p (valueAt p x) x) (leafAt p (valueAt p x) x) (is-first p (valueAt p x) x s e) l
+
+  -- the first place of the minimum of a pixel
+  pub first-bottom : (x : ℕ) → (s : At p (valueAt p x) x) → leafAt p (valueAt p x) x ≡ true → (bottom p (firstAt p (valueAt p x) x) ≡ true) × (valueAt p (firstAt p (valueAt p x) x) ≡ valueAt p x)
+  first-bottom x s l =
+      let k = valueAt p x in
+      let z = firstAt p k x in
+      let c = first-joined p k x s in
+      let v = leaf-sound k x s l z c in (
+        subst (λ (j : ℕ). At p j z → firstAt p j z ≡ z → leafAt p j z ≡ true → bottom p z ≡ true) v (is-bottom z)
+            (conn-target c) (first-first p k x s) (sym (leaf-same c) ∙ l),
+        v,
+      )
+
+  -- a leaf of the tree is known by its first place
+  leaf-node : {n : Node} → List·Memᴰ n (nodes p) → isLeaf p n ≡ true → (n ≡ leaf p (n .first)) × (bottom p (n .first) ≡ true)
+  unfolding isLeaf leafAt
+  leaf-node {n} m l =
+      let i = nodes-mem p m in
+      let v = leaf-sound (n .height) (n .first) (i .place) l (n .first) (start (i .place)) in (
+        ap (λ (k : ℕ). node k (n .first)) (sym v),
+        subst (λ (j : ℕ). At p j (n .first) → firstAt p j (n .first) ≡ n .first → leafAt p j (n .first) ≡ true → bottom p (n .first) ≡ true) v
+            (is-bottom (n .first)) (i .place) (i .first) l,
+      )
+
+  bottom-node : Accepted p → (x : ℕ) → x < places p → bottom p x ≡ true → List·Memᴰ (leaf p x) (nodes p) × (isLeaf p (leaf p x) ≡ true)
+  unfolding isLeaf leafAt
+  bottom-node ok x b h =
+      let (s, e, l) = bottom-is x b h in (
+        subst (λ (y : ℕ). List·Memᴰ (node (valueAt p x) y) (nodes p)) e
+            (mem-nodes p (valueAt p x) x (byte-at (p .pixels) (ok .bytes) x) s (leaf-no-branch (valueAt p x) x l)),
+        l,
+      )
+
+-- nodes with different first places
+data Apart : List Node → Type 0 where
+  alone : Apart []
+  beside : {n : Node} {ns : List Node} → ((m : Node) → List·Memᴰ m ns → m .first ≢ n .first) → Apart ns → Apart (n ∷ ns)
+
+abbrev firsts : List Node → List ℕ
+firsts ns = map (λ n. n .first) ns
+
+insert-rising :
+    {a : ℕ} (n : Node) (ns : List Node) → Rising a (firsts ns) → a ≤ n .first →
+    ((m : Node) → List·Memᴰ m ns → m .first ≢ n .first) → Rising a (firsts (insertByFirst n ns))
+insert-rising n [] r h f = more h none
+insert-rising {a} n (m ∷ ms) (more g r) h f =
+    on-elim (λ (l : List Node). Rising a (firsts l)) (ltb (n .first) (m .first))
+    (λ e. more h (more (ltb-true (n .first) (m .first) e) r))
+    (λ e.
+    let d = f m (List·Memᴰ·head refl) in
+    let b = ltb-false (n .first) (m .first) e in
+    more g (insert-rising n ms r (omega arith) (λ k i. f k (List·Memᴰ·tail i))))
+
+by-first-rising : {ns : List Node} → Apart ns → Rising 0 (firsts (byFirst ns))
+by-first-rising alone = none
+by-first-rising (beside {n} {ns} f a) =
+    insert-rising n (byFirst ns) (by-first-rising a) (omega arith) (λ m i. f m (by-first-mem ns i))
+
+insert-head : (n : Node) (ns : List Node) → List·Memᴰ n (insertByFirst n ns)
+insert-head n [] = List·Memᴰ·head refl
+insert-head n (m ∷ ms) =
+    on-elim (λ (l : List Node). List·Memᴰ n l) (ltb (n .first) (m .first))
+    (λ e. List·Memᴰ·head refl)
+    (λ e. List·Memᴰ·tail (insert-head n ms))
+
+insert-tail : {k : Node} (n : Node) (ns : List Node) → List·Memᴰ k ns → List·Memᴰ k (insertByFirst n ns)
+insert-tail n [] i = List·Memᴰ·tail i
+insert-tail {k} n (m ∷ ms) i =
+    on-elim (λ (l : List Node). List·Memᴰ k l) (ltb (n .first) (m .first))
+    (λ e. List·Memᴰ·tail i)
+    (λ e. ⊎-elim (λ q. List·Memᴰ·head q) (λ j. List·Memᴰ·tail (insert-tail n ms j)) (List·Memᴰ·cases-cons i))
+
+mem-by-first : {k : Node} (ns : List Node) → List·Memᴰ k ns → List·Memᴰ k (byFirst ns)
+mem-by-first [] i = i
+mem-by-first {k} (n ∷ ns) i =
+    ⊎-elim
+    (λ q. subst (λ (m : Node). List·Memᴰ m (insertByFirst n (byFirst ns))) (sym q) (insert-head n (byFirst ns)))
+    (λ j. insert-tail n (byFirst ns) (mem-by-first ns j))
+    (List·Memᴰ·cases-cons i)
+
+-- two leaves of the sorted nodes have different first places
+leaves-apart :
+    (p : Picture) {k y : ℕ} {ns : List Node} → Sorted k y ns → ((n : Node) → List·Memᴰ n ns → isLeaf p n ≡ true → n .height ≡ valueAt p (n .first)) →
+    Apart (select (isLeaf p) ns)
+leaves-apart p end f = alone
+leaves-apart p (next {n = n} {ns} g s) f =
+    let r = leaves-apart p s (λ m i. f m (List·Memᴰ·tail i)) in
+    on-test (isLeaf p n)
+    (λ e. subst Apart (sym (select-in (isLeaf p) n ns e)) (beside (λ m i. distinct m i e) r))
+    (λ e. subst Apart (sym (select-out (isLeaf p) n ns e)) r)
+  where
+    distinct : (m : Node) → List·Memᴰ m (select (isLeaf p) ns) → isLeaf p n ≡ true → m .first ≢ n .first
+    distinct m i e q =
+        let (j, l) = select-mem (isLeaf p) ns i in
+        let hm = f m (List·Memᴰ·tail j) l in
+        let hn = f n (List·Memᴰ·head refl) e in
+        let v = ap (valueAt p) q in
+        let (c, b, w) = mem-index (node 0 0) j in
+        let wh = ap (λ (z : Node). z .height) w in
+        let wf = ap (λ (z : Node). z .first) w in
+        ⊎-elim (λ a. omega arith) (λ a. let z = a .1 in omega arith) (sorted-later s c b)
+
+-- the leaves by first place
+pub patch-nodes-are : (p : Picture) → Accepted p → patchNodes p ≡ map (leaf p) (select (bottom p) (range 0 (places p)))
+unfolding patchNodes
+patch-nodes-are p ok =
+    known (byFirst leaves) (λ n i. by-first-mem leaves i) ∙
+    ap (map (leaf p)) (rising-equal (by-first-rising apart) (rising-select (bottom p) 0 (places p)) agree)
+  where
+    leaves : List Node
+    leaves = select (isLeaf p) (nodes p)
+
+    apart : Apart leaves
+    apart = leaves-apart p (nodes-sorted p) (λ n i l. ap (λ (m : Node). m .height) (leaf-node p i l .0))
+
+    known : (ns : List Node) → ((n : Node) → List·Memᴰ n ns → List·Memᴰ n leaves) → ns ≡ map (leaf p) (firsts ns)
+    known [] f = refl
+    known (n ∷ ns) f =
+        let (j, l) = select-mem (isLeaf p) (nodes p) (f n (List·Memᴰ·head refl)) in
+        ap₂ (λ (m : Node) (ms : List Node). m ∷ ms) (leaf-node p j l .0) (known ns (λ m i. f m (List·Memᴰ·tail i)))
+
+    agree : (y : ℕ) → isIn y (firsts (byFirst leaves)) ≡ isIn y (select (bottom p) (range 0 (places p)))
+    agree y =
+        same-test (isIn y (firsts (byFirst leaves))) (isIn y (select (bottom p) (range 0 (places p))))
+        (λ h.
+        let (n, i, e) = Memᴰ·of-map (λ m. m .first) (byFirst leaves) (in-mem y (firsts (byFirst leaves)) h) in
+        let (j, l) = select-mem (isLeaf p) (nodes p) (by-first-mem leaves i) in
+        let b = nodes-mem p j .place .within in
+        let q = leaf-node p j l .1 in
+        mem-in y (select (bottom p) (range 0 (places p)))
+        (mem-select (bottom p) (range 0 (places p))
+        (mem-range 0 (places p) (omega arith) (omega arith))
+        (subst (λ (z : ℕ). bottom p z ≡ true) e q)))
+        (λ h.
+        let (i, b) = select-mem (bottom p) (range 0 (places p)) (in-mem y (select (bottom p) (range 0 (places p))) h) in
+        let r = range-mem 0 (places p) i in
+        let (j, l) = bottom-node p ok y (omega arith) b in
+        mem-in y (firsts (byFirst leaves))
+        (Memᴰ·map (λ m. m .first) (mem-by-first leaves (mem-select (isLeaf p) (nodes p) j l))))
