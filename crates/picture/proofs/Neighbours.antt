@@ -1,19 +1,18 @@
 -- The list of neighbours and the test of adjacency agree.
 use mathlib.Core.Path.{_≡_, refl, sym, ap, ap₂, _∙_}
 use mathlib.Core.Bool.{Bool, true, false, _&&_, _||_, not, true≢false}
-use mathlib.Core.List.{List, [], _∷_, map}
+use mathlib.Core.List.{List, map}
 use mathlib.Core.Logic.{_↔_}
-use Prim.Native.Nat.{ℕ, zero, suc, _+_, _-_, _*_, _/_, _%_, _≤_, _<_}
+use Prim.Native.Nat.{ℕ, _+_, _-_, _*_, _/_, _%_, _≤_, _<_}
 use native.Mathlib.Nat.{div-add-mod', mod-lt, div-lt-iff-lt-mul, mul-comm}
 use native.Mathlib.Omega.{arith}
 use lib.Arith.{digits-lt, digits-div, digits-mod}
 use lib.Dec.{eqb, leb}
 use lib.ListN.{length, getD, length-map}
 use borrow.Author.Tests.{leb-true, leb-false, eqb-true, not-true, le-leb, eq-eqb}
-use Rattle.picture.specs.declared.geometry.Step.{Step}
 use Rattle.picture.specs.Lists.{pick, any, all, select, range, isIn}
 use Rattle.picture.specs.Pictures.{Picture, places, distance, adjacent, touch}
-use Rattle.picture.specs.Geometry.{steps, Offset, offset, everySecond, used, within, stays, placeBy, neighboursOf, neighboursIn}
+use Rattle.picture.specs.Geometry.{steps, Offset, offset, everySecond, within, stays, placeBy, neighboursOf, neighboursIn}
 use Rattle.picture.proofs.Lists.{and-left, and-right, and-both, on-pick, implied, any-all, any-mono, any-map-select, select-most, all-below, isIn-at, isIn-index, distinct, pairwise, distinct-images}
 use Rattle.picture.proofs.Steps.{within-some, within-most}
 

@@ -4,7 +4,7 @@ use mathlib.Core.List.{List, _++_}
 use Prim.Native.Nat.{ℕ, _≤_, _-_}
 use native.Mathlib.Omega.{arith}
 use lib.ListN.{length, set, drop, replicate, length-set}
-use borrow.Author.Fill.{fill-none, fill-more}
+use borrow.Author.Fill.{fill-more}
 use borrow.Author.Needs.{needs}
 use Rattle.picture.proofs.clearing.clear.Statement.{statement}
 use Rattle.picture.proofs.clearing.clear.Tie as tie

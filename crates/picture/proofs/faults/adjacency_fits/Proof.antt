@@ -2,8 +2,6 @@
 use borrow.Author.Tests.{eq-eqb, ne-eqb}
 use Rattle.picture.proofs.faults.adjacency_fits.Statement.{statement}
 use Rattle.picture.proofs.faults.adjacency_fits.Tie as tie
-use Rattle.picture.proofs.faults.adjacency_fits.Reads as reads
-use Rattle.picture.proofs.faults.adjacency_fits.Lts as lts
 
 returns : tie.Need-returns
 returns c = simp (eq-eqb _ _ (c .if1 .taken))

@@ -1,11 +1,8 @@
 -- `picture::faults::sides_fit` meets its contract.
-use mathlib.Core.Path.{_≡_, sym, _∙_}
+use mathlib.Core.Path.{sym, _∙_}
 use borrow.Author.Needs.{needs}
 use Rattle.picture.proofs.faults.sides_fit.Statement.{statement}
 use Rattle.picture.proofs.faults.sides_fit.Tie as tie
-use Rattle.picture.proofs.faults.sides_fit.Reads as reads
-use Rattle.picture.proofs.faults.sides_fit.Lts as lts
-use Rattle.picture.proofs.geometry.inside.Reads as inside-reads
 
 inside-requires : tie.Need-inside-requires
 inside-requires c κs = search needs

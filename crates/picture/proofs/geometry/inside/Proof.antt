@@ -2,8 +2,6 @@
 use borrow.Author.Tests.{le-leb, lt-leb}
 use Rattle.picture.proofs.geometry.inside.Statement.{statement}
 use Rattle.picture.proofs.geometry.inside.Tie as tie
-use Rattle.picture.proofs.geometry.inside.Reads as reads
-use Rattle.picture.proofs.geometry.inside.Lts as lts
 
 returns : tie.Need-returns
 returns c = simp (lt-leb _ _ (c .if1 .taken))

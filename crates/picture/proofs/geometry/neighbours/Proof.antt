@@ -1,16 +1,10 @@
 -- `picture::geometry::neighbours` meets its contract. The invariant is Front: what stands in front of the cells.
-use Prim.Native.Nat.{ℕ, _-_}
+use Prim.Native.Nat.{_-_}
 use native.Mathlib.Omega.{arith}
-use mathlib.Core.Path.{_≡_, ap, _∙_}
 use borrow.Author.Needs.{needs}
-use Rattle.picture.specs.Steps.{strideOf}
 use Rattle.picture.proofs.Front.{Front, stride-some, stride-most, front-start, front-turn, front-end}
 use Rattle.picture.proofs.geometry.neighbours.Statement.{statement}
 use Rattle.picture.proofs.geometry.neighbours.Tie as tie
-use Rattle.picture.proofs.geometry.neighbours.Reads as reads
-use Rattle.picture.proofs.geometry.neighbours.Lts as lts
-use Rattle.picture.proofs.geometry.put_step.Reads as put-step-reads
-use Rattle.picture.proofs.geometry.stride.Reads as stride-reads
 
 abbrev Inv-loop : tie.InvT-loop
 Inv-loop a w h x cells₀ width height next m₀ i₀ cells m i = Front a w h x cells₀ cells m i

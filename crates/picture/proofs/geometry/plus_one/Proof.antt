@@ -1,6 +1,5 @@
 -- `picture::geometry::plus_one` meets its contract: at each of the three steps antt computes the sum.
 use mathlib.Core.Path.{_≡_, refl}
-use Prim.Native.Nat.{ℕ}
 use lib.Dec.{T, lit<}
 use lib.IntN.{ℤ, pos, _+ℤ_, natAbs}
 use lib.Signed.{nonNeg}

@@ -21,24 +21,33 @@ abbrev Inside : Type 0
 Inside =
     lts.Else2 (target-of-reads.Asked, target-of-reads.Learnt, inside-reads.Asked, inside-reads.Learnt) reads.Pre reads.Post
 
-column-in : (c : Inside) → within (c .before .before .before .before .before .before .args .w) (c .before .before .before .before .target-of .result .column) ≡ true
+-- the sides, and the column and the row that the step leads to
+abbrev width : Inside → ℕ
+width c = c .before .before .before .before .before .before .args .w
+
+abbrev height : Inside → ℕ
+height c = c .before .before .before .before .before .before .args .h
+
+abbrev column : Inside → ℕ
+column c = c .before .before .before .before .target-of .result .column
+
+abbrev row : Inside → ℕ
+row c = c .before .before .before .before .target-of .result .row
+
+column-in : (c : Inside) → within (width c) (column c) ≡ true
 column-in c =
     let t = c .before .before .before .inside in
     sym (t .ensures) ∙ not-false (t .result) (c .before .before .if1 .left)
 
-row-in : (c : Inside) → within (c .before .before .before .before .before .before .args .h) (c .before .before .before .before .target-of .result .row) ≡ true
+row-in : (c : Inside) → within (height c) (row c) ≡ true
 row-in c =
     let t = c .before .inside2 in
     sym (t .ensures) ∙ not-false (t .result) (c .if2 .left)
 
-place-in :
-    (c : Inside) →
-    (c .before .before .before .before .target-of .result .row - 1) * c .before .before .before .before .before .before .args .w +
-    (c .before .before .before .before .target-of .result .column - 1) <
-    1600
+place-in : (c : Inside) → (row c - 1) * width c + (column c - 1) < 1600
 place-in c =
     let s = c .before .before .before .before .before .before in
-    place-most (s .args .w) (s .args .h) _ _ (s .pre .0 .wide) (s .pre .0 .high) (column-in c) (row-in c)
+    place-most (width c) (height c) _ _ (s .pre .0 .wide) (s .pre .0 .high) (column-in c) (row-in c)
 
 target-of-requires : tie.Need-target-of-requires
 target-of-requires c κs =

@@ -2,8 +2,6 @@
 use borrow.Author.Tests.{eq-eqb, ne-eqb}
 use Rattle.picture.proofs.geometry.stride.Statement.{statement}
 use Rattle.picture.proofs.geometry.stride.Tie as tie
-use Rattle.picture.proofs.geometry.stride.Reads as reads
-use Rattle.picture.proofs.geometry.stride.Lts as lts
 
 returns : tie.Need-returns
 returns c = rw (eq-eqb _ _ (c .if1 .taken))

@@ -1,11 +1,10 @@
 -- `picture::geometry::target_of` meets its contract: the table is that of the definition, each step with one added.
 use mathlib.Core.Path.{_≡_, refl, sym, ap, _∙_}
-use mathlib.Core.List.{List, [], _∷_, map}
 use Prim.Native.Nat.{ℕ, _+_, _/_, _%_}
 use native.Mathlib.Nat.{mod-le, div-le-self}
 use native.Mathlib.Omega.{arith}
-use lib.IntN.{pos, negsuc}
-use lib.ListN.{getD, List·getD-map}
+use lib.IntN.{pos}
+use lib.ListN.{List·getD-map}
 use mir.Syntax.{w8}
 use mir.Val.{toZ, ofZ}
 use borrow.Author.Needs.{needs}
@@ -16,9 +15,6 @@ use Rattle.picture.proofs.Lists.{all-at}
 use Rattle.picture.proofs.Steps.{column-most, row-most}
 use Rattle.picture.proofs.geometry.target_of.Statement.{statement}
 use Rattle.picture.proofs.geometry.target_of.Tie as tie
-use Rattle.picture.proofs.geometry.target_of.Reads as reads
-use Rattle.picture.proofs.geometry.target_of.Lts as lts
-use Rattle.picture.proofs.geometry.plus_one.Reads as plus-one-reads
 
 -- a step with one added, as the machine reads it
 abbrev read : Step → Offset
@@ -35,10 +31,14 @@ array-copy-out-step : tie.Need-array-copy-out-step
 array-copy-out-step c = search needs
 
 plus-one-requires : tie.Need-plus-one-requires
-plus-one-requires c κs = all-at (λ (s : Step). isUnit (toZ w8 (ofZ w8 (s .column)))) steps (step (pos 0) (pos 0)) refl refl (c .before .before .args .i)
+plus-one-requires c κs =
+    all-at (λ (s : Step). isUnit (toZ w8 (ofZ w8 (s .column)))) steps (step (pos 0) (pos 0)) refl refl
+    (c .before .before .args .i)
 
 plus-one-requires-2 : tie.Need-plus-one-requires-2
-plus-one-requires-2 c κs = all-at (λ (s : Step). isUnit (toZ w8 (ofZ w8 (s .row)))) steps (step (pos 0) (pos 0)) refl refl (c .before .before .before .before .args .i)
+plus-one-requires-2 c κs =
+    all-at (λ (s : Step). isUnit (toZ w8 (ofZ w8 (s .row)))) steps (step (pos 0) (pos 0)) refl refl
+    (c .before .before .before .before .args .i)
 
 rem-t16 : tie.Need-rem-t16
 rem-t16 c = search needs
