@@ -65,7 +65,7 @@ module _ (p : Picture) (ok : Accepted p) where
       omega arith))
 
   -- the node of a number is what its own component goes down to
-  under-node : (i : ℕ) → i < length (nodes p) → under p (nodeAt p i .height) (nodeAt p i .first) ≡ i
+  pub under-node : (i : ℕ) → i < length (nodes p) → under p (nodeAt p i .height) (nodeAt p i .first) ≡ i
   under-node i b =
       let n = node-is p i b in
       let k = nodeAt p i .height in

@@ -26,3 +26,4 @@ pub mod TreeOracle
 pub mod Falls
 pub mod Positions
 pub mod Leaves
+pub mod PatchNumbers
