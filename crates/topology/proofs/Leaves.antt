@@ -66,7 +66,7 @@ module _ (p : Picture) where
   unfolding leafAt
   leaf-same {k} c = ap (λ (d : List ℕ). eqb (length (below p k d)) 0) (component-same p k c)
 
-  leaf-no-branch : (k x : ℕ) → leafAt p k x ≡ true → isBranch p k (componentAt p k x) ≡ false
+  pub leaf-no-branch : (k x : ℕ) → leafAt p k x ≡ true → isBranch p k (componentAt p k x) ≡ false
   unfolding leafAt isBranch
   leaf-no-branch k x h =
       test-false (eqb (length (below p k (componentAt p k x))) 1)

@@ -27,3 +27,4 @@ pub mod Falls
 pub mod Positions
 pub mod Leaves
 pub mod PatchNumbers
+pub mod PatchFigures

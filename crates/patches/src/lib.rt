@@ -1,0 +1,1 @@
+// Patches: the minima of a picture.

@@ -1,0 +1,190 @@
+-- The figures of a patch: its pixels by their patch number, its record by its number, its node by the map.
+use mathlib.Core.Path.{_≡_, refl, sym, ap, ap₂, subst, _∙_}
+use mathlib.Core.Bool.{Bool, true, false}
+use mathlib.Core.Logic.{_⊎_, inl, inr, ⊎-elim, by-cases}
+use mathlib.Core.List.{List, [], _∷_, _++_, map, List·Memᴰ}
+use Prim.Native.Nat.{ℕ, zero, suc, _+_, _-_, _≤_, _<_}
+use native.Mathlib.Decide.{decLt}
+use native.Mathlib.Omega.{arith}
+use lib.Dec.{eqb}
+use lib.ListN.{length, getD}
+use borrow.Author.Tests.{eqb-true, eq-eqb}
+use Rattle.picture.specs.Lists.{pick, tally, select, range, isIn, total}
+use Rattle.picture.specs.Pictures.{Picture, places, valueAt}
+use Rattle.picture.specs.Components.{componentAt}
+use Rattle.picture.specs.Trees.{Node, nodes, nodeAt, componentOf, numberOf, mapOf}
+use Rattle.picture.specs.Patches.{patchNodes, Patch, patchOf, patchesFrom, patches, patchAt}
+use Rattle.topology.proofs.Tests.{on-test, same-test, clash}
+use Rattle.topology.proofs.Lists.{select-in, select-out, tally-in, tally-out, select-mem, mem-select, in-mem, mem-in, range-mem, mem-range}
+use Rattle.topology.proofs.Rising.{rising-select, rising-equal}
+use Rattle.topology.proofs.Connected.{start, conn-target}
+use Rattle.topology.proofs.Adjacency.{At, Joined, joined-sym}
+use Rattle.topology.proofs.Accepted.{Accepted, byte-at}
+use Rattle.topology.proofs.Reached.{firstAt, component-rising, in-joined, joined-in, first-joined, first-same, first-at, same-first}
+use Rattle.topology.proofs.Nodes.{node, node-is, number-found}
+use Rattle.topology.proofs.Descent.{under, map-under, under-fork, Under, under-is}
+use Rattle.topology.proofs.Positions.{tally-range, tally-next-in, select-index}
+use Rattle.topology.proofs.Leaves.{leafAt, bottom, leaf, leaf-sound, leaf-same, leaf-no-branch, bottom-is, first-bottom, patch-nodes-are}
+use Rattle.topology.proofs.PatchNumbers.{patch-count, patch-in, patch-out}
+
+-- a sum over selected members is one over all, with 0 for the others
+pub total-select : (g : ℕ → ℕ) (t : ℕ → Bool) (l : List ℕ) → total (map g (select t l)) ≡ total (map (λ x. pick (t x) (g x) 0) l)
+total-select g t [] = refl
+total-select g t (x ∷ xs) =
+    let r = total-select g t xs in
+    on-test (t x)
+    (λ e.
+    ap (λ (l : List ℕ). total (map g l)) (select-in t x xs e) ∙
+    (ap (λ (m : ℕ). g x + m) r ∙ sym (ap (λ (b : Bool). pick b (g x) 0 + total (map (λ y. pick (t y) (g y) 0) xs)) e)))
+    (λ e.
+    ap (λ (l : List ℕ). total (map g l)) (select-out t x xs e) ∙
+    (r ∙ sym (ap (λ (b : Bool). pick b (g x) 0 + total (map (λ y. pick (t y) (g y) 0) xs)) e ∙ omega arith)))
+
+-- tallies of first places rise strictly at each
+tally-rises : (t : ℕ → Bool) (y z : ℕ) → y < z → t y ≡ true → tally t (range 0 y) < tally t (range 0 z)
+tally-rises t y z b e =
+    let g : suc y + (z - suc y) ≡ z = omega arith in
+    let a = tally-range t 0 (suc y) (z - suc y) in
+    let c = tally-next-in t y e in
+    let d = ap (λ (m : ℕ). tally t (range 0 m)) g in
+    omega arith
+
+module _ (p : Picture) (ok : Accepted p) where
+  place : (x : ℕ) → x < places p → At p (valueAt p x) x
+  place x b = record { within = b; low = omega arith }
+
+  -- the number of the patch that begins at z
+  pub bottom-number : (z : ℕ) → z < places p → bottom p z ≡ true → patchAt p z ≡ suc (tally (bottom p) (range 0 z))
+  bottom-number z b h =
+      let (s, e, l) = bottom-is p z b h in
+      patch-in p ok z b l ∙ (ap (λ (m : ℕ). tally (bottom p) (range 0 (suc m))) e ∙ tally-next-in (bottom p) z h)
+
+  -- two first places of minima with one number are one
+  bottom-equal : (y z : ℕ) → y < places p → z < places p → bottom p y ≡ true → bottom p z ≡ true → patchAt p y ≡ patchAt p z → y ≡ z
+  bottom-equal y z by bz hy hz e =
+      let a = bottom-number y by hy in
+      let b = bottom-number z bz hz in
+      by-cases (decLt y z)
+      (λ l. absurd (let r = tally-rises (bottom p) y z l hy in omega arith))
+      (λ l.
+      by-cases (decLt z y)
+      (λ m. absurd (let r = tally-rises (bottom p) z y m hz in omega arith))
+      (λ m. omega arith))
+
+  -- the pixels of the patch that begins at z are those with its number
+  pub patch-members : (z : ℕ) → z < places p → bottom p z ≡ true → componentOf p (leaf p z) ≡ select (λ x. eqb (patchAt p x) (patchAt p z)) (range 0 (places p))
+  patch-members z b h =
+      rising-equal (component-rising p k z s) (rising-select numbered 0 (places p))
+      (λ x.
+      same-test (isIn x (componentAt p k z)) (isIn x (select numbered (range 0 (places p))))
+      (λ i.
+      let c = in-joined p k z x s i in
+      let xb = conn-target c .within in
+      let v = leaf-sound p k z s l x c in
+      let lx = subst (λ (j : ℕ). leafAt p j x ≡ true) (sym v) (sym (leaf-same p c) ∙ l) in
+      mem-in x (select numbered (range 0 (places p)))
+      (mem-select numbered (range 0 (places p))
+      (mem-range 0 (places p) (omega arith) (omega arith))
+      (eq-eqb (patchAt p x) (patchAt p z)
+      (patch-in p ok x xb lx ∙
+      (ap (λ (m : ℕ). tally (bottom p) (range 0 (suc m)))
+      (ap (λ (j : ℕ). firstAt p j x) v ∙ sym (first-same p k c)) ∙
+      sym (patch-in p ok z b l))))))
+      (λ i.
+      let (j, q) = select-mem numbered (range 0 (places p)) (in-mem x (select numbered (range 0 (places p))) i) in
+      let r = range-mem 0 (places p) j in
+      let xb : x < places p = omega arith in
+      let e = eqb-true (patchAt p x) (patchAt p z) q in
+      back x xb e (bottom-number z b h)))
+    where
+      k : ℕ
+      k = valueAt p z
+
+      s : At p k z
+      s = bottom-is p z b h .0
+
+      first : firstAt p k z ≡ z
+      first = bottom-is p z b h .1
+
+      l : leafAt p k z ≡ true
+      l = bottom-is p z b h .2
+
+      numbered : ℕ → Bool
+      numbered x = eqb (patchAt p x) (patchAt p z)
+
+      back : (x : ℕ) → x < places p → patchAt p x ≡ patchAt p z → patchAt p z ≡ suc (tally (bottom p) (range 0 z)) → isIn x (componentAt p k z) ≡ true
+      back x xb e n =
+          on-test (leafAt p (valueAt p x) x)
+          (λ lx.
+          let sx = place x xb in
+          let y = firstAt p (valueAt p x) x in
+          let (hy, v) = first-bottom p x sx lx in
+          let yb = first-at p (valueAt p x) x sx .within in
+          let (sy, ey, ly) = bottom-is p y yb hy in
+          let w : patchAt p y ≡ patchAt p z =
+          patch-in p ok y yb ly ∙
+          (ap (λ (m : ℕ). tally (bottom p) (range 0 (suc m))) ey ∙ (sym (patch-in p ok x xb lx) ∙ e))
+          in
+          let q = bottom-equal y z yb b hy h w in
+          let c = joined-sym p (valueAt p x) (first-joined p (valueAt p x) x sx) in
+          subst (λ (u : ℕ). isIn x (componentAt p (valueAt p u) u) ≡ true) q
+          (subst (λ (j : ℕ). isIn x (componentAt p j y) ≡ true) (sym v) (joined-in p (valueAt p x) c)))
+          (λ lx. absurd (let o = patch-out p ok x xb lx in omega arith))
+
+  -- the records in order
+  patches-at : (i : ℕ) (d : Patch) (ns : List Node) (j : ℕ) → j < length ns → getD (patchesFrom i p ns) j d ≡ patchOf p (i + j) (getD ns j (node 0 0))
+  patches-at i d [] j h = absurd (omega arith)
+  patches-at i d (n ∷ ns) zero h = let e : i ≡ i + 0 = omega arith in ap (λ (m : ℕ). patchOf p m n) e
+  patches-at i d (n ∷ ns) (suc j) h =
+      let e : suc i + j ≡ i + suc j = omega arith in
+      patches-at (suc i) d ns j (omega arith) ∙ ap (λ (m : ℕ). patchOf p m (getD ns j (node 0 0))) e
+
+  patches-long : (i : ℕ) (ns : List Node) → length (patchesFrom i p ns) ≡ length ns
+  patches-long i [] = refl
+  patches-long i (n ∷ ns) = ap suc (patches-long (suc i) ns)
+
+  pub patches-count : length (patches p) ≡ tally (bottom p) (range 0 (places p))
+  unfolding patches
+  patches-count = patches-long 1 (patchNodes p) ∙ patch-count p ok
+
+  -- the record of the patch that begins at z stands at its number less 1
+  pub patch-record : (z : ℕ) (d : Patch) → z < places p → bottom p z ≡ true → getD (patches p) (tally (bottom p) (range 0 z)) d ≡ patchOf p (patchAt p z) (leaf p z)
+  unfolding patches
+  patch-record z d b h =
+      let q : z - 0 ≡ z = omega arith in
+      let (l, e) = select-index (bottom p) 0 0 (places p) z (omega arith) (omega arith) h in
+      let e′ = sym (ap (λ (m : ℕ). getD chosen (tally (bottom p) (range 0 m)) 0) q) ∙ e in
+      let l′ = subst (λ (m : ℕ). tally (bottom p) (range 0 m) < length chosen) q l in
+      let i = tally (bottom p) (range 0 z) in
+      let size = ap length (patch-nodes-are p ok) ∙ long chosen in
+      patches-at 1 d (patchNodes p) i (omega arith) ∙
+      ap₂ (λ (m : ℕ) (n : Node). patchOf p m n)
+      (let w = bottom-number z b h in omega arith)
+      (ap (λ (ns : List Node). getD ns i (node 0 0)) (patch-nodes-are p ok) ∙
+      (entry chosen i l′ ∙ ap (leaf p) e′))
+    where
+      chosen : List ℕ
+      chosen = select (bottom p) (range 0 (places p))
+
+      long : (l : List ℕ) → length (map (leaf p) l) ≡ length l
+      long [] = refl
+      long (x ∷ xs) = ap suc (long xs)
+
+      entry : (l : List ℕ) (i : ℕ) → i < length l → getD (map (leaf p) l) i (node 0 0) ≡ leaf p (getD l i 0)
+      entry [] i c = absurd (omega arith)
+      entry (x ∷ xs) zero c = refl
+      entry (x ∷ xs) (suc i) c = entry xs i (omega arith)
+
+  -- a pixel is in a minimum exactly if its node is a leaf of its own value
+  pub map-leaf : (x : ℕ) → x < places p → leafAt p (valueAt p x) x ≡ true → nodeAt p (mapOf p x) ≡ node (valueAt p x) (firstAt p (valueAt p x) x)
+  map-leaf x b l =
+      let s = place x b in
+      let e = leaf-no-branch p (valueAt p x) x l in
+      ap (nodeAt p) (map-under p x ∙ under-fork p (valueAt p x) x e) ∙
+      number-found p (valueAt p x) x (byte-at (p .pixels) (ok .bytes) x) s e .1
+
+  pub leaf-map : (x : ℕ) → x < places p → nodeAt p (mapOf p x) .height ≡ valueAt p x → leafAt p (valueAt p x) (nodeAt p (mapOf p x) .first) ≡ true → leafAt p (valueAt p x) x ≡ true
+  leaf-map x b e l =
+      let u = under-is p (valueAt p x) x (byte-at (p .pixels) (ok .bytes) x) (place x b) in
+      let c = subst (λ (i : ℕ). Joined p (valueAt p x) x (nodeAt p i .first)) (sym (map-under p x)) (u .joined) in
+      leaf-same p c ∙ l
