@@ -1,14 +1,15 @@
--- The pictures worked by hand, H1 to H10, their trees and a pass: each table by one test that antt computes.
+-- The pictures worked by hand, H1 to H10, their trees, a pass, labels and patches: each table by one test that antt computes.
 use mathlib.Core.Path.{_≡_, refl}
 use mathlib.Core.Bool.{Bool, true, false, _&&_}
-use mathlib.Core.List.{List, [], _∷_}
+use mathlib.Core.List.{List, [], _∷_, map}
 use Prim.Native.Nat.{ℕ}
 use lib.Dec.{eqb}
-use Rattle.picture.specs.Lists.{all}
-use Rattle.picture.specs.Pictures.{Picture, adjacent, isPicture}
-use Rattle.picture.specs.Components.{componentAt, components, pass}
+use Rattle.picture.specs.Lists.{all, range}
+use Rattle.picture.specs.Pictures.{Picture, places, adjacent, isPicture}
+use Rattle.picture.specs.Components.{componentAt, components, labels, pass}
 use Rattle.picture.specs.Trees.{Tree, isBranch, nodesAt, nodes, fatherOf, mapOf, treeOf}
 use Rattle.picture.specs.Watersheds.{lowerable, best, watershed}
+use Rattle.picture.specs.Patches.{isLeaf, patchNodes, depthOf, Patch, patchOf, patches, patchAt, lineCount, centre}
 
 -- two lists hold the same numbers
 abbrev pub sameList : List ℕ → List ℕ → Bool
@@ -91,3 +92,51 @@ worked-trees = refl
 pub worked-pass : pass h10 0 2 ≡ 3
 unfolding adjacent componentAt pass
 worked-pass = refl
+
+-- the labels of H3's section at height 2
+pub worked-labels : sameList (labels h3 2) (0 ∷ 1 ∷ 0 ∷ 2 ∷ 2 ∷ []) ≡ true
+unfolding adjacent componentAt components labels
+worked-labels = refl
+
+-- patches worked by hand: the picture, the patch number of each place, the line, and the six figures of each patch with its centre in tenths
+pub record PatchRow : Type 0 where
+  pub picture : Picture
+  pub places : List ℕ
+  pub line : ℕ
+  pub figures : List (List ℕ)
+
+abbrev patchRow : Picture → List ℕ → ℕ → List (List ℕ) → PatchRow
+patchRow p xs l fs = record { picture = p; places = xs; line = l; figures = fs }
+
+-- the watershed of H3, whose hold list is given; a deep patch beside a shallow one; a picture of one patch
+abbrev pub patch-rows : List PatchRow
+patch-rows =
+    patchRow (picture 4 5 1 (1 ∷ 1 ∷ 4 ∷ 0 ∷ 0 ∷ [])) (1 ∷ 1 ∷ 0 ∷ 2 ∷ 2 ∷ []) 1
+    ((1 ∷ 2 ∷ 1 ∷ 3 ∷ 5 ∷ 0 ∷ []) ∷ (2 ∷ 2 ∷ 0 ∷ 4 ∷ 35 ∷ 0 ∷ []) ∷ []) ∷
+    patchRow (picture 4 5 1 (0 ∷ 2 ∷ 1 ∷ 9 ∷ 5 ∷ [])) (1 ∷ 0 ∷ 2 ∷ 0 ∷ 3 ∷ []) 2
+    ((1 ∷ 1 ∷ 0 ∷ 2 ∷ 0 ∷ 0 ∷ []) ∷ (2 ∷ 1 ∷ 1 ∷ 1 ∷ 20 ∷ 0 ∷ []) ∷ (3 ∷ 1 ∷ 5 ∷ 4 ∷ 40 ∷ 0 ∷ []) ∷ []) ∷
+    patchRow (picture 8 1 2 (0 ∷ 255 ∷ [])) (1 ∷ 0 ∷ []) 1 ((1 ∷ 1 ∷ 0 ∷ 255 ∷ 0 ∷ 0 ∷ []) ∷ []) ∷
+    []
+
+-- the figures of a patch: number, size, height, depth, centre column and centre row
+abbrev pub figuresOf : Patch → List ℕ
+figuresOf q =
+    q .number ∷ q .size ∷ q .height ∷ q .depth ∷ centre (q .columns) (q .size) ∷ centre (q .rows) (q .size) ∷ []
+
+abbrev pub sameLists : List (List ℕ) → List (List ℕ) → Bool
+sameLists [] [] = true
+sameLists [] (y ∷ ys) = false
+sameLists (x ∷ xs) [] = false
+sameLists (x ∷ xs) (y ∷ ys) = sameList x y && sameLists xs ys
+
+-- a row has the picture's patch numbers, line and figures
+abbrev pub patchesHold : PatchRow → Bool
+patchesHold r =
+    let p = r .picture in
+    sameList (map (patchAt p) (range 0 (places p))) (r .places) &&
+    (eqb (lineCount p) (r .line) && sameLists (map figuresOf (patches p)) (r .figures))
+
+-- each worked picture has the patches of its row
+pub worked-patches : all patchesHold patch-rows ≡ true
+unfolding adjacent componentAt components isBranch nodesAt nodes fatherOf isLeaf patchNodes depthOf patchOf patches patchAt lineCount
+worked-patches = refl
