@@ -1,0 +1,3 @@
+-- Numbers as decimal digits, and bytes written behind one another.
+pub mod Decimal
+pub mod Writing

@@ -1,0 +1,63 @@
+// Numbers and bytes written as text.
+ghost use mathlib.Core.List.{[], _∷_, _++_};
+ghost use Prim.Native.Nat.{suc, _+_, _<_, _≤_};
+ghost use lib.ListN.{length};
+ghost use Rattle.text.specs.Decimal.{decimal, fields};
+ghost use Rattle.text.specs.Writing.{Written};
+
+// Writes one byte and answers the place behind it.
+pub fn put(out: &mut [u8], at: usize, byte: u8) -> usize
+    requires { ⌜ at < length (now out) ⌝ }
+    ensures { λ r. ⌜ Written at (byte ∷ []) (now (out .entry)) r (now (out .exit)) ⌝ }
+{
+    out[at] = byte;
+    at + 1
+}
+
+// Writes the bytes of a text and answers the place behind them.
+pub fn put_bytes(out: &mut [u8], at: usize, bytes: &[u8]) -> usize
+    requires { ⌜ at + length (now bytes) ≤ length (now out) ⌝ }
+    ensures { λ r. ⌜ Written at (now (bytes .entry)) (now (out .entry)) r (now (out .exit)) ⌝ }
+{
+    let mut i = 0;
+    while i < bytes.len() {
+        out[at + i] = bytes[i];
+        i += 1;
+    }
+    at + i
+}
+
+// Writes a number in decimal digits and answers the place behind them.
+pub fn put_number(out: &mut [u8], at: usize, n: u32) -> usize
+    requires { ⌜ at + length (decimal n) ≤ length (now out) ⌝ }
+    ensures { λ r. ⌜ Written at (decimal n) (now (out .entry)) r (now (out .exit)) ⌝ }
+{
+    if n < 10 {
+        return put(out, at, 48 + n as u8);
+    }
+    let next = put_number(out, at, n / 10);
+    put(out, next, 48 + (n % 10) as u8)
+}
+
+// Writes a number and one byte behind it, and answers the place behind both.
+fn put_field(out: &mut [u8], at: usize, n: u32, byte: u8) -> usize
+    requires { ⌜ at + suc (length (decimal n)) ≤ length (now out) ⌝ }
+    ensures { λ r. ⌜ Written at (decimal n ++ (byte ∷ [])) (now (out .entry)) r (now (out .exit)) ⌝ }
+{
+    let next = put_number(out, at, n);
+    put(out, next, byte)
+}
+
+// Writes numbers parted by single spaces, then byte 10, and answers the place behind them.
+pub fn put_fields(out: &mut [u8], at: usize, ns: &[u32]) -> usize
+    requires { ⌜ (1 ≤ length (now ns)) × (at + length (fields (now ns)) ≤ length (now out)) ⌝ }
+    ensures { λ r. ⌜ Written at (fields (now (ns .entry))) (now (out .entry)) r (now (out .exit)) ⌝ }
+{
+    let mut to = at;
+    let mut i = 0;
+    while i + 1 < ns.len() {
+        to = put_field(out, to, ns[i], 32);
+        i += 1;
+    }
+    put_field(out, to, ns[i], 10)
+}
