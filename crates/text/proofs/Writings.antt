@@ -1,12 +1,13 @@
 -- Laws of writing: nothing, one byte, more behind it.
 use mathlib.Core.Path.{_≡_, refl, sym, ap, subst, _∙_}
 use mathlib.Core.List.{List, [], _∷_, _++_, append-assoc}
-use Prim.Native.Nat.{ℕ, zero, suc, _+_, _/_, _%_, _≤_, _<_}
+use Prim.Native.Nat.{ℕ, zero, suc, _+_, _-_, _/_, _%_, _≤_, _<_}
 use native.Mathlib.Omega.{arith}
 use native.Mathlib.Numerals.{add-one}
 use lib.ListN.{length, getD, take, drop, set, length-append, length-drop, take-append-drop}
 use lib.Seq.{set-split, take-suc, take-at, drop-at, length-take-le, drop-drop}
 use Rattle.text.specs.Decimal.{decimal, fields, spaced}
+use Rattle.text.specs.Little.{littleEndian}
 use Rattle.text.proofs.Decimals.{decimal-one, decimal-more, fields-last, spaced-next, spaced-room}
 use Rattle.text.specs.Writing.{Written}
 
@@ -117,3 +118,14 @@ field-room ns a b at to i h r w =
     let k = spaced-room ns i h in
     let l = written-length (omega arith) w in
     omega arith
+
+-- no byte of a number, and one byte before the others
+pub little-none : (l n at : ℕ) (a : List ℕ) → l ≡ 0 → Written at (littleEndian l n) a at a
+little-none l n at a e = subst (λ (k : ℕ). Written at (littleEndian k n) a at a) (sym e) (written-none a at)
+
+pub little-more :
+    (l n : ℕ) {at m to : ℕ} {a b c : List ℕ} → 1 ≤ l → at ≤ length a →
+    Written at (n % 256 ∷ []) a m b → Written m (littleEndian (l - 1) (n / 256)) b to c → Written at (littleEndian l n) a to c
+little-more l n {at} {m} {to} {a} {b} {c} h r v w =
+    let e : suc (l - 1) ≡ l = omega arith in
+    subst (λ (k : ℕ). Written at (littleEndian k n) a to c) e (written-then r v w)

@@ -1,3 +1,4 @@
--- Numbers as decimal digits, and bytes written behind one another.
+-- Numbers as decimal digits and as bytes, written behind one another.
 pub mod Decimal
+pub mod Little
 pub mod Writing

@@ -3,6 +3,7 @@ ghost use mathlib.Core.List.{[], _∷_, _++_};
 ghost use Prim.Native.Nat.{suc, _+_, _<_, _≤_};
 ghost use lib.ListN.{length};
 ghost use Rattle.text.specs.Decimal.{decimal, fields};
+ghost use Rattle.text.specs.Little.{littleEndian};
 ghost use Rattle.text.specs.Writing.{Written};
 
 // Writes one byte and answers the place behind it.
@@ -60,4 +61,16 @@ pub fn put_fields(out: &mut [u8], at: usize, ns: &[u32]) -> usize
         i += 1;
     }
     put_field(out, to, ns[i], 10)
+}
+
+// Writes a number as l bytes, the lowest first, and answers the place behind them.
+pub fn put_little(out: &mut [u8], at: usize, n: u64, l: usize) -> usize
+    requires { ⌜ at + l ≤ length (now out) ⌝ }
+    ensures { λ r. ⌜ Written at (littleEndian l n) (now (out .entry)) r (now (out .exit)) ⌝ }
+{
+    if l == 0 {
+        return at;
+    }
+    let next = put(out, at, (n % 256) as u8);
+    put_little(out, next, n / 256, l - 1)
 }
