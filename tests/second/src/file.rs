@@ -1,0 +1,198 @@
+//! Reading a P5 file.
+
+/// A refusal: its number, and for 2 the offset of the first unfit byte
+/// (or the file's length), for 6 the first place of a pixel too large.
+#[derive(Clone, Debug, PartialEq)]
+pub struct Refusal {
+    pub number: u32,
+    pub detail: Option<usize>,
+}
+
+/// What an accepted file answers. Its pixels are the bytes from `offset`
+/// to the end of the file.
+#[derive(Clone, Debug, PartialEq)]
+pub struct Accepted {
+    pub width: usize,
+    pub height: usize,
+    pub largest: usize,
+    pub offset: usize,
+}
+
+/// The longest input that the program `holds` takes.
+pub const INPUT_LIMIT: usize = 4096;
+
+fn refuse(number: u32) -> Refusal {
+    Refusal {
+        number,
+        detail: None,
+    }
+}
+
+fn refuse_at(number: u32, detail: usize) -> Refusal {
+    Refusal {
+        number,
+        detail: Some(detail),
+    }
+}
+
+fn is_white_space(byte: u8) -> bool {
+    byte == 9 || byte == 10 || byte == 13 || byte == 32
+}
+
+fn is_digit(byte: u8) -> bool {
+    (48..=57).contains(&byte)
+}
+
+/// Walks white space, at least one byte, and then 1 to 5 digits.
+/// Answers the number and the position behind its last digit.
+fn walk_number(file: &[u8], start: usize) -> Result<(usize, usize), Refusal> {
+    let mut position = start;
+    if position == file.len() || !is_white_space(file[position]) {
+        return Err(refuse_at(2, position));
+    }
+    while position < file.len() && is_white_space(file[position]) {
+        position += 1;
+    }
+    if position == file.len() || !is_digit(file[position]) {
+        return Err(refuse_at(2, position));
+    }
+    let mut value = 0;
+    let mut digits = 0;
+    while position < file.len() && is_digit(file[position]) {
+        if digits == 5 {
+            return Err(refuse_at(2, position));
+        }
+        value = 10 * value + usize::from(file[position] - 48);
+        digits += 1;
+        position += 1;
+    }
+    Ok((value, position))
+}
+
+/// Reads a P5 file: the answer, or one of the refusals 1 to 6.
+pub fn read(file: &[u8]) -> Result<Accepted, Refusal> {
+    if file.len() < 2 || file[0] != 80 || file[1] != 53 {
+        return Err(refuse(1));
+    }
+    let (width, position) = walk_number(file, 2)?;
+    let (height, position) = walk_number(file, position)?;
+    let (largest, position) = walk_number(file, position)?;
+    if position == file.len() || !is_white_space(file[position]) {
+        return Err(refuse_at(2, position));
+    }
+    let offset = position + 1;
+
+    // Ranges, only after the whole header.
+    if !(1..=40).contains(&width) || !(1..=40).contains(&height) {
+        return Err(refuse(3));
+    }
+    if !(1..=255).contains(&largest) {
+        return Err(refuse(4));
+    }
+    let pixels = &file[offset..];
+    if pixels.len() != width * height {
+        return Err(refuse(5));
+    }
+    for (place, pixel) in pixels.iter().enumerate() {
+        if usize::from(*pixel) > largest {
+            return Err(refuse_at(6, place));
+        }
+    }
+    Ok(Accepted {
+        width,
+        height,
+        largest,
+        offset,
+    })
+}
+
+/// Reads the input of the program `holds`: refusal 12 first, then 1 to 6.
+pub fn read_input(input: &[u8]) -> Result<Accepted, Refusal> {
+    if input.len() > INPUT_LIMIT {
+        return Err(refuse(12));
+    }
+    read(input)
+}
+
+#[cfg(test)]
+mod tests {
+    use super::*;
+
+    fn number_and_detail(file: &[u8]) -> (u32, Option<usize>) {
+        match read(file) {
+            Ok(_) => (0, None),
+            Err(refusal) => (refusal.number, refusal.detail),
+        }
+    }
+
+    #[test]
+    fn accepted() {
+        let file = b"P5\t\r\n 00002 001\n9 \x09\x00";
+        let accepted = Accepted {
+            width: 2,
+            height: 1,
+            largest: 9,
+            offset: 18,
+        };
+        assert_eq!(read(file), Ok(accepted));
+    }
+
+    #[test]
+    fn does_not_begin_with_p5() {
+        assert_eq!(number_and_detail(b""), (1, None));
+        assert_eq!(number_and_detail(b"P"), (1, None));
+        assert_eq!(number_and_detail(b"P6\n1 1\n9\n\x00"), (1, None));
+        assert_eq!(number_and_detail(b"p5\n1 1\n9\n\x00"), (1, None));
+        assert_eq!(number_and_detail(b" P5\n1 1\n9\n\x00"), (1, None));
+    }
+
+    #[test]
+    fn header_not_well_formed() {
+        // The file ends too soon: the offset is the file's length.
+        let whole = b"P5\n12 34\n255\n";
+        for length in 2..whole.len() {
+            assert_eq!(number_and_detail(&whole[..length]), (2, Some(length)));
+        }
+        assert_eq!(number_and_detail(whole), (5, None));
+        // White space is missing.
+        assert_eq!(number_and_detail(b"P51 1\n9\n\x00"), (2, Some(2)));
+        assert_eq!(number_and_detail(b"P5\n1,1\n9\n\x00"), (2, Some(4)));
+        assert_eq!(number_and_detail(b"P5\n1 1\n9#\x00"), (2, Some(8)));
+        // Byte 11 and byte 12 are not white space.
+        assert_eq!(number_and_detail(b"P5\x0b1 1\n9\n\x00"), (2, Some(2)));
+        assert_eq!(number_and_detail(b"P5\n1\x0c1\n9\n\x00"), (2, Some(4)));
+        // The number is missing.
+        assert_eq!(number_and_detail(b"P5\n-1 1\n9\n\x00"), (2, Some(3)));
+        assert_eq!(number_and_detail(b"P5\n# no\n1 1\n9\n\x00"), (2, Some(3)));
+        assert_eq!(number_and_detail(b"P5\n1 /\n9\n\x00"), (2, Some(5)));
+        assert_eq!(number_and_detail(b"P5\n1 :\n9\n\x00"), (2, Some(5)));
+        // The sixth digit is unfit.
+        assert_eq!(number_and_detail(b"P5\n000001 1\n9\n\x00"), (2, Some(8)));
+        assert_eq!(number_and_detail(b"P5\n1 1\n000009\n\x00"), (2, Some(12)));
+        // The header comes before the ranges.
+        assert_eq!(number_and_detail(b"P5\n0 41\n0"), (2, Some(9)));
+    }
+
+    #[test]
+    fn ranges_in_order() {
+        assert_eq!(number_and_detail(b"P5\n0 1\n0\n"), (3, None));
+        assert_eq!(number_and_detail(b"P5\n1 41\n9\n"), (3, None));
+        assert_eq!(number_and_detail(b"P5\n99999 99999\n9\n"), (3, None));
+        assert_eq!(number_and_detail(b"P5\n1 1\n0\n"), (4, None));
+        assert_eq!(number_and_detail(b"P5\n1 1\n256\n"), (4, None));
+        assert_eq!(number_and_detail(b"P5\n2 1\n9\n\xff"), (5, None));
+        assert_eq!(number_and_detail(b"P5\n2 1\n9\n\xff\xff\xff"), (5, None));
+        assert_eq!(number_and_detail(b"P5\n2 1\n9\n\x09\x0a"), (6, Some(1)));
+        assert_eq!(number_and_detail(b"P5\n2 1\n9\n\xff\xff"), (6, Some(0)));
+        assert_eq!(number_and_detail(b"P5\n2 1\n9\n\x09\x09"), (0, None));
+    }
+
+    #[test]
+    fn input_over_the_limit() {
+        let mut input = b"no".to_vec();
+        input.resize(4096, 0);
+        assert_eq!(read_input(&input), Err(refuse(1)));
+        input.push(0);
+        assert_eq!(read_input(&input), Err(refuse(12)));
+    }
+}

@@ -1,0 +1,271 @@
+//! The pictures worked by hand, and small pictures compared between the
+//! literal and the quick module.
+
+use crate::holds;
+use crate::literal::{self, Adjacency, Patch, Picture, PlaceAnswer, Tree, NO_FATHER};
+use crate::quick;
+use crate::random::Random;
+
+/// A picture from its rows, parted by slashes.
+fn picture(rows: &str, adjacency: Adjacency) -> Picture {
+    let rows: Vec<Vec<u8>> = rows
+        .split('/')
+        .map(|row| {
+            row.split_whitespace()
+                .map(|word| word.parse().unwrap())
+                .collect()
+        })
+        .collect();
+    Picture {
+        width: rows[0].len(),
+        height: rows.len(),
+        pixels: rows.concat(),
+        adjacency,
+    }
+}
+
+fn four(rows: &str) -> Picture {
+    picture(rows, Adjacency::Four)
+}
+
+/// Mark, picture, watershed.
+fn table() -> Vec<(&'static str, Picture, Picture)> {
+    let eight = |rows| picture(rows, Adjacency::Eight);
+    vec![
+        ("H1", four("9"), four("9")),
+        ("H2", four("0 1"), four("0 0")),
+        ("H3", four("3 1 4 0 2"), four("1 1 4 0 0")),
+        ("H4", four("0 5 / 5 0"), four("0 5 / 5 0")),
+        ("H5", eight("0 5 / 5 0"), eight("0 0 / 0 0")),
+        (
+            "H6",
+            four("7 7 7 / 7 7 7 / 7 7 7"),
+            four("7 7 7 / 7 7 7 / 7 7 7"),
+        ),
+        (
+            "H7",
+            four("0 0 0 / 0 5 0 / 0 0 0"),
+            four("0 0 0 / 0 0 0 / 0 0 0"),
+        ),
+        ("H8", four("0 3 3 3 1"), four("0 0 0 3 1")),
+        ("H9", four("0 3 3 1"), four("0 0 3 1")),
+        ("H10", four("0 5 2 / 3 3 3"), four("0 3 2 / 0 0 3")),
+    ]
+}
+
+#[test]
+fn watersheds_literal() {
+    for (mark, given, expected) in table() {
+        assert_eq!(literal::watershed(&given), expected, "{}", mark);
+    }
+}
+
+#[test]
+fn watersheds_quick() {
+    for (mark, given, expected) in table() {
+        assert_eq!(quick::watershed(&given), expected, "{}", mark);
+    }
+}
+
+#[test]
+fn tree_of_h3() {
+    let expected = Tree {
+        heights: vec![0, 1, 4],
+        first_places: vec![3, 1, 0],
+        fathers: vec![2, 2, NO_FATHER],
+        map: vec![1, 1, 2, 0, 0],
+    };
+    assert_eq!(literal::tree(&four("3 1 4 0 2")), expected);
+}
+
+#[test]
+fn tree_of_h10_and_its_pass() {
+    let given = four("0 5 2 / 3 3 3");
+    let expected = Tree {
+        heights: vec![0, 2, 3],
+        first_places: vec![0, 2, 0],
+        fathers: vec![2, 2, NO_FATHER],
+        map: vec![0, 2, 1, 2, 2, 2],
+    };
+    assert_eq!(literal::tree(&given), expected);
+    assert_eq!(literal::pass(&given, 0, 2), 3);
+}
+
+#[test]
+fn tree_of_one_node() {
+    let expected = Tree {
+        heights: vec![9],
+        first_places: vec![0],
+        fathers: vec![NO_FATHER],
+        map: vec![0],
+    };
+    assert_eq!(literal::tree(&four("9")), expected);
+}
+
+#[test]
+fn passes_of_h3() {
+    let given = four("3 1 4 0 2");
+    assert_eq!(literal::pass(&given, 0, 0), 3);
+    assert_eq!(literal::pass(&given, 0, 1), 3);
+    assert_eq!(literal::pass(&given, 3, 4), 2);
+    assert_eq!(literal::pass(&given, 1, 3), 4);
+}
+
+#[test]
+fn labels_of_h3() {
+    let given = four("3 1 4 0 2");
+    assert_eq!(literal::labels(&given, 0), [0, 0, 0, 1, 0]);
+    assert_eq!(literal::labels(&given, 1), [0, 1, 0, 2, 0]);
+    assert_eq!(literal::labels(&given, 3), [1, 1, 0, 2, 2]);
+    assert_eq!(literal::labels(&given, 255), [1, 1, 1, 1, 1]);
+}
+
+#[test]
+fn lowerable_pixels_of_h3() {
+    let given = four("3 1 4 0 2");
+    let answers: Vec<bool> = (0..5)
+        .map(|place| literal::lowerable(&given, place))
+        .collect();
+    assert_eq!(answers, [true, false, false, false, true]);
+}
+
+#[test]
+fn patches_and_places_of_h3() {
+    let given = four("3 1 4 0 2");
+    let record = |number, height, depth, column_sum| Patch {
+        number,
+        size: 1,
+        height,
+        depth,
+        column_sum,
+        row_sum: 0,
+    };
+    let expected = vec![record(1, 1, 3, 1), record(2, 0, 4, 3)];
+    assert_eq!(literal::patches(&given), expected);
+    let answer = |value, patch| PlaceAnswer { value, patch };
+    assert_eq!(literal::place_query(&given, 0), answer(3, None));
+    assert_eq!(literal::place_query(&given, 1), answer(1, Some(1)));
+    assert_eq!(literal::place_query(&given, 3), answer(0, Some(2)));
+}
+
+#[test]
+fn depth_of_a_lone_patch() {
+    let patches = literal::patches(&four("2 7 / 3 9"));
+    assert_eq!(patches.len(), 1);
+    assert_eq!(patches[0].depth, 7);
+}
+
+#[test]
+fn holds_of_h3() {
+    let text = holds::text(b"P5\n5 1\n9\n\x03\x01\x04\x00\x02");
+    assert_eq!(
+        text,
+        "picture 5 1\npatches 2 line 1\n1 2 1 3 5 0\n2 2 0 4 35 0\n"
+    );
+}
+
+#[test]
+fn holds_of_a_refused_file() {
+    assert_eq!(holds::text(b"P5\n41 1\n9\n"), "refused 3\n");
+}
+
+#[test]
+fn literal_and_quick_agree_on_small_pictures() {
+    let mut random = Random::new(1);
+    for _ in 0..250 {
+        let width = random.between(1, 5);
+        let height = random.between(1, 4);
+        let largest = random.between(1, 6);
+        let base = random.one_of(&[0, 0, 0, 7, 249]);
+        let given = Picture {
+            width,
+            height,
+            pixels: (0..width * height)
+                .map(|_| (base + random.below(largest + 1)) as u8)
+                .collect(),
+            adjacency: random.one_of(&[Adjacency::Four, Adjacency::Eight]),
+        };
+        let lowered = literal::watershed(&given);
+        assert_eq!(quick::watershed(&given), lowered, "{:?}", given);
+        assert!((0..given.count()).all(|place| !literal::lowerable(&lowered, place)));
+        for picture in [&given, &lowered] {
+            assert_eq!(
+                quick::patches(picture),
+                literal::patches(picture),
+                "{:?}",
+                picture
+            );
+            for place in 0..picture.count() {
+                assert_eq!(
+                    quick::place_query(picture, place),
+                    literal::place_query(picture, place),
+                    "{:?}",
+                    picture
+                );
+            }
+        }
+    }
+}
+
+#[test]
+fn watershed_keeps_parts_heights_fathers_and_passes() {
+    let mut random = Random::new(2);
+    for _ in 0..100 {
+        let width = random.between(1, 4);
+        let height = random.between(1, 4);
+        let given = Picture {
+            width,
+            height,
+            pixels: (0..width * height).map(|_| random.below(6) as u8).collect(),
+            adjacency: random.one_of(&[Adjacency::Four, Adjacency::Eight]),
+        };
+        let lowered = quick::watershed(&given);
+        assert!(literal::keeps_parts(&given, &lowered), "{:?}", given);
+
+        // Nodes are partners when their heights are equal and the first
+        // one's component lies in the second one's.
+        let nodes = literal::nodes(&given);
+        let lowered_nodes = literal::nodes(&lowered);
+        let tree = literal::tree(&given);
+        let lowered_tree = literal::tree(&lowered);
+        assert_eq!(nodes.len(), lowered_nodes.len(), "{:?}", given);
+        let partner = |number: usize| {
+            if number == NO_FATHER {
+                return NO_FATHER;
+            }
+            let found: Vec<usize> = (0..lowered_nodes.len())
+                .filter(|other| {
+                    nodes[number].height == lowered_nodes[*other].height
+                        && nodes[number].lies_in(&lowered_nodes[*other])
+                })
+                .collect();
+            assert_eq!(found.len(), 1, "{:?}", given);
+            found[0]
+        };
+        for number in 0..nodes.len() {
+            let father_of_partner = lowered_tree.fathers[partner(number)];
+            assert_eq!(
+                partner(tree.fathers[number]),
+                father_of_partner,
+                "{:?}",
+                given
+            );
+        }
+
+        // The passes between two different minima are kept.
+        let minima = literal::minima(&given);
+        for one in &minima {
+            for other in &minima {
+                let (one, other) = (one.first_place(), other.first_place());
+                if one != other {
+                    assert_eq!(
+                        literal::pass(&given, one, other),
+                        literal::pass(&lowered, one, other),
+                        "{:?}",
+                        given
+                    );
+                }
+            }
+        }
+    }
+}
