@@ -12,15 +12,18 @@ use borrow.Author.Tests.{eq-eqb, le-leb, leb-true, leb-false}
 use Rattle.picture.specs.Lists.{pick, isIn}
 use Rattle.picture.specs.Pictures.{Picture, places, valueAt, distance, adjacent, touch}
 use Rattle.picture.specs.Components.{inSection, componentAt, passFrom, pass}
+use Rattle.picture.proofs.Neighbours.{distance-is}
 use Rattle.topology.proofs.Tests.{and-left, and-right, and-both, on-pick, on-elim, on-test, clash}
 use Rattle.topology.proofs.Connected.{start, step, conn-trans, conn-source}
-use Rattle.topology.proofs.Adjacency.{Adj, At, Joined, distance-same, adj-sym, joined-sym, section-at, at-section}
+use Rattle.topology.proofs.Adjacency.{Adj, At, Joined, adj-sym, joined-sym, section-at, at-section}
 use Rattle.topology.proofs.Reached.{in-joined, joined-in}
 use Rattle.topology.proofs.Accepted.{Accepted, byte-at}
 
+distance-same : (a : ℕ) → distance a a ≡ 0
+distance-same a = distance-is a a ∙ omega arith
+
 distance-next : (a b : ℕ) → a ≡ suc b → distance a b ≡ 1
-distance-next a b h =
-    on-pick (λ (d : ℕ). d ≡ 1) (leb a b) (λ e. absurd (let q = leb-true a b e in omega arith)) (λ e. omega arith)
+distance-next a b h = distance-is a b ∙ omega arith
 
 -- places that differ by one in column or row alone are neighbours under either adjacency
 step-adjacent : (a w x y : ℕ) → distance (x % w) (y % w) + distance (x / w) (y / w) ≡ 1 → adjacent a w x y ≡ true

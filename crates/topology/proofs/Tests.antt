@@ -1,16 +1,7 @@
 -- Tests and what they say: the Boolean connectives, and cases on a test that a definition is stuck on.
 use mathlib.Core.Path.{_≡_, refl, sym, _∙_}
 use mathlib.Core.Bool.{Bool, true, false, _&&_, _||_, not, true≢false, false≢true}
-use mathlib.Core.Logic.{_⊎_, inl, inr}
-use Rattle.picture.specs.Lists.{pick}
-
-pub and-left : (a b : Bool) → (a && b) ≡ true → a ≡ true
-and-left true b h = refl
-and-left false b h = h
-
-pub and-right : (a b : Bool) → (a && b) ≡ true → b ≡ true
-and-right true b h = h
-and-right false b h = absurd (false≢true h)
+pub use Rattle.picture.proofs.Lists.{and-left, and-right, or-cases, on-pick}
 
 pub and-both : (a b : Bool) → a ≡ true → b ≡ true → (a && b) ≡ true
 and-both true b p q = q
@@ -23,10 +14,6 @@ or-left false b p = absurd (false≢true p)
 pub or-right : (a b : Bool) → b ≡ true → (a || b) ≡ true
 or-right true b p = refl
 or-right false b p = p
-
-pub or-cases : (a b : Bool) → (a || b) ≡ true → (a ≡ true) ⊎ (b ≡ true)
-or-cases true b h = inl refl
-or-cases false b h = inr h
 
 pub not-of-false : (a : Bool) → a ≡ false → not a ≡ true
 not-of-false true h = absurd (true≢false h)
@@ -50,11 +37,7 @@ pub on-test {ℓ} : {C : Type ℓ} (b : Bool) → (b ≡ true → C) → (b ≡ 
 on-test true f g = f refl
 on-test false f g = g refl
 
--- what holds of either value holds of the one picked
-pub on-pick : {A : Type 0} (P : A → Type 0) (b : Bool) {x y : A} → (b ≡ true → P x) → (b ≡ false → P y) → P (pick b x y)
-on-pick P true f g = f refl
-on-pick P false f g = g refl
-
+-- what holds of either case holds of the one taken
 pub on-elim : {A : Type 0} (P : A → Type 0) (b : Bool) {x y : A} → (b ≡ true → P x) → (b ≡ false → P y) → P (elim b [ true ↦ x | false ↦ y ])
 on-elim P true f g = f refl
 on-elim P false f g = g refl
