@@ -1,0 +1,63 @@
+-- `p5::file::read` meets its contract. Assumes nothing.
+use mathlib.Core.Path.{sym, ap, _∙_}
+use borrow.Author.Tests.{not-true, not-false}
+use borrow.Author.Needs.{needs}
+use denote.Ref.{now}
+use Rattle.p5.specs.Files.{onHeader, onWalk, malformedAt}
+use Rattle.p5.proofs.Answers.{rest-is, read-other, read-p5}
+use Rattle.p5.proofs.Walking.{offset-within}
+use Rattle.p5.proofs.file.read.Statement.{statement}
+use Rattle.p5.proofs.file.read.Tie as tie
+
+begins-p5-requires : tie.Need-begins-p5-requires
+begins-p5-requires c κs = search needs
+
+returns : tie.Need-returns
+returns c = read-other _ (sym (c .before .begins-p5 .ensures) ∙ not-true _ (c .if1 .taken))
+
+walk-header-requires : tie.Need-walk-header-requires
+walk-header-requires c κs = search needs
+
+enum-known-walk : tie.Need-enum-known-walk
+enum-known-walk c = search needs
+
+enum-told : tie.Need-enum-told
+enum-told c = search needs
+
+malformed-requires : tie.Need-malformed-requires
+malformed-requires c κs = search needs
+
+returns-2 : tie.Need-returns-2
+returns-2 c = let t = c .before .enum-told .given in c .malformed .ensures ∙ ap malformedAt (t .1) ∙ sym (ap (onWalk (now (c .before .before .before .before .before .before .before .args .file))) (sym (c .before .before .before .walk-header .ensures) ∙ t .1)) ∙ read-p5 _ (sym (c .before .before .before .before .before .begins-p5 .ensures) ∙ not-false _ (c .before .before .before .before .if1 .left))
+
+sub-on-header : tie.Need-sub-on-header
+sub-on-header c = offset-within _ (sym (c .before .before .before .walk-header .ensures) ∙ c .before .walk .given .1)
+
+part-on-header-start : tie.Need-part-on-header-start
+part-on-header-start c = offset-within _ (sym (c .before .before .before .walk-header .ensures) ∙ c .before .walk .given .1)
+
+part-on-header-end : tie.Need-part-on-header-end
+part-on-header-end c = search needs
+
+on-header-requires : tie.Need-on-header-requires
+on-header-requires c κs = search needs
+
+returns-3 : tie.Need-returns-3
+returns-3 c = let f = now (c .before .before .before .before .before .before .before .before .before .args .file) in let w = c .before .before .before .walk .given in c .on-header .ensures ∙ ap (onHeader (w .0 .0)) (rest-is (w .0 .0 .offset) f) ∙ sym (ap (onWalk f) (sym (c .before .before .before .before .before .walk-header .ensures) ∙ w .1)) ∙ read-p5 f (sym (c .before .before .before .before .before .before .before .begins-p5 .ensures) ∙ not-false _ (c .before .before .before .before .before .before .if1 .left))
+
+pub read-spec : {M : Type 1} → statement M
+read-spec =
+    tie.close
+    (tie.spec
+    begins-p5-requires
+    returns
+    walk-header-requires
+    enum-known-walk
+    enum-told
+    malformed-requires
+    returns-2
+    sub-on-header
+    part-on-header-start
+    part-on-header-end
+    on-header-requires
+    returns-3)
