@@ -1,20 +1,24 @@
 -- Laws of the answer for a walked header, its pixels and a whole file. Assumes nothing.
-use mathlib.Core.Path.{_≡_}
+use mathlib.Core.Path.{_≡_, refl}
 use mathlib.Core.Bool.{true, false, _&&_}
 use mathlib.Core.List.{List}
-use Prim.Native.Nat.{ℕ, _*_, _-_, _≤_}
+use Prim.Native.Nat.{ℕ, _*_, _-_, _≤_, zero-le}
 use native.Mathlib.Nat.{mul-le-mul}
 use native.Mathlib.Omega.{arith}
 use borrow.Author.Tests.{leb-true, eq-eqb, ne-eqb}
-use lib.Dec.{leb}
+use lib.Dec.{eqb, leb}
 use lib.ListN.{length, take, drop, length-drop}
 use lib.Seq.{take-all}
 use Rattle.picture.specs.Pictures.{sideFits}
 use Rattle.p5.specs.declared.header.Header.{Header}
-use Rattle.p5.specs.declared.file.Outcome.the-variants.{Accepted, NotP5, SideOutside, LargestOutside, CountDiffers, PixelAbove}
+use Rattle.p5.specs.declared.header.Walk.{Walk}
+use Rattle.p5.specs.declared.header.Walk.the-variants.{Walked, Stopped}
+use Rattle.p5.specs.declared.file.Outcome.{Outcome}
+use Rattle.p5.specs.declared.file.Outcome.the-variants.{Accepted, NotP5, Malformed, SideOutside, LargestOutside, CountDiffers, PixelAbove}
 use Rattle.p5.specs.Headers.{beginsP5, leading, walk}
-use Rattle.p5.specs.Files.{largestFits, atMost, onPixels, onHeader, onWalk, readFile}
-use Rattle.p5.proofs.Tests.{and-second}
+use Rattle.p5.specs.Files.{largestFits, atMost, onPixels, onHeader, onWalk, readFile, numberOf, headerOf, noHeader}
+use Rattle.p5.proofs.Tests.{on-pick, and-second}
+use Rattle.p5.proofs.Walking.{offset-within}
 
 -- sides in range leave at most 1,600 places
 pub area : (w h : ℕ) → sideFits w ≡ true → sideFits h ≡ true → w * h ≤ 1600
@@ -59,3 +63,35 @@ module _ (f : List ℕ) where
   pub read-p5 : beginsP5 f ≡ true → onWalk f (walk f) ≡ readFile f
   unfolding readFile
   read-p5 e = rw e
+
+-- the offset of an answer lies within the file, 0 on a refusal
+header-within : (h : Header) (s : List ℕ) (n : ℕ) → h .offset ≤ n → headerOf (onHeader h s) .offset ≤ n
+unfolding onHeader onPixels
+header-within h s n e =
+    on-pick Within (sideFits (h .width) && sideFits (h .height))
+    (λ _. on-pick Within (largestFits (h .largest))
+    (λ _. on-pick Within (eqb (length s) (h .width * h .height))
+    (λ _. on-pick Within (eqb (leading (atMost (h .largest)) s) (length s)) (λ _. e) (λ _. zero-le))
+    (λ _. zero-le))
+    (λ _. zero-le))
+    (λ _. zero-le)
+  where
+    Within : Outcome → Type 0
+    Within o = headerOf o .offset ≤ n
+
+pub answer-within : (f : List ℕ) → headerOf (readFile f) .offset ≤ length f
+unfolding readFile
+answer-within f = on-pick (λ (o : Outcome). headerOf o .offset ≤ length f) (beginsP5 f) (λ _. walked (walk f) refl) (λ _. zero-le)
+  where
+    walked : (w : Walk) → walk f ≡ w → headerOf (onWalk f w) .offset ≤ length f
+    walked (Walked h) e = header-within h _ (length f) (offset-within f e)
+    walked (Stopped p) e = zero-le
+
+pub refused-header : (o : Outcome) → (numberOf o ≡ 0 → ⊥) → headerOf o ≡ noHeader
+refused-header (Accepted h) n = absurd (n refl)
+refused-header NotP5 n = refl
+refused-header (Malformed p) n = refl
+refused-header SideOutside n = refl
+refused-header LargestOutside n = refl
+refused-header CountDiffers n = refl
+refused-header (PixelAbove x) n = refl
