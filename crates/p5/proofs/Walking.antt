@@ -13,7 +13,7 @@ use Rattle.p5.specs.declared.header.Header.{Header}
 use Rattle.p5.specs.declared.header.Walk.{Walk}
 use Rattle.p5.specs.declared.header.Walk.the-variants.{Walked, Stopped}
 use Rattle.p5.specs.Headers.{isWhite, endAt, numberAt, fromWidth, fromHeight, fromLargest, walk}
-use Rattle.p5.proofs.Tests.{on-pick}
+use Rattle.p5.proofs.Tests.{on-pick, clash}
 
 module _ (f : List ℕ) (w h m p : ℕ) where
   pub end-white : isWhite (getD f p 0) ≡ true → Walked (record { width = w; height = h; largest = m; offset = p + 1 }) ≡ endAt f w h m p
@@ -28,13 +28,13 @@ module _ (f : List ℕ) (w h m p : ℕ) where
   unfolding endAt
   end-past e = rw (List·getD-eq-default f 0 e)
 
-  -- a byte that is white space lies within the file
-  pub white-within : isWhite (getD f p 0) ≡ true → p < length f
-  white-within e = within (ltb p (length f)) refl
-    where
-      within : (b : Bool) → ltb p (length f) ≡ b → p < length f
-      within true t = ltb-true _ _ t
-      within false t = absurd (let z : false ≡ true = sym (ap isWhite (List·getD-eq-default f 0 (ltb-false _ _ t))) ∙ e in let y : _≡_ {A = ℕ} 0 1 = cc in omega arith)
+-- a byte that is white space lies within the file
+pub white-within : (f : List ℕ) (p : ℕ) → isWhite (getD f p 0) ≡ true → p < length f
+white-within f p e = within (ltb p (length f)) refl
+  where
+    within : (b : Bool) → ltb p (length f) ≡ b → p < length f
+    within true t = ltb-true _ _ t
+    within false t = absurd (clash (sym (ap isWhite (List·getD-eq-default f 0 (ltb-false _ _ t))) ∙ e))
 
 -- the walk by the answers of the three numbers
 module _ (f : List ℕ) where
@@ -56,29 +56,33 @@ module _ (f : List ℕ) where
       unfolding walk
       walk-end e = sym (ap (fromWidth f) first ∙ ap (fromHeight f w) second ∙ ap (fromLargest f w h) e)
 
--- the pixels begin within the file
-abbrev Within : List ℕ → Walk → Type 0
-Within f (Walked h) = h .offset ≤ length f
-Within f (Stopped p) = Unit {0}
+-- how a walk ends: with a whole header, or at one of the three numbers or at the last byte
+pub data Walking (f : List ℕ) : Walk → Type 0 where
+  whole : {w a h b m c : ℕ} → numberAt f 2 ≡ Number w a → numberAt f a ≡ Number h b → numberAt f b ≡ Number m c → isWhite (getD f c 0) ≡ true → Walking f (Walked (record { width = w; height = h; largest = m; offset = c + 1 }))
+  first : {p : ℕ} → numberAt f 2 ≡ Unfit p → Walking f (Stopped p)
+  second : {w a p : ℕ} → numberAt f 2 ≡ Number w a → numberAt f a ≡ Unfit p → Walking f (Stopped p)
+  third : {w a h b p : ℕ} → numberAt f 2 ≡ Number w a → numberAt f a ≡ Number h b → numberAt f b ≡ Unfit p → Walking f (Stopped p)
+  fourth : {w a h b m c : ℕ} → numberAt f 2 ≡ Number w a → numberAt f a ≡ Number h b → numberAt f b ≡ Number m c → isWhite (getD f c 0) ≡ false → Walking f (Stopped c)
 
-pub walk-within : (f : List ℕ) → Within f (walk f)
+pub walking : (f : List ℕ) → Walking f (walk f)
 unfolding walk endAt
-walk-within f = after-width (numberAt f 2)
+walking f = from-width (numberAt f 2) refl
   where
-    at-end : (w h m p : ℕ) → Within f (endAt f w h m p)
-    at-end w h m p = on-pick (Within f) (isWhite (getD f p 0)) (λ e. omega (arith, white-within f w h m p e)) (λ e. tt)
+    from-largest : {w a h b : ℕ} → numberAt f 2 ≡ Number w a → numberAt f a ≡ Number h b → (x : Field) → numberAt f b ≡ x → Walking f (fromLargest f w h x)
+    from-largest e g (Number m p) k = on-pick (Walking f) (isWhite (getD f p 0)) (whole e g k) (fourth e g k)
+    from-largest e g (Unfit p) k = third e g k
 
-    after-largest : (w h : ℕ) (x : Field) → Within f (fromLargest f w h x)
-    after-largest w h (Number m p) = at-end w h m p
-    after-largest w h (Unfit p) = tt
+    from-height : {w a : ℕ} → numberAt f 2 ≡ Number w a → (x : Field) → numberAt f a ≡ x → Walking f (fromHeight f w x)
+    from-height e (Number h p) g = from-largest e g (numberAt f p) refl
+    from-height e (Unfit p) g = second e g
 
-    after-height : (w : ℕ) (x : Field) → Within f (fromHeight f w x)
-    after-height w (Number h p) = after-largest w h (numberAt f p)
-    after-height w (Unfit p) = tt
+    from-width : (x : Field) → numberAt f 2 ≡ x → Walking f (fromWidth f x)
+    from-width (Number w p) e = from-height e (numberAt f p) refl
+    from-width (Unfit p) e = first e
 
-    after-width : (x : Field) → Within f (fromWidth f x)
-    after-width (Number w p) = after-height w (numberAt f p)
-    after-width (Unfit p) = tt
-
+-- the pixels begin within the file
 pub offset-within : (f : List ℕ) {h : Header} → walk f ≡ Walked h → h .offset ≤ length f
-offset-within f e = subst (Within f) e (walk-within f)
+offset-within f e = ends (subst (Walking f) e (walking f))
+  where
+    ends : {h : Header} → Walking f (Walked h) → h .offset ≤ length f
+    ends (whole {c = c} e g k i) = omega (arith, white-within f c i)

@@ -1,0 +1,50 @@
+-- An accepted file is exactly a file of the shape, and the answer is the shape's header. Assumes nothing.
+use mathlib.Core.Path.{_≡_, sym, ap, subst, _∙_}
+use mathlib.Core.Bool.{true, _&&_}
+use mathlib.Core.Logic.{_↔_}
+use mathlib.Core.List.{List}
+use Prim.Native.Nat.{ℕ}
+use borrow.Author.Tests.{leb-true, le-leb}
+use lib.Dec.{leb}
+use Rattle.picture.specs.Pictures.{sideFits}
+use Rattle.p5.specs.declared.header.Header.{Header}
+use Rattle.p5.specs.declared.file.Outcome.the-variants.{Accepted}
+use Rattle.p5.specs.Files.{atMost, onHeader, onWalk, readFile}
+use Rattle.p5.specs.Shapes.{Inside, Accepts}
+use Rattle.p5.proofs.Tests.{and-both, and-first, and-second}
+use Rattle.p5.proofs.Leading.{leading-below, leading-full}
+use Rattle.p5.proofs.Answers.{pixels-fit, count-fits, read-p5}
+use Rattle.p5.proofs.Shape.{headed-begins, headed-walk, headed-rest}
+use Rattle.p5.proofs.Verdicts.{Verdict, verdict, fits}
+
+pub inside : (low high x : ℕ) → leb low x && leb x high ≡ true → Inside low high x
+inside low high x e = (leb-true low x (and-first (leb low x) _ e), leb-true x high (and-second (leb low x) _ e))
+
+pub fits-inside : {low high x : ℕ} → Inside low high x → leb low x && leb x high ≡ true
+fits-inside i = and-both (le-leb _ _ (i .0)) (le-leb _ _ (i .1))
+
+accepts-of : (f : List ℕ) (h : Header) → Verdict f (Accepted h) → Accepts f h
+accepts-of f h (fits {s = s} k sides large count all) =
+    record {
+      pixels = s;
+      headed = k;
+      width = inside 1 40 (h .width) (and-first (sideFits (h .width)) _ sides);
+      height = inside 1 40 (h .height) (and-second (sideFits (h .width)) _ sides);
+      largest = inside 1 255 (h .largest) large;
+      count = count;
+      most = λ i l. leb-true _ _ (leading-below (atMost (h .largest)) s i (rw all l));
+    }
+
+accepted-of : (f : List ℕ) (h : Header) → Accepts f h → readFile f ≡ Accepted h
+accepted-of f h a =
+    let s = a .pixels in
+    let k = a .headed in
+    sym (read-p5 f (headed-begins f h s k))
+    ∙ ap (onWalk f) (headed-walk f h s k)
+    ∙ ap (onHeader h) (headed-rest f h s k)
+    ∙ sym (count-fits h s (and-both (fits-inside (a .width)) (fits-inside (a .height))) (fits-inside (a .largest)) (a .count))
+    ∙ sym (pixels-fit h s (leading-full (atMost (h .largest)) s (λ i l. le-leb _ _ (a .most i l))))
+
+-- THE THEOREM: the answer is Accepted h if and only if the file is P5, gap, width, gap, height, gap, largest sample, one white space byte and n pixels, all in range
+pub accepted : (f : List ℕ) (h : Header) → (readFile f ≡ Accepted h) ↔ Accepts f h
+accepted f h = (λ e. accepts-of f h (subst (Verdict f) e (verdict f)), accepted-of f h)
