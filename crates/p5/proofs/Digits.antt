@@ -1,8 +1,8 @@
 -- Digits that have been read from a position on: what the loop of `digits_at` keeps. Assumes nothing.
-use mathlib.Core.Path.{_≡_, refl, sym, ap, subst, _∙_}
-use mathlib.Core.Bool.{Bool, true, false}
+use mathlib.Core.Path.{_≡_, refl, sym, ap, _∙_}
+use mathlib.Core.Bool.{Bool, true}
 use mathlib.Core.List.{List, [], _∷_, _++_, append-assoc}
-use Prim.Native.Nat.{ℕ, suc, _+_, _-_, _*_, _^_, _≤_, _<_}
+use Prim.Native.Nat.{ℕ, _+_, _-_, _*_, _^_, _≤_, _<_}
 use native.Mathlib.Nat.{pow-suc, pow-le-pow-right, lt-of-lt-of-le, le-trans, add-zero}
 use native.Mathlib.Numerals.{add-one}
 use native.Mathlib.Omega.{arith}
@@ -16,7 +16,7 @@ use Rattle.p5.specs.declared.field.Field.{Field}
 use Rattle.p5.specs.declared.field.Field.the-variants.{Number, Unfit}
 use Rattle.p5.specs.Headers.{leading, isDigit, decimalFrom, decimal, digitsAt}
 use Rattle.p5.proofs.Tests.{on-pick, and-both, and-first, and-second}
-use Rattle.p5.proofs.Leading.{leading-append, leading-pass, leading-stop, leading-past}
+use Rattle.p5.proofs.Leading.{leading-append, leading-pass}
 
 -- `digits` stand from `at` up to `i` and have the value `value`
 pub record Digits (f : List ℕ) (at value i : ℕ) : Type 0 where

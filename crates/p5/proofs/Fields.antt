@@ -1,21 +1,19 @@
 -- A header number and the bytes that it stands on: a gap and digits. Assumes nothing.
 use mathlib.Core.Path.{_≡_, refl, sym, ap, ap₂, subst, _∙_}
-use mathlib.Core.Bool.{Bool, true, false}
 use mathlib.Core.List.{List, [], _∷_, _++_, append-assoc}
-use Prim.Native.Nat.{ℕ, suc, _+_, _≤_, _<_}
+use Prim.Native.Nat.{ℕ, _+_, _≤_, _<_}
 use native.Mathlib.Omega.{arith}
 use borrow.Author.Tests.{eqb-true, eqb-false, leb-true, leb-false}
 use lib.Dec.{eqb, leb}
 use lib.ListN.{length, take, drop, take-append-drop, length-append}
 use lib.Seq.{take-at, drop-at, drop-drop, length-take-le}
-use Rattle.picture.specs.Lists.{pick, all}
 use Rattle.p5.specs.declared.field.Field.{Field}
 use Rattle.p5.specs.declared.field.Field.the-variants.{Number, Unfit}
-use Rattle.p5.specs.Headers.{isWhite, isDigit, leading, decimal, gapEnd, digitsAt, numberAt}
+use Rattle.p5.specs.Headers.{isDigit, leading, decimal, gapEnd, digitsAt, numberAt}
 use Rattle.p5.specs.Shapes.{Gap, Numeral}
 use Rattle.p5.proofs.Tests.{on-pick, and-first}
 use Rattle.p5.proofs.Leading.{leading-le, leading-all, leading-append}
-use Rattle.p5.proofs.Gap.{Split, gap-split, gap-join, number-some}
+use Rattle.p5.proofs.Gap.{gap-split, gap-join, number-some}
 use Rattle.p5.proofs.Digits.{digits-few}
 
 -- how a number comes about: no gap, no digit, one to five digits, or a sixth

@@ -13,7 +13,7 @@ use Rattle.p5.specs.declared.field.Field.the-variants.{Unfit}
 use Rattle.p5.specs.Headers.{isWhite, isDigit, leading, gapEnd, digitsAt, numberAt}
 use Rattle.p5.specs.Shapes.{Gap}
 use Rattle.p5.proofs.Tests.{either, clash}
-use Rattle.p5.proofs.Leading.{leading-le, leading-all, leading-append, reach-pass, reach-stop, reach-past}
+use Rattle.p5.proofs.Leading.{leading-le, leading-all, leading-append, leading-cut, reach-pass, reach-stop, reach-past}
 
 module _ (f : List ℕ) (i : ℕ) where
   pub gap-pass : i < length f → isWhite (getD f i 0) ≡ true → gapEnd f (i + 1) ≡ gapEnd f i
@@ -70,6 +70,15 @@ pub gap-join : (f : List ℕ) (p : ℕ) {g : List ℕ} (b : ℕ) (s : List ℕ) 
 unfolding gapEnd
 gap-join f p {g} b s k e d =
     rw (e, leading-append isWhite g (b ∷ s) (k .white)) (rw (digit-white b d) (ap (λ (n : ℕ). p + n) (add-zero _)))
+
+-- the gap ends at or after its start, and depends on no byte after its end
+pub gap-from : (f : List ℕ) (p : ℕ) → p ≤ gapEnd f p
+unfolding gapEnd
+gap-from f p = omega arith
+
+pub gap-cut : (x y u : List ℕ) (p : ℕ) → gapEnd (x ++ y) p < length x → gapEnd (x ++ u) p ≡ gapEnd (x ++ y) p
+unfolding gapEnd
+gap-cut x y u p h = ap (λ (n : ℕ). p + n) (leading-cut isWhite x y u p h)
 
 -- the two ways of a header number
 module _ (f : List ℕ) (p : ℕ) where

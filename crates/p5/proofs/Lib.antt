@@ -10,3 +10,6 @@ pub mod Shape
 pub mod Verdicts
 pub mod Accepted
 pub mod Refused
+pub mod Cut
+pub mod Begun
+pub mod Places

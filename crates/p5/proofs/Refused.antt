@@ -1,10 +1,9 @@
 -- Each refusal number is answered if and only if its cause holds and no earlier one does. Assumes nothing.
-use mathlib.Core.Path.{_≡_, refl, sym, ap, subst, subst⁻¹, _∙_}
-use mathlib.Core.Bool.{Bool, true, false, _&&_}
+use mathlib.Core.Path.{_≡_, sym, ap, subst, _∙_}
+use mathlib.Core.Bool.{true, false, _&&_}
 use mathlib.Core.Logic.{_↔_, _⊎_, inl, inr, ⊎-elim}
-use mathlib.Core.List.{List, _∷_}
-use Prim.Native.Nat.{ℕ, suc, _+_, _*_, _≤_, _<_, zero-le}
-use native.Mathlib.Nat.{eq-or-lt-of-le}
+use mathlib.Core.List.{List}
+use Prim.Native.Nat.{ℕ, _+_, _*_, _≤_, _<_}
 use native.Mathlib.Omega.{arith}
 use borrow.Author.Tests.{leb-true, leb-false}
 use borrow.Author.Count.{below-more}
@@ -12,17 +11,16 @@ use lib.Dec.{leb}
 use lib.ListN.{length, getD, drop}
 use Rattle.picture.specs.Pictures.{sideFits}
 use Rattle.p5.specs.declared.header.Header.{Header}
-use Rattle.p5.specs.declared.header.Walk.the-variants.{Walked, Stopped}
 use Rattle.p5.specs.declared.file.Outcome.{Outcome}
-use Rattle.p5.specs.Headers.{beginsP5, leading, walk}
+use Rattle.p5.specs.Headers.{beginsP5, leading}
 use Rattle.p5.specs.Files.{largestFits, atMost, readFile, numberOf}
-use Rattle.p5.specs.Shapes.{Headed, Inside, Outside, Other, Unheaded, Above, Cause, other, unheaded, side, largest, count, above}
+use Rattle.p5.specs.Shapes.{Headed, Inside, Outside, Above, Cause, other, unheaded, side, largest, count, above}
 use Rattle.p5.proofs.Tests.{and-first, and-second, and-fails, clash}
 use Rattle.p5.proofs.Shape.{p5-bytes, headed-begins, headed-walk, headed-rest}
 use Rattle.p5.proofs.Accepted.{inside}
-use Rattle.p5.proofs.Leading.{leading-le, leading-next, leading-below}
+use Rattle.p5.proofs.Leading.{leading-below}
 use Rattle.p5.proofs.Verdicts as verdicts
-use Rattle.p5.proofs.Verdicts.{Verdict, verdict, sidesFit, not-p5, stopped, sides, fits}
+use Rattle.p5.proofs.Verdicts.{Verdict, verdict, sidesFit, exceeds, not-p5, stopped, sides, fits}
 
 outside : (low high x : ℕ) → leb low x && leb x high ≡ false → Outside low high x
 outside low high x e =
@@ -61,7 +59,7 @@ module _ (f : List ℕ) where
   -- the causes that a file with a header does not have, by the tests that passed
   module _ {h : Header} {s : List ℕ} (k : Headed f h s) where
     -- there is no other header
-    only : {h′ : Header} {s′ : List ℕ} (P : Header → List ℕ → Type 0) → Headed f h′ s′ → P h′ s′ → P h s
+    pub only : {h′ : Header} {s′ : List ℕ} (P : Header → List ℕ → Type 0) → Headed f h′ s′ → P h′ s′ → P h s
     only {h′} {s′} P k′ p =
         let same : h′ ≡ h = cc (headed-walk f h′ s′ k′, headed-walk f h s k) in
         let rest : s′ ≡ s = sym (headed-rest f h′ s′ k′) ∙ ap (λ (x : Header). drop (x .offset) f) same ∙ headed-rest f h s k in
@@ -124,10 +122,7 @@ summary f o (sides {h} {s} k e) =
 summary f o (verdicts.largest {h} {s} k e g) = refusal f 4 (omega arith) (largest h s k (outside 1 255 (h .largest) g)) (below₄ f k e)
 summary f o (verdicts.count {h} {s} k e g n) = refusal f 5 (omega arith) (count h s k n) (below₅ f k e g)
 summary f o (verdicts.above {h} {s} k e g n x) =
-    let t = atMost (h .largest) in
-    let l : leading t s < length s = ⊎-elim (λ z. absurd (x z)) (λ z. z) (eq-or-lt-of-le (leading-le t s)) in
-    refusal f 6 (omega arith)
-    (above h s (leading t s) k (record { within = l; above = leb-false _ _ (leading-next t s l) }))
+    refusal f 6 (omega arith) (above h s _ k (exceeds h s x))
     (below₆ f k e g n)
 summary f o (fits k e g n x) =
     record {
@@ -138,7 +133,7 @@ summary f o (fits k e g n x) =
 
 -- THE THEOREM: a refusal number is answered if and only if its cause holds and no earlier one does
 pub refused : (f : List ℕ) (n : ℕ) → 1 ≤ n → (numberOf (readFile f) ≡ n) ↔ (Cause f n × NoneBelow f n)
-refused f n some = (λ e. subst Both e (λ l. (s .cause l, s .first)) some, λ c. equal c (leb (numberOf (readFile f)) n) refl)
+refused f n some = (λ e. subst Both e (λ l. (s .cause l, s .first)) some, equal)
   where
     s : Summary f (numberOf (readFile f))
     s = summary f (readFile f) (verdict f)
@@ -146,17 +141,17 @@ refused f n some = (λ e. subst Both e (λ l. (s .cause l, s .first)) some, λ c
     Both : ℕ → Type 0
     Both m = 1 ≤ m → Cause f m × NoneBelow f m
 
-    less : Cause f n × NoneBelow f n → numberOf (readFile f) < n → ⊥
-    less c l =
-        ⊎-elim (λ e. s .clean (sym e) n (c .0)) (λ k. c .1 _ l (s .cause k)) (eq-or-lt-of-le (zero-le {n = numberOf (readFile f)}))
-
-    equal : Cause f n × NoneBelow f n → (b : Bool) → leb (numberOf (readFile f)) n ≡ b → numberOf (readFile f) ≡ n
-    equal c true e = ⊎-elim (λ x. x) (λ l. absurd (less c l)) (eq-or-lt-of-le (leb-true _ _ e))
-    equal c false e = absurd (s .first n (leb-false _ _ e) (c .0))
+    equal : Cause f n × NoneBelow f n → numberOf (readFile f) ≡ n
+    equal c =
+        let m = numberOf (readFile f) in
+        let here : m ≡ 0 → ⊥ = λ e. s .clean e n (c .0) in
+        let less : m < n → ⊥ = λ l. c .1 m l (s .cause (omega arith)) in
+        let more : n < m → ⊥ = λ l. s .first n l (c .0) in
+        omega arith
 
 -- and 0 if and only if no cause holds
 pub unrefused : (f : List ℕ) → (numberOf (readFile f) ≡ 0) ↔ ((j : ℕ) → Cause f j → ⊥)
-unrefused f = (s .clean, λ none. ⊎-elim (λ e. sym e) (λ l. absurd (none _ (s .cause l))) (eq-or-lt-of-le zero-le))
+unrefused f = (s .clean, λ none. let here : 1 ≤ numberOf (readFile f) → ⊥ = λ l. none _ (s .cause l) in omega arith)
   where
     s : Summary f (numberOf (readFile f))
     s = summary f (readFile f) (verdict f)

@@ -1,8 +1,8 @@
 -- A walked header and the shape of the bytes that it stands on. Assumes nothing.
-use mathlib.Core.Path.{_≡_, refl, sym, ap, ap₂, subst, _∙_}
-use mathlib.Core.Bool.{Bool, true, false, _&&_}
+use mathlib.Core.Path.{_≡_, sym, ap, ap₂, subst, _∙_}
+use mathlib.Core.Bool.{true, false}
 use mathlib.Core.List.{List, [], _∷_, _++_}
-use Prim.Native.Nat.{ℕ, suc, _+_, _≤_, _<_}
+use Prim.Native.Nat.{ℕ, _+_, _<_}
 use native.Mathlib.Nat.{add-zero}
 use native.Mathlib.Numerals.{add-one}
 use native.Mathlib.Omega.{arith}
@@ -10,15 +10,14 @@ use borrow.Author.Tests.{eqb-true}
 use lib.Dec.{eqb}
 use lib.ListN.{length, getD, drop, length-drop}
 use lib.Seq.{drop-cons, drop-drop, getD-drop}
-use Rattle.p5.specs.declared.field.Field.the-variants.{Number}
 use Rattle.p5.specs.declared.header.Header.{Header}
 use Rattle.p5.specs.declared.header.Walk.the-variants.{Walked}
-use Rattle.p5.specs.Headers.{beginsP5, isWhite, isDigit, leading, numberAt, endAt, walk}
-use Rattle.p5.specs.Shapes.{Gap, Numeral, Headed}
+use Rattle.p5.specs.Headers.{beginsP5, isWhite, isDigit, leading, walk}
+use Rattle.p5.specs.Shapes.{Gap, Headed}
 use Rattle.p5.proofs.Tests.{and-first, and-second, clash}
 use Rattle.p5.proofs.Gap.{white-digit}
-use Rattle.p5.proofs.Fields.{Stands, number-stands, drop-field, stands-number}
-use Rattle.p5.proofs.Walking.{Walking, walking, whole, end-white, white-within, walk-end, offset-within}
+use Rattle.p5.proofs.Fields.{number-stands, drop-field, stands-number}
+use Rattle.p5.proofs.Walking.{Walking, walking, whole, end-white, white-within, walk-end}
 
 pub p5-bytes : (f : List ℕ) → beginsP5 f ≡ true → f ≡ 80 ∷ 53 ∷ drop 2 f
 p5-bytes [] e = absurd (clash e)

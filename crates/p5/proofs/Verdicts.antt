@@ -1,11 +1,13 @@
 -- How an answer comes about, with the tests that led to it. Assumes nothing.
 use mathlib.Core.Path.{_≡_, refl}
 use mathlib.Core.Bool.{true, false, _&&_}
+use mathlib.Core.Logic.{⊎-elim}
 use mathlib.Core.List.{List}
-use Prim.Native.Nat.{ℕ, _*_}
-use borrow.Author.Tests.{eqb-true, eqb-false}
+use Prim.Native.Nat.{ℕ, _*_, _<_}
+use native.Mathlib.Nat.{eq-or-lt-of-le}
+use borrow.Author.Tests.{eqb-true, eqb-false, leb-false}
 use lib.Dec.{eqb}
-use lib.ListN.{length, drop}
+use lib.ListN.{length, getD}
 use Rattle.picture.specs.Pictures.{sideFits}
 use Rattle.p5.specs.declared.header.Header.{Header}
 use Rattle.p5.specs.declared.header.Walk.{Walk}
@@ -14,8 +16,9 @@ use Rattle.p5.specs.declared.file.Outcome.{Outcome}
 use Rattle.p5.specs.declared.file.Outcome.the-variants.{Accepted, NotP5, Malformed, SideOutside, LargestOutside, CountDiffers, PixelAbove}
 use Rattle.p5.specs.Headers.{beginsP5, leading, walk}
 use Rattle.p5.specs.Files.{largestFits, atMost, onPixels, onHeader, onWalk, readFile}
-use Rattle.p5.specs.Shapes.{Headed}
+use Rattle.p5.specs.Shapes.{Headed, Above}
 use Rattle.p5.proofs.Tests.{on-pick}
+use Rattle.p5.proofs.Leading.{leading-le, leading-next}
 use Rattle.p5.proofs.Shape.{walk-headed}
 
 abbrev pub sidesFit : Header → Type 0
@@ -49,3 +52,10 @@ verdict f = on-pick (Verdict f) (beginsP5 f) (λ e. walked e (walk f) refl) not-
     walked : beginsP5 f ≡ true → (w : Walk) → walk f ≡ w → Verdict f (onWalk f w)
     walked e (Walked h) g = judged h _ (walk-headed f e g)
     walked e (Stopped p) g = stopped e g
+
+-- the place of the first pixel that does not pass is above the largest sample
+pub exceeds : (h : Header) (s : List ℕ) → (leading (atMost (h .largest)) s ≡ length s → ⊥) → Above h s (leading (atMost (h .largest)) s)
+exceeds h s x =
+    let t = atMost (h .largest) in
+    let l : leading t s < length s = ⊎-elim (λ e. absurd (x e)) (λ l. l) (eq-or-lt-of-le (leading-le t s)) in
+    record { within = l; above = leb-false (getD s (leading t s) 0) (h .largest) (leading-next t s l) }

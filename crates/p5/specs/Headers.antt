@@ -7,7 +7,6 @@ use lib.ListN.{getD, take, drop}
 use Rattle.picture.specs.Lists.{pick}
 use Rattle.p5.specs.declared.field.Field.{Field}
 use Rattle.p5.specs.declared.field.Field.the-variants.{Number, Unfit}
-use Rattle.p5.specs.declared.header.Header.{Header}
 use Rattle.p5.specs.declared.header.Walk.{Walk}
 use Rattle.p5.specs.declared.header.Walk.the-variants.{Walked, Stopped}
 

@@ -5,6 +5,7 @@ use crate::header::Header;
 use crate::header::Walk;
 use crate::header::walk_header;
 ghost use mathlib.Core.Path.{_≡_};
+ghost use mathlib.Core.Bool.{_&&_};
 ghost use Rattle.picture.specs.Pictures.{sideFits};
 ghost use Rattle.p5.specs.Headers.{beginsP5, leading};
 ghost use Rattle.p5.specs.Files.{largestFits, atMost, onPixels, onHeader, readFile, malformedAt};
@@ -39,6 +40,15 @@ pub fn side_fits(side: u32) -> bool
     ensures { λ r. ⌜ r ≡ sideFits side ⌝ }
 {
     between(1, side, 40)
+}
+
+pub fn sides_fit(width: u32, height: u32) -> bool
+    ensures { λ r. ⌜ r ≡ sideFits width && sideFits height ⌝ }
+{
+    if !side_fits(width) {
+        return false;
+    }
+    side_fits(height)
 }
 
 pub fn largest_fits(largest: u32) -> bool
@@ -79,14 +89,12 @@ pub fn on_header(header: Header, pixels: &[u8]) -> Outcome
 {
     let width = header.width;
     let height = header.height;
-    let largest = header.largest;
-    if !side_fits(width) {
+    let sides = sides_fit(width, height);
+    let largest = largest_fits(header.largest);
+    if !sides {
         return Outcome::SideOutside;
     }
-    if !side_fits(height) {
-        return Outcome::SideOutside;
-    }
-    if !largest_fits(largest) {
+    if !largest {
         return Outcome::LargestOutside;
     }
     let count = width * height;
