@@ -45,6 +45,7 @@ accepted-of f h a =
     ∙ sym (count-fits h s (and-both (fits-inside (a .width)) (fits-inside (a .height))) (fits-inside (a .largest)) (a .count))
     ∙ sym (pixels-fit h s (leading-full (atMost (h .largest)) s (λ i l. le-leb _ _ (a .most i l))))
 
--- THE THEOREM: the answer is Accepted h if and only if the file is P5, gap, width, gap, height, gap, largest sample, one white space byte and n pixels, all in range
+-- a file is accepted with the header h if and only if it is P5, gap, width, gap, height, gap, largest sample, one white space byte
+-- and n pixels, with the sides and the largest sample in range and no pixel above the largest sample
 pub accepted : (f : List ℕ) (h : Header) → (readFile f ≡ Accepted h) ↔ Accepts f h
 accepted f h = (λ e. accepts-of f h (subst (Verdict f) e (verdict f)), accepted-of f h)

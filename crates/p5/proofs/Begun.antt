@@ -69,7 +69,9 @@ begins-of v a b c more x y z e =
 
 -- what a part of a list takes with it
 take-part : (f : List ℕ) (p q : ℕ) (u s : List ℕ) → drop p f ≡ u ++ s → q ≡ p + length u → take q f ≡ take p f ++ u
-take-part f p q u s e l = ap (λ (n : ℕ). take n f) l ∙ take-add p (length u) f ∙ ap (λ (k : List ℕ). take p f ++ k) (ap (take (length u)) e ∙ take-at u s _ refl)
+take-part f p q u s e l =
+    ap (λ (n : ℕ). take n f) l ∙ take-add p (length u) f
+    ∙ ap (λ (k : List ℕ). take p f ++ k) (ap (take (length u)) e ∙ take-at u s _ refl)
 
 part-within : (f : List ℕ) (p q : ℕ) (u s : List ℕ) → 1 ≤ length u → drop p f ≡ u ++ s → q ≡ p + length u → q ≤ length f
 part-within f p q u s some e l = omega (arith, length-drop p f, ap length e ∙ length-append u s)
@@ -159,7 +161,8 @@ module _ (f : List ℕ) (e : beginsP5 f ≡ true) where
       record {
         within = x .within;
         fit =
-            begins-of (take p f) (x .part ++ x .more) plain plain (x .more ++ (plain ++ (plain ++ 32 ∷ []))) (x .section) plain-section plain-section
+            begins-of (take p f) (x .part ++ x .more) plain plain (x .more ++ (plain ++ (plain ++ 32 ∷ []))) (x .section)
+            plain-section plain-section
             (rw (x .taken, letters) (simp append-assoc));
       }
   begun p (second a b) =

@@ -46,7 +46,9 @@ module _ (x y u : List ℕ) (p : ℕ) where
       let same : leading isDigit (drop q (x ++ u)) ≡ n = leading-cut isDigit x y u q h in
       let within : q ≤ length x = omega arith in
       let long : n ≤ length (drop q x) = omega (arith, length-drop q x) in
-      let taken : take n (drop q (x ++ u)) ≡ take n (drop q (x ++ y)) = ap (take n) (drop-append-le q x u within) ∙ take-append-le n (drop q x) u long ∙ sym (ap (take n) (drop-append-le q x y within) ∙ take-append-le n (drop q x) y long) in
+      let front : (v : List ℕ) → take n (drop q (x ++ v)) ≡ take n (drop q x) =
+      λ v. ap (take n) (drop-append-le q x v within) ∙ take-append-le n (drop q x) v long in
+      let taken : take n (drop q (x ++ u)) ≡ take n (drop q (x ++ y)) = front u ∙ sym (front y) in
       some-digits (omega arith) e
       ∙ digits-few (x ++ u) q (omega arith) (omega arith)
       ∙ ap₂ Number (ap decimal (ap (λ (k : ℕ). take k (drop q (x ++ u))) same ∙ taken)) (ap (λ (k : ℕ). q + k) same)

@@ -32,17 +32,20 @@ pub digits-start : (f : List ℕ) (at : ℕ) → Digits f at 0 at
 digits-start f at =
     record { digits = []; stand = refl; end = sym (add-zero at); pass = refl; has = refl; below = omega arith; most = omega arith }
 
--- the three answers of `digitsAt`, by the number of digits
+-- the number of digits from a position on, and the three answers that it leads to
+abbrev pub digitCount : List ℕ → ℕ → ℕ
+digitCount f p = leading isDigit (drop p f)
+
 module _ (f : List ℕ) (p : ℕ) where
-  pub digits-none : leading isDigit (drop p f) ≡ 0 → digitsAt f p ≡ Unfit p
+  pub digits-none : digitCount f p ≡ 0 → digitsAt f p ≡ Unfit p
   unfolding digitsAt
   digits-none e = rw (eq-eqb _ _ e)
 
-  pub digits-few : 1 ≤ leading isDigit (drop p f) → leading isDigit (drop p f) ≤ 5 → digitsAt f p ≡ Number (decimal (take (leading isDigit (drop p f)) (drop p f))) (p + leading isDigit (drop p f))
+  pub digits-few : 1 ≤ digitCount f p → digitCount f p ≤ 5 → digitsAt f p ≡ Number (decimal (take (digitCount f p) (drop p f))) (p + digitCount f p)
   unfolding digitsAt
   digits-few h k = rw (ne-eqb (leading isDigit (drop p f)) 0 (omega arith), le-leb _ _ k)
 
-  pub digits-many : 5 < leading isDigit (drop p f) → digitsAt f p ≡ Unfit (p + 5)
+  pub digits-many : 5 < digitCount f p → digitsAt f p ≡ Unfit (p + 5)
   unfolding digitsAt
   digits-many h = rw (ne-eqb (leading isDigit (drop p f)) 0 (omega arith), lt-leb _ _ h)
 
@@ -88,7 +91,9 @@ module _ (f : List ℕ) (at value i : ℕ) (d : Digits f at value i) where
       let taken : take n (drop at f) ≡ d .digits = ap (take n) (d .stand) ∙ take-at (d .digits) _ _ refl in
       on-pick (λ (x : Field). x ≡ digitsAt f at) (eqb i at)
       (λ e. sym (digits-none f at (omega (arith, d .end, eqb-true i at e))))
-      (λ e. sym (digits-few f at (let different = eqb-false i at e in omega (arith, d .end)) (omega (arith, d .most)) ∙ rw (count, taken, ← d .has, ← d .end)))
+      (λ e. sym
+      (digits-few f at (let different = eqb-false i at e in omega (arith, d .end)) (omega (arith, d .most))
+      ∙ rw (count, taken, ← d .has, ← d .end)))
 
   -- a sixth digit
   pub digits-sixth : i < length f → isDigit (getD f i 0) ≡ true → i - at ≡ 5 → Unfit i ≡ digitsAt f at

@@ -14,14 +14,15 @@ use Rattle.p5.specs.Shapes.{Gap, Numeral}
 use Rattle.p5.proofs.Tests.{on-pick, and-first}
 use Rattle.p5.proofs.Leading.{leading-le, leading-all, leading-append}
 use Rattle.p5.proofs.Gap.{gap-split, gap-join, number-some}
-use Rattle.p5.proofs.Digits.{digits-few}
+use Rattle.p5.proofs.Digits.{digitCount, digits-few}
 
 -- how a number comes about: no gap, no digit, one to five digits, or a sixth
 pub data Reads (f : List ℕ) (p : ℕ) : Field → Type 0 where
   no-gap : gapEnd f p ≡ p → Reads f p (Unfit p)
-  no-digit : (gapEnd f p ≡ p → ⊥) → leading isDigit (drop (gapEnd f p) f) ≡ 0 → Reads f p (Unfit (gapEnd f p))
-  digits : (gapEnd f p ≡ p → ⊥) → 1 ≤ leading isDigit (drop (gapEnd f p) f) → leading isDigit (drop (gapEnd f p) f) ≤ 5 → Reads f p (Number (decimal (take (leading isDigit (drop (gapEnd f p) f)) (drop (gapEnd f p) f))) (gapEnd f p + leading isDigit (drop (gapEnd f p) f)))
-  sixth : (gapEnd f p ≡ p → ⊥) → 5 < leading isDigit (drop (gapEnd f p) f) → Reads f p (Unfit (gapEnd f p + 5))
+  no-digit : (gapEnd f p ≡ p → ⊥) → digitCount f (gapEnd f p) ≡ 0 → Reads f p (Unfit (gapEnd f p))
+  digits : (gapEnd f p ≡ p → ⊥) → 1 ≤ digitCount f (gapEnd f p) → digitCount f (gapEnd f p) ≤ 5
+      → Reads f p (Number (decimal (take (digitCount f (gapEnd f p)) (drop (gapEnd f p) f))) (gapEnd f p + digitCount f (gapEnd f p)))
+  sixth : (gapEnd f p ≡ p → ⊥) → 5 < digitCount f (gapEnd f p) → Reads f p (Unfit (gapEnd f p + 5))
 
 pub reads : (f : List ℕ) (p : ℕ) → Reads f p (numberAt f p)
 unfolding numberAt digitsAt
@@ -67,7 +68,8 @@ module _ (f : List ℕ) (p : ℕ) (g s : List ℕ) where
       sym (drop-drop (length g + length d) p f) ∙ ap (drop (length g + length d)) (e ∙ sym (append-assoc g d s))
       ∙ drop-at (g ++ d) s _ (length-append g d)
 
-  pub stands-number : (d : List ℕ) {v : ℕ} → Gap g → Numeral d v → drop p f ≡ g ++ (d ++ s) → leading isDigit s ≡ 0 → numberAt f p ≡ Number v (p + (length g + length d))
+  pub stands-number : (d : List ℕ) {v : ℕ} → Gap g → Numeral d v → drop p f ≡ g ++ (d ++ s) → leading isDigit s ≡ 0
+      → numberAt f p ≡ Number v (p + (length g + length d))
   stands-number [] k n e z = absurd (omega (arith, n .some))
   stands-number (b ∷ t) k n e z =
       let d : List ℕ = b ∷ t in

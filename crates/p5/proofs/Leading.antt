@@ -60,7 +60,8 @@ module _ (t : ℕ → Bool) where
   cut [] y u h = absurd (omega arith)
   cut (b ∷ x) y u h = by (t b) refl (cut x y u)
     where
-      by : (c : Bool) → t b ≡ c → (leading t (x ++ y) < length x → leading t (x ++ u) ≡ leading t (x ++ y)) → leading t (b ∷ x ++ u) ≡ leading t (b ∷ x ++ y)
+      by : (c : Bool) → t b ≡ c → (leading t (x ++ y) < length x → leading t (x ++ u) ≡ leading t (x ++ y))
+          → leading t (b ∷ x ++ u) ≡ leading t (b ∷ x ++ y)
       by true e ih = rw e (ap suc (ih (le-of-suc-le-suc (rw e at h))))
       by false e ih = rw e
 

@@ -13,3 +13,4 @@ pub mod Refused
 pub mod Cut
 pub mod Begun
 pub mod Places
+pub mod Examples

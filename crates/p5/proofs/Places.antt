@@ -53,7 +53,9 @@ above-of f x (above {h} {s} k e g n d) =
 begins-less : (f : List ℕ) (m n : ℕ) → m ≤ n → Begins (take n f) → Begins (take m f)
 begins-less f m n l b =
     let u = take n f in
-    let same : take m f ++ (drop m u ++ b .more) ≡ u ++ b .more = sym (append-assoc (take m f) (drop m u) (b .more)) ∙ ap (λ (v : List ℕ). v ++ b .more) (ap (λ (v : List ℕ). v ++ drop m u) (sym (take-take m n f l)) ∙ take-append-drop m u) in
+    let again : take m f ++ drop m u ≡ u = ap (λ (v : List ℕ). v ++ drop m u) (sym (take-take m n f l)) ∙ take-append-drop m u in
+    let same : take m f ++ (drop m u ++ b .more) ≡ u ++ b .more =
+    sym (append-assoc (take m f) (drop m u) (b .more)) ∙ ap (λ (v : List ℕ). v ++ b .more) again in
     record {
       more = drop m u ++ b .more;
       header = b .header;
@@ -89,7 +91,7 @@ numbered-6 LargestOutside e = absurd (omega arith)
 numbered-6 CountDiffers e = absurd (omega arith)
 numbered-6 (PixelAbove x) e = refl
 
--- THE THEOREM: 2 is answered with a place if and only if it is the first unfit one, 6 with the first place above the largest sample
+-- 2 is answered with the first unfit place and no other, 6 with the first place above the largest sample and no other
 pub malformed-at : (f : List ℕ) (p : ℕ) → (readFile f ≡ Malformed p) ↔ ((Cause f 2 × NoneBelow f 2) × FirstUnfit f p)
 malformed-at f p = (λ e. (refused f 2 (omega arith) .0 (ap numberOf e), unfit-of f p (subst (Verdict f) e (verdict f))), back)
   where

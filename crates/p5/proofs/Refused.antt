@@ -20,7 +20,7 @@ use Rattle.p5.proofs.Shape.{p5-bytes, headed-begins, headed-walk, heade
 use Rattle.p5.proofs.Accepted.{inside}
 use Rattle.p5.proofs.Leading.{leading-below}
 use Rattle.p5.proofs.Verdicts as verdicts
-use Rattle.p5.proofs.Verdicts.{Verdict, verdict, sidesFit, exceeds, not-p5, stopped, sides, fits}
+use Rattle.p5.proofs.Verdicts.{Verdict, verdict, sidesFit, pixelsFit, exceeds, not-p5, stopped, sides, fits}
 
 outside : (low high x : ℕ) → leb low x && leb x high ≡ false → Outside low high x
 outside low high x e =
@@ -92,7 +92,7 @@ module _ (f : List ℕ) where
         no : Cause f 5 → ⊥
         no (count h′ s′ k′ o) = only (λ x y. length y ≡ x .width * x .height → ⊥) k′ o n
 
-    below₇ : sidesFit h → largestFits (h .largest) ≡ true → length s ≡ h .width * h .height → leading (atMost (h .largest)) s ≡ length s → NoneBelow f 7
+    below₇ : sidesFit h → largestFits (h .largest) ≡ true → length s ≡ h .width * h .height → pixelsFit h s → NoneBelow f 7
     below₇ e g n z = more 6 (below₆ e g n) no
       where
         no : Cause f 6 → ⊥
@@ -117,7 +117,9 @@ summary f o (stopped e g) =
     (below₂ f e)
 summary f o (sides {h} {s} k e) =
     refusal f 3 (omega arith)
-    (side h s k (⊎-elim (λ x. inl (outside 1 40 (h .width) x)) (λ x. inr (outside 1 40 (h .height) x)) (and-fails (sideFits (h .width)) (sideFits (h .height)) e)))
+    (side h s k
+    (⊎-elim (λ x. inl (outside 1 40 (h .width) x)) (λ x. inr (outside 1 40 (h .height) x))
+    (and-fails (sideFits (h .width)) (sideFits (h .height)) e)))
     (below₃ f k)
 summary f o (verdicts.largest {h} {s} k e g) = refusal f 4 (omega arith) (largest h s k (outside 1 255 (h .largest) g)) (below₄ f k e)
 summary f o (verdicts.count {h} {s} k e g n) = refusal f 5 (omega arith) (count h s k n) (below₅ f k e g)
@@ -131,7 +133,7 @@ summary f o (fits k e g n x) =
       clean = λ _ j c. below₇ f k e g n x j (omega (arith, range f c .1)) c;
     }
 
--- THE THEOREM: a refusal number is answered if and only if its cause holds and no earlier one does
+-- a refusal number is answered if and only if its cause holds and no earlier one does
 pub refused : (f : List ℕ) (n : ℕ) → 1 ≤ n → (numberOf (readFile f) ≡ n) ↔ (Cause f n × NoneBelow f n)
 refused f n some = (λ e. subst Both e (λ l. (s .cause l, s .first)) some, equal)
   where

@@ -102,7 +102,8 @@ module _ (f : List ℕ) (h : Header) (s : List ℕ) (k : Headed f h s) where
       let one = stands-number f 2 (k .gap₁) rest₁ (k .width) (k .is-gap₁) (k .is-width) from₀ (gap-digit (k .gap₂) _ (k .is-gap₂)) in
       let two = stands-number f after₁ (k .gap₂) rest₂ (k .height) (k .is-gap₂) (k .is-height) from₁ (gap-digit (k .gap₃) _ (k .is-gap₃)) in
       let three = stands-number f after₂ (k .gap₃) rest₃ (k .largest) (k .is-gap₃) (k .is-largest) from₂ (rw (white-digit (k .last) (k .is-last))) in
-      let last : getD f after₃ 0 ≡ k .last = ap (λ (n : ℕ). getD f n 0) (sym (add-zero after₃)) ∙ sym (getD-drop after₃ f 0 0) ∙ ap (λ (l : List ℕ). getD l 0 0) from₃ in
+      let place : getD f after₃ 0 ≡ getD (drop after₃ f) 0 0 = rw getD-drop (rw add-zero) in
+      let last : getD f after₃ 0 ≡ k .last = place ∙ ap (λ (l : List ℕ). getD l 0 0) from₃ in
       sym (walk-end f one two three)
       ∙ sym (end-white f (h .width) (h .height) (h .largest) after₃ (ap isWhite last ∙ k .is-last))
       ∙ ap (λ (o : ℕ). Walked (record { width = h .width; height = h .height; largest = h .largest; offset = o })) ends

@@ -24,14 +24,20 @@ use Rattle.p5.proofs.Shape.{walk-headed}
 abbrev pub sidesFit : Header → Type 0
 sidesFit h = sideFits (h .width) && sideFits (h .height) ≡ true
 
+abbrev pub pixelsFit : Header → List ℕ → Type 0
+pixelsFit h s = leading (atMost (h .largest)) s ≡ length s
+
 pub data Verdict (f : List ℕ) : Outcome → Type 0 where
   not-p5 : beginsP5 f ≡ false → Verdict f NotP5
   stopped : {p : ℕ} → beginsP5 f ≡ true → walk f ≡ Stopped p → Verdict f (Malformed p)
   sides : {h : Header} {s : List ℕ} → Headed f h s → sideFits (h .width) && sideFits (h .height) ≡ false → Verdict f SideOutside
   largest : {h : Header} {s : List ℕ} → Headed f h s → sidesFit h → largestFits (h .largest) ≡ false → Verdict f LargestOutside
-  count : {h : Header} {s : List ℕ} → Headed f h s → sidesFit h → largestFits (h .largest) ≡ true → (length s ≡ h .width * h .height → ⊥) → Verdict f CountDiffers
-  above : {h : Header} {s : List ℕ} → Headed f h s → sidesFit h → largestFits (h .largest) ≡ true → length s ≡ h .width * h .height → (leading (atMost (h .largest)) s ≡ length s → ⊥) → Verdict f (PixelAbove (leading (atMost (h .largest)) s))
-  fits : {h : Header} {s : List ℕ} → Headed f h s → sidesFit h → largestFits (h .largest) ≡ true → length s ≡ h .width * h .height → leading (atMost (h .largest)) s ≡ length s → Verdict f (Accepted h)
+  count : {h : Header} {s : List ℕ} → Headed f h s → sidesFit h → largestFits (h .largest) ≡ true
+      → (length s ≡ h .width * h .height → ⊥) → Verdict f CountDiffers
+  above : {h : Header} {s : List ℕ} → Headed f h s → sidesFit h → largestFits (h .largest) ≡ true
+      → length s ≡ h .width * h .height → (pixelsFit h s → ⊥) → Verdict f (PixelAbove (leading (atMost (h .largest)) s))
+  fits : {h : Header} {s : List ℕ} → Headed f h s → sidesFit h → largestFits (h .largest) ≡ true
+      → length s ≡ h .width * h .height → pixelsFit h s → Verdict f (Accepted h)
 
 pub verdict : (f : List ℕ) → Verdict f (readFile f)
 unfolding readFile onHeader onPixels
@@ -54,7 +60,7 @@ verdict f = on-pick (Verdict f) (beginsP5 f) (λ e. walked e (walk f) refl) not-
     walked e (Stopped p) g = stopped e g
 
 -- the place of the first pixel that does not pass is above the largest sample
-pub exceeds : (h : Header) (s : List ℕ) → (leading (atMost (h .largest)) s ≡ length s → ⊥) → Above h s (leading (atMost (h .largest)) s)
+pub exceeds : (h : Header) (s : List ℕ) → (pixelsFit h s → ⊥) → Above h s (leading (atMost (h .largest)) s)
 exceeds h s x =
     let t = atMost (h .largest) in
     let l : leading t s < length s = ⊎-elim (λ e. absurd (x e)) (λ l. l) (eq-or-lt-of-le (leading-le t s)) in

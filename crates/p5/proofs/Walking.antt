@@ -58,17 +58,20 @@ module _ (f : List ℕ) where
 
 -- how a walk ends: with a whole header, or at one of the three numbers or at the last byte
 pub data Walking (f : List ℕ) : Walk → Type 0 where
-  whole : {w a h b m c : ℕ} → numberAt f 2 ≡ Number w a → numberAt f a ≡ Number h b → numberAt f b ≡ Number m c → isWhite (getD f c 0) ≡ true → Walking f (Walked (record { width = w; height = h; largest = m; offset = c + 1 }))
+  whole : {w a h b m c : ℕ} → numberAt f 2 ≡ Number w a → numberAt f a ≡ Number h b → numberAt f b ≡ Number m c
+      → isWhite (getD f c 0) ≡ true → Walking f (Walked (record { width = w; height = h; largest = m; offset = c + 1 }))
   first : {p : ℕ} → numberAt f 2 ≡ Unfit p → Walking f (Stopped p)
   second : {w a p : ℕ} → numberAt f 2 ≡ Number w a → numberAt f a ≡ Unfit p → Walking f (Stopped p)
   third : {w a h b p : ℕ} → numberAt f 2 ≡ Number w a → numberAt f a ≡ Number h b → numberAt f b ≡ Unfit p → Walking f (Stopped p)
-  fourth : {w a h b m c : ℕ} → numberAt f 2 ≡ Number w a → numberAt f a ≡ Number h b → numberAt f b ≡ Number m c → isWhite (getD f c 0) ≡ false → Walking f (Stopped c)
+  fourth : {w a h b m c : ℕ} → numberAt f 2 ≡ Number w a → numberAt f a ≡ Number h b → numberAt f b ≡ Number m c
+      → isWhite (getD f c 0) ≡ false → Walking f (Stopped c)
 
 pub walking : (f : List ℕ) → Walking f (walk f)
 unfolding walk endAt
 walking f = from-width (numberAt f 2) refl
   where
-    from-largest : {w a h b : ℕ} → numberAt f 2 ≡ Number w a → numberAt f a ≡ Number h b → (x : Field) → numberAt f b ≡ x → Walking f (fromLargest f w h x)
+    from-largest : {w a h b : ℕ} → numberAt f 2 ≡ Number w a → numberAt f a ≡ Number h b → (x : Field) → numberAt f b ≡ x
+        → Walking f (fromLargest f w h x)
     from-largest e g (Number m p) k = on-pick (Walking f) (isWhite (getD f p 0)) (whole e g k) (fourth e g k)
     from-largest e g (Unfit p) k = third e g k
 

@@ -26,10 +26,21 @@ slice-aggregate-result : tie.Need-slice-aggregate-result
 slice-aggregate-result c = search needs
 
 returns : tie.Need-returns
-returns c = let f = now (c .before .before .before .before .args .file) in let r = c .before .before .read-file .ensures in record { bytes = rest-is _ f ∙ rw (r .offset) (pixels-read f (sym (r .number) ∙ c .before .if1 .taken)); memory = refl; start = omega (arith, r .offset) }
+returns c =
+    let f = now (c .before .before .before .before .args .file) in
+    let r = c .before .before .read-file .ensures in
+    record {
+      bytes = rest-is _ f ∙ rw (r .offset) (pixels-read f (sym (r .number) ∙ c .before .if1 .taken));
+      memory = refl;
+      start = omega (arith, r .offset);
+    }
 
 returns-2 : tie.Need-returns-2
-returns-2 c = let f = now (c .before .before .before .before .args .file) in let r = c .before .before .read-file .ensures in let refused : numberOf (readFile f) ≡ 0 → ⊥ = λ e. c .before .if1 .left (r .number ∙ e) in record { bytes = pixels-none f refused; memory = refl; start = rw (refused-header _ refused) (sym (add-zero _)) }
+returns-2 c =
+    let f = now (c .before .before .before .before .args .file) in
+    let r = c .before .before .read-file .ensures in
+    let refused : numberOf (readFile f) ≡ 0 → ⊥ = λ e. c .before .if1 .left (r .number ∙ e) in
+    record { bytes = pixels-none f refused; memory = refl; start = rw (refused-header _ refused) (sym (add-zero _)) }
 
 pub file-pixels-spec : {M : Type 1} → statement M
 file-pixels-spec =

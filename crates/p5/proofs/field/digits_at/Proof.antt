@@ -1,4 +1,6 @@
 -- `p5::field::digits_at` meets its contract. Assumes nothing.
+use Rattle.p5.proofs.Tests.{was-true, was-false}
+-- `p5::field::digits_at` meets its contract. Assumes nothing.
 use mathlib.Core.Path.{sym, _∙_}
 use Prim.Native.Nat.{_-_}
 use native.Mathlib.Omega.{arith}
@@ -30,19 +32,32 @@ digits-end-requires : tie.Need-digits-end-requires Inv-loop μ-loop
 digits-end-requires c κs = search needs
 
 returns : tie.Need-returns Inv-loop μ-loop
-returns c = let l = c .before .before .before .before .before in c .digits-end .ensures ∙ digits-stop _ _ _ _ (l .loop .inv) (leading-stop isDigit _ _ (c .before .before .before .before .loop-test .taken) (sym (c .before .before .is-digit .ensures) ∙ not-true _ (c .before .if1 .taken)))
+returns c =
+    let l = c .before .before .before .before .before in
+    c .digits-end .ensures
+    ∙ digits-stop _ _ _ _ (l .loop .inv)
+    (leading-stop isDigit _ _ (c .before .before .before .before .loop-test .taken)
+    (was-false (c .before .before .is-digit .ensures) (c .before .if1 .taken)))
 
 sub-if2 : tie.Need-sub-if2 Inv-loop μ-loop
 sub-if2 c = let d = c .before .before .before .before .loop .inv in omega (arith, d .end)
 
 returns-2 : tie.Need-returns-2 Inv-loop μ-loop
-returns-2 c = let l = c .before .before .before .before .before in digits-sixth _ _ _ _ (l .loop .inv) (c .before .before .before .before .loop-test .taken) (sym (c .before .before .is-digit .ensures) ∙ not-false _ (c .before .if1 .left)) (c .if2 .taken)
+returns-2 c =
+    let l = c .before .before .before .before .before in
+    digits-sixth _ _ _ _ (l .loop .inv) (c .before .before .before .before .loop-test .taken)
+    (was-true (c .before .before .is-digit .ensures) (c .before .if1 .left))
+    (c .if2 .taken)
 
 shared-slice-read-with-digit : tie.Need-shared-slice-read-with-digit Inv-loop μ-loop
 shared-slice-read-with-digit c = search needs
 
 with-digit-requires : tie.Need-with-digit-requires Inv-loop μ-loop
-with-digit-requires c κs = let l = c .before .before .before .before .before .before in (digits-small _ _ _ _ (l .loop .inv) (c .before .if2 .left), sym (c .before .before .before .is-digit .ensures) ∙ not-false _ (c .before .before .if1 .left))
+with-digit-requires c κs =
+    let l = c .before .before .before .before .before .before in (
+      digits-small _ _ _ _ (l .loop .inv) (c .before .if2 .left),
+      was-true (c .before .before .before .is-digit .ensures) (c .before .before .if1 .left),
+    )
 
 add-i : tie.Need-add-i Inv-loop μ-loop
 add-i c = search needs
@@ -51,13 +66,21 @@ loop-less : tie.Need-loop-less Inv-loop μ-loop
 loop-less c = search needs
 
 loop-again : tie.Need-loop-again Inv-loop μ-loop
-loop-again c = let l = c .before .before .before .before .before .before .before in rw (c .with-digit .ensures) (digits-turn _ _ _ _ (l .loop .inv) (c .before .before .before .before .before .before .loop-test .taken) (sym (c .before .before .before .before .is-digit .ensures) ∙ not-false _ (c .before .before .before .if1 .left)) (c .before .before .if2 .left))
+loop-again c =
+    let t = c .before .before .before .before in
+    let l = t .before .before .before in
+    rw (c .with-digit .ensures)
+    (digits-turn _ _ _ _ (l .loop .inv) (t .before .before .loop-test .taken)
+    (was-true (t .is-digit .ensures) (c .before .before .before .if1 .left))
+    (c .before .before .if2 .left))
 
 digits-end-requires-2 : tie.Need-digits-end-requires-2 Inv-loop μ-loop
 digits-end-requires-2 c κs = search needs
 
 returns-3 : tie.Need-returns-3 Inv-loop μ-loop
-returns-3 c = let l = c .before .before in c .digits-end2 .ensures ∙ digits-stop _ _ _ _ (l .loop .inv) (leading-past isDigit _ _ (c .before .loop-test .left))
+returns-3 c =
+    let l = c .before .before in
+    c .digits-end2 .ensures ∙ digits-stop _ _ _ _ (l .loop .inv) (leading-past isDigit _ _ (c .before .loop-test .left))
 
 pub digits-at-spec : {M : Type 1} → statement M
 digits-at-spec =

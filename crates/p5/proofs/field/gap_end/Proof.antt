@@ -1,4 +1,6 @@
 -- `p5::field::gap_end` meets its contract. Assumes nothing.
+use Rattle.p5.proofs.Tests.{was-true, was-false}
+-- `p5::field::gap_end` meets its contract. Assumes nothing.
 use mathlib.Core.Path.{_≡_, refl, sym, _∙_}
 use Prim.Native.Nat.{_-_}
 use borrow.Author.Tests.{not-true, not-false}
@@ -25,7 +27,9 @@ is-white-requires : tie.Need-is-white-requires Inv-loop μ-loop
 is-white-requires c κs = search needs
 
 returns : tie.Need-returns Inv-loop μ-loop
-returns c = let l = c .before .before .before .before in gap-stop _ (l .loop .i) (c .before .before .before .loop-test .taken) (sym (c .before .is-white .ensures) ∙ not-true _ (c .if1 .taken)) ∙ l .loop .inv
+returns c =
+    let l = c .before .before .before .before in
+    gap-stop _ (l .loop .i) (c .before .before .before .loop-test .taken) (was-false (c .before .is-white .ensures) (c .if1 .taken)) ∙ l .loop .inv
 
 add-i : tie.Need-add-i Inv-loop μ-loop
 add-i c = search needs
@@ -34,7 +38,9 @@ loop-less : tie.Need-loop-less Inv-loop μ-loop
 loop-less c = search needs
 
 loop-again : tie.Need-loop-again Inv-loop μ-loop
-loop-again c = let l = c .before .before .before .before in gap-pass _ (l .loop .i) (c .before .before .before .loop-test .taken) (sym (c .before .is-white .ensures) ∙ not-false _ (c .if1 .left)) ∙ l .loop .inv
+loop-again c =
+    let l = c .before .before .before .before in
+    gap-pass _ (l .loop .i) (c .before .before .before .loop-test .taken) (was-true (c .before .is-white .ensures) (c .if1 .left)) ∙ l .loop .inv
 
 returns-2 : tie.Need-returns-2 Inv-loop μ-loop
 returns-2 c = gap-past _ (c .before .loop .i) (c .loop-test .left) ∙ c .before .loop .inv

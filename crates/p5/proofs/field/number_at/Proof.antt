@@ -15,7 +15,9 @@ digits-at-requires : tie.Need-digits-at-requires
 digits-at-requires c κs = search needs
 
 returns-2 : tie.Need-returns-2
-returns-2 c = let e = c .before .before .gap-end .ensures in c .digits-at .ensures ∙ rw e (number-some _ _ (λ same. c .before .if1 .left (e ∙ same)))
+returns-2 c =
+    let e = c .before .before .gap-end .ensures in
+    c .digits-at .ensures ∙ rw e (number-some _ _ (λ same. c .before .if1 .left (e ∙ same)))
 
 pub number-at-spec : {M : Type 1} → statement M
 number-at-spec = tie.close (tie.spec gap-end-requires returns digits-at-requires returns-2)

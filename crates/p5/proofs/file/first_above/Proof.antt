@@ -27,7 +27,10 @@ wide-requires : tie.Need-wide-requires Inv-loop μ-loop
 wide-requires c κs = search needs
 
 returns : tie.Need-returns Inv-loop μ-loop
-returns c = reach-stop (atMost _) _ (c .before .before .before .before .loop .i) (c .before .before .before .loop-test .taken) (lt-leb _ _ (rw (c .before .wide .ensures) at (c .if1 .taken))) ∙ c .before .before .before .before .loop .inv
+returns c =
+    let l = c .before .before .before .before in
+    let e = rw (c .before .wide .ensures) at (c .if1 .taken) in
+    reach-stop (atMost _) _ (l .loop .i) (c .before .before .before .loop-test .taken) (lt-leb _ _ e) ∙ l .loop .inv
 
 add-i : tie.Need-add-i Inv-loop μ-loop
 add-i c = search needs
@@ -36,7 +39,10 @@ loop-less : tie.Need-loop-less Inv-loop μ-loop
 loop-less c = search needs
 
 loop-again : tie.Need-loop-again Inv-loop μ-loop
-loop-again c = reach-pass (atMost _) _ (c .before .before .before .before .loop .i) (c .before .before .before .loop-test .taken) (le-leb _ _ (rw (c .before .wide .ensures) at (c .if1 .left))) ∙ c .before .before .before .before .loop .inv
+loop-again c =
+    let l = c .before .before .before .before in
+    let e = rw (c .before .wide .ensures) at (c .if1 .left) in
+    reach-pass (atMost _) _ (l .loop .i) (c .before .before .before .loop-test .taken) (le-leb _ _ e) ∙ l .loop .inv
 
 returns-2 : tie.Need-returns-2 Inv-loop μ-loop
 returns-2 c = reach-past (atMost _) _ (c .before .loop .i) (c .loop-test .left) ∙ c .before .loop .inv

@@ -1,4 +1,6 @@
 -- `p5::file::on_header` meets its contract. Assumes nothing.
+use Rattle.p5.proofs.Tests.{was-true, was-false}
+-- `p5::file::on_header` meets its contract. Assumes nothing.
 use mathlib.Core.Bool.{true, _&&_}
 use mathlib.Core.Path.{_≡_, sym, _∙_}
 use Prim.Native.Nat.{_*_, _≤_}
@@ -13,10 +15,10 @@ use Rattle.p5.proofs.file.on_header.Tie as tie
 
 -- the sides fit, and then the largest sample
 sides : (c : tie.Else1) → let h = c .before .before .before .before .args .header in sideFits (h .width) && sideFits (h .height) ≡ true
-sides c = sym (c .before .before .sides-fit .ensures) ∙ not-false _ (c .if1 .left)
+sides c = was-true (c .before .before .sides-fit .ensures) (c .if1 .left)
 
 largest : (c : tie.Else2) → largestFits (c .before .before .before .before .before .args .header .largest) ≡ true
-largest c = sym (c .before .before .largest-fits .ensures) ∙ not-false _ (c .if2 .left)
+largest c = was-true (c .before .before .largest-fits .ensures) (c .if2 .left)
 
 places : (c : tie.Else1) → let h = c .before .before .before .before .args .header in h .width * h .height ≤ 1600
 places c = area _ _ (sides c)
@@ -28,10 +30,10 @@ largest-fits-requires : tie.Need-largest-fits-requires
 largest-fits-requires c κs = search needs
 
 returns : tie.Need-returns
-returns c = sides-outside _ _ (sym (c .before .before .sides-fit .ensures) ∙ not-true _ (c .if1 .taken))
+returns c = sides-outside _ _ (was-false (c .before .before .sides-fit .ensures) (c .if1 .taken))
 
 returns-2 : tie.Need-returns-2
-returns-2 c = largest-outside _ _ (sides (c .before)) (sym (c .before .before .largest-fits .ensures) ∙ not-true _ (c .if2 .taken))
+returns-2 c = largest-outside _ _ (sides (c .before)) (was-false (c .before .before .largest-fits .ensures) (c .if2 .taken))
 
 mul-count : tie.Need-mul-count
 mul-count c = omega (arith, places (c .before))

@@ -1,4 +1,6 @@
 -- `p5::file::read` meets its contract. Assumes nothing.
+use Rattle.p5.proofs.Tests.{was-true, was-false}
+-- `p5::file::read` meets its contract. Assumes nothing.
 use mathlib.Core.Path.{sym, ap, _∙_}
 use borrow.Author.Tests.{not-true, not-false}
 use borrow.Author.Needs.{needs}
@@ -13,7 +15,7 @@ begins-p5-requires : tie.Need-begins-p5-requires
 begins-p5-requires c κs = search needs
 
 returns : tie.Need-returns
-returns c = read-other _ (sym (c .before .begins-p5 .ensures) ∙ not-true _ (c .if1 .taken))
+returns c = read-other _ (was-false (c .before .begins-p5 .ensures) (c .if1 .taken))
 
 walk-header-requires : tie.Need-walk-header-requires
 walk-header-requires c κs = search needs
@@ -28,7 +30,13 @@ malformed-requires : tie.Need-malformed-requires
 malformed-requires c κs = search needs
 
 returns-2 : tie.Need-returns-2
-returns-2 c = let t = c .before .enum-told .given in c .malformed .ensures ∙ ap malformedAt (t .1) ∙ sym (ap (onWalk (now (c .before .before .before .before .before .before .before .args .file))) (sym (c .before .before .before .walk-header .ensures) ∙ t .1)) ∙ read-p5 _ (sym (c .before .before .before .before .before .begins-p5 .ensures) ∙ not-false _ (c .before .before .before .before .if1 .left))
+returns-2 c =
+    let told = c .before .enum-told .given in
+    let walked = c .before .before .before in
+    let f = now (walked .before .before .before .before .args .file) in
+    c .malformed .ensures ∙ ap malformedAt (told .1)
+    ∙ sym (ap (onWalk f) (sym (walked .walk-header .ensures) ∙ told .1))
+    ∙ read-p5 f (was-true (walked .before .before .begins-p5 .ensures) (walked .before .if1 .left))
 
 sub-on-header : tie.Need-sub-on-header
 sub-on-header c = offset-within _ (sym (c .before .before .before .walk-header .ensures) ∙ c .before .walk .given .1)
@@ -43,7 +51,14 @@ on-header-requires : tie.Need-on-header-requires
 on-header-requires c κs = search needs
 
 returns-3 : tie.Need-returns-3
-returns-3 c = let f = now (c .before .before .before .before .before .before .before .before .before .args .file) in let w = c .before .before .before .walk .given in c .on-header .ensures ∙ ap (onHeader (w .0 .0)) (rest-is (w .0 .0 .offset) f) ∙ sym (ap (onWalk f) (sym (c .before .before .before .before .before .walk-header .ensures) ∙ w .1)) ∙ read-p5 f (sym (c .before .before .before .before .before .before .before .begins-p5 .ensures) ∙ not-false _ (c .before .before .before .before .before .before .if1 .left))
+returns-3 c =
+    let told = c .before .before .before .walk .given in
+    let walked = c .before .before .before .before .before in
+    let f = now (walked .before .before .before .before .args .file) in
+    let h = told .0 .0 in
+    c .on-header .ensures ∙ ap (onHeader h) (rest-is (h .offset) f)
+    ∙ sym (ap (onWalk f) (sym (walked .walk-header .ensures) ∙ told .1))
+    ∙ read-p5 f (was-true (walked .before .before .begins-p5 .ensures) (walked .before .if1 .left))
 
 pub read-spec : {M : Type 1} → statement M
 read-spec =
