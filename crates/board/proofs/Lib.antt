@@ -1,2 +1,2 @@
 -- Laws of what the public calls promise.
-pub mod Reading
+pub mod Files

@@ -10,8 +10,8 @@ use Rattle.p5.specs.declared.file.Outcome.{Outcome}
 use Rattle.p5.specs.Files.{readFile, numberOf, placeOf, headerOf}
 use Rattle.board.specs.declared.Read.{Read}
 
--- a record holds the number, the place and the header of an answer
-pub record Holds (o : Outcome) (r : Read) : Type 0 where
+-- the record of an answer has its number, its place and its header
+pub record ReadIs (o : Outcome) (r : Read) : Type 0 where
   pub number : r .number ≡ numberOf o
   pub place : r .place ≡ placeOf o
   pub width : r .width ≡ headerOf o .width
@@ -20,12 +20,12 @@ pub record Holds (o : Outcome) (r : Read) : Type 0 where
   pub offset : r .offset ≡ headerOf o .offset
 
 -- the record of a refusal: beside the number and the place every figure is 0
-abbrev pub Refused : ℕ → ℕ → Read → Type 0
-Refused n p r = r ≡ record { number = n; place = p; width = 0; height = 0; largest = 0; offset = 0 }
+abbrev pub RefusedRead : ℕ → ℕ → Read → Type 0
+RefusedRead n p r = r ≡ record { number = n; place = p; width = 0; height = 0; largest = 0; offset = 0 }
 
 -- reading: the record holds the answer for the file
 abbrev pub ReadSays : List ℕ → Read → Type 0
-ReadSays f r = Holds (readFile f) r
+ReadSays f r = ReadIs (readFile f) r
 
 -- the pixels of a file: what follows its header; none on a refusal
 unfoldable pub pixelsOf : List ℕ → List ℕ

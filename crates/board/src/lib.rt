@@ -1,7 +1,7 @@
 // The public calls.
-use p5::file::Outcome;
-use p5::file::read;
-ghost use Rattle.board.specs.Says.{Refused, Holds, ReadSays, PixelsSay};
+mod reading;
+
+ghost use Rattle.board.specs.Says.{ReadSays, PixelsSay};
 
 // The number of a refusal, or 0, with the refusal's place; of an accepted file the sides, the largest sample and the offset of the pixels.
 pub struct Read {
@@ -13,44 +13,10 @@ pub struct Read {
     pub offset: usize,
 }
 
-fn refused(number: u8, place: usize) -> Read
-    ensures { λ r. ⌜ Refused number place r ⌝ }
-{
-    Read {
-        number: number,
-        place: place,
-        width: 0,
-        height: 0,
-        largest: 0,
-        offset: 0,
-    }
-}
-
-fn answer(outcome: Outcome) -> Read
-    ensures { λ r. ⌜ Holds outcome r ⌝ }
-{
-    match outcome {
-        Outcome::Accepted(header) => Read {
-            number: 0,
-            place: 0,
-            width: header.width,
-            height: header.height,
-            largest: header.largest,
-            offset: header.offset,
-        },
-        Outcome::NotP5 => refused(1, 0),
-        Outcome::Malformed(place) => refused(2, place),
-        Outcome::SideOutside => refused(3, 0),
-        Outcome::LargestOutside => refused(4, 0),
-        Outcome::CountDiffers => refused(5, 0),
-        Outcome::PixelAbove(place) => refused(6, place),
-    }
-}
-
 pub fn read_file(file: &[u8]) -> Read
     ensures { λ r. ⌜ ReadSays (now (file .entry)) r ⌝ }
 {
-    answer(read(file))
+    reading::answer(p5::file::read(file))
 }
 
 // The pixels as a part of the file; empty on a refusal.

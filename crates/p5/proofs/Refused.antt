@@ -12,7 +12,7 @@ use lib.ListN.{length, getD, drop}
 use Rattle.picture.specs.Pictures.{sideFits}
 use Rattle.p5.specs.declared.header.Header.{Header}
 use Rattle.p5.specs.declared.file.Outcome.{Outcome}
-use Rattle.p5.specs.Headers.{beginsP5, leading}
+use Rattle.p5.specs.Headers.{beginsP5}
 use Rattle.p5.specs.Files.{largestFits, atMost, readFile, numberOf}
 use Rattle.p5.specs.Shapes.{Headed, Inside, Outside, Above, Cause, other, unheaded, side, largest, count, above}
 use Rattle.p5.proofs.Tests.{and-first, and-second, and-fails, clash}

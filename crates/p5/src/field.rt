@@ -1,49 +1,17 @@
 // One number of the header, with the gap before it.
+use crate::characters::is_digit;
+use crate::characters::is_white;
 ghost use mathlib.Core.Path.{_≡_};
-ghost use mathlib.Core.Bool.{true, _&&_};
+ghost use mathlib.Core.Bool.{true};
 ghost use Prim.Native.Nat.{_+_, _-_, _*_, _<_};
-ghost use lib.Dec.{eqb, leb};
+ghost use lib.Dec.{eqb};
 ghost use Rattle.picture.specs.Lists.{pick};
-ghost use Rattle.p5.specs.Headers.{isWhite, isDigit, gapEnd, digitsAt, numberAt};
+ghost use Rattle.p5.specs.Headers.{isDigit, gapEnd, digitsAt, numberAt};
 
 // A number with the position after it, or the unfit place.
 pub enum Field {
     Number(u32, usize),
     Unfit(usize),
-}
-
-pub fn wide(byte: u8) -> u32
-    ensures { λ r. ⌜ r ≡ byte ⌝ }
-{
-    byte as u32
-}
-
-// A number is at least `low` and at most `high`.
-pub fn between(low: u32, x: u32, high: u32) -> bool
-    ensures { λ r. ⌜ r ≡ leb low x && leb x high ⌝ }
-{
-    if x < low {
-        return false;
-    }
-    x <= high
-}
-
-pub fn is_white(byte: u8) -> bool
-    ensures { λ r. ⌜ r ≡ isWhite byte ⌝ }
-{
-    match byte {
-        9 => true,
-        10 => true,
-        13 => true,
-        32 => true,
-        _ => false,
-    }
-}
-
-fn is_digit(byte: u8) -> bool
-    ensures { λ r. ⌜ r ≡ isDigit byte ⌝ }
-{
-    between(48, wide(byte), 57)
 }
 
 // The gap before a number: the position after it, `at` itself where there is none.

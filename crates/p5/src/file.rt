@@ -1,14 +1,13 @@
 // The whole file: the letters P5, the header, the ranges, the pixels' count and the pixels.
-use crate::field::between;
-use crate::field::wide;
 use crate::header::Header;
 use crate::header::Walk;
 use crate::header::walk_header;
+use crate::ranges::first_above;
+use crate::ranges::largest_fits;
+use crate::ranges::sides_fit;
 ghost use mathlib.Core.Path.{_≡_};
-ghost use mathlib.Core.Bool.{_&&_};
-ghost use Rattle.picture.specs.Pictures.{sideFits};
-ghost use Rattle.p5.specs.Headers.{beginsP5, leading};
-ghost use Rattle.p5.specs.Files.{largestFits, atMost, onPixels, onHeader, readFile, malformedAt};
+ghost use Rattle.p5.specs.Headers.{beginsP5};
+ghost use Rattle.p5.specs.Files.{onPixels, onHeader, readFile, malformedAt};
 
 // The first two bytes of a file.
 pub const P5: [u8; 2] = *b"P5";
@@ -34,41 +33,6 @@ pub fn begins_p5(file: &[u8]) -> bool
         return false;
     }
     file[1] == P5[1]
-}
-
-pub fn side_fits(side: u32) -> bool
-    ensures { λ r. ⌜ r ≡ sideFits side ⌝ }
-{
-    between(1, side, 40)
-}
-
-pub fn sides_fit(width: u32, height: u32) -> bool
-    ensures { λ r. ⌜ r ≡ sideFits width && sideFits height ⌝ }
-{
-    if !side_fits(width) {
-        return false;
-    }
-    side_fits(height)
-}
-
-pub fn largest_fits(largest: u32) -> bool
-    ensures { λ r. ⌜ r ≡ largestFits largest ⌝ }
-{
-    between(1, largest, 255)
-}
-
-// The first place above the largest sample, the number of pixels where there is none.
-pub fn first_above(pixels: &[u8], largest: u32) -> usize
-    ensures { λ r. ⌜ r ≡ leading (atMost largest) (now (pixels .entry)) ⌝ }
-{
-    let mut i = 0;
-    while i < pixels.len() {
-        if wide(pixels[i]) > largest {
-            return i;
-        }
-        i += 1;
-    }
-    i
 }
 
 // The answer of the pixels.

@@ -1,6 +1,6 @@
 // The header of a P5 file: three numbers and one white space byte.
+use crate::characters::is_white;
 use crate::field::Field;
-use crate::field::is_white;
 use crate::field::number_at;
 ghost use mathlib.Core.Path.{_≡_};
 ghost use Rattle.p5.specs.Headers.{walk, endAt, stoppedAt};

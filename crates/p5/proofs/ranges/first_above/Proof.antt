@@ -1,4 +1,4 @@
--- `p5::file::first_above` meets its contract. Assumes nothing.
+-- `p5::ranges::first_above` meets its contract. Assumes nothing.
 use mathlib.Core.Path.{_≡_, _∙_}
 use Prim.Native.Nat.{_+_, _-_}
 use native.Mathlib.Nat.{zero-add}
@@ -8,8 +8,8 @@ use lib.ListN.{length, drop}
 use Rattle.p5.specs.Files.{atMost}
 use Rattle.p5.specs.Headers.{leading}
 use Rattle.p5.proofs.Leading.{reach-pass, reach-stop, reach-past}
-use Rattle.p5.proofs.file.first_above.Statement.{statement}
-use Rattle.p5.proofs.file.first_above.Tie as tie
+use Rattle.p5.proofs.ranges.first_above.Statement.{statement}
+use Rattle.p5.proofs.ranges.first_above.Tie as tie
 
 abbrev Inv-loop : tie.InvT-loop
 Inv-loop pixels largest i₀ i = i + leading (atMost largest) (drop i pixels) ≡ leading (atMost largest) pixels

@@ -1,7 +1,7 @@
--- `p5::field::is_white` meets its contract. Assumes nothing.
+-- `p5::characters::is_white` meets its contract. Assumes nothing.
 use borrow.Author.Tests.{ne-eqb}
-use Rattle.p5.proofs.field.is_white.Statement.{statement}
-use Rattle.p5.proofs.field.is_white.Tie as tie
+use Rattle.p5.proofs.characters.is_white.Statement.{statement}
+use Rattle.p5.proofs.characters.is_white.Tie as tie
 
 returns : tie.Need-returns
 returns c = rw (c .match .keys1)

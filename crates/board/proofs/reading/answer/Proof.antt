@@ -1,9 +1,9 @@
--- `board::answer` meets its contract. Assumes nothing.
+-- `board::reading::answer` meets its contract. Assumes nothing.
 use mathlib.Core.Path.{refl}
 use borrow.Author.Needs.{needs}
-use Rattle.board.proofs.Reading.{refused-holds}
-use Rattle.board.proofs.answer.Statement.{statement}
-use Rattle.board.proofs.answer.Tie as tie
+use Rattle.board.proofs.Files.{refused-read}
+use Rattle.board.proofs.reading.answer.Statement.{statement}
+use Rattle.board.proofs.reading.answer.Tie as tie
 
 enum-known-outcome : tie.Need-enum-known-outcome
 enum-known-outcome c = search needs
@@ -48,22 +48,22 @@ returns : tie.Need-returns
 returns c = search needs
 
 returns-2 : tie.Need-returns-2
-returns-2 c = rw (c .before .enum-told .given .1) (refused-holds _ (c .refused .ensures) refl)
+returns-2 c = rw (c .before .enum-told .given .1) (refused-read _ (c .refused .ensures) refl)
 
 returns-3 : tie.Need-returns-3
-returns-3 c = rw (c .before .before .outcome2 .given .1) (refused-holds _ (c .refused2 .ensures) refl)
+returns-3 c = rw (c .before .before .outcome2 .given .1) (refused-read _ (c .refused2 .ensures) refl)
 
 returns-4 : tie.Need-returns-4
-returns-4 c = rw (c .before .enum-told2 .given .1) (refused-holds _ (c .refused3 .ensures) refl)
+returns-4 c = rw (c .before .enum-told2 .given .1) (refused-read _ (c .refused3 .ensures) refl)
 
 returns-5 : tie.Need-returns-5
-returns-5 c = rw (c .before .enum-told3 .given .1) (refused-holds _ (c .refused4 .ensures) refl)
+returns-5 c = rw (c .before .enum-told3 .given .1) (refused-read _ (c .refused4 .ensures) refl)
 
 returns-6 : tie.Need-returns-6
-returns-6 c = rw (c .before .enum-told4 .given .1) (refused-holds _ (c .refused5 .ensures) refl)
+returns-6 c = rw (c .before .enum-told4 .given .1) (refused-read _ (c .refused5 .ensures) refl)
 
 returns-7 : tie.Need-returns-7
-returns-7 c = rw (c .before .before .outcome3 .given .1) (refused-holds _ (c .refused6 .ensures) refl)
+returns-7 c = rw (c .before .before .outcome3 .given .1) (refused-read _ (c .refused6 .ensures) refl)
 
 pub answer-spec : {M : Type 1} → statement M
 answer-spec =

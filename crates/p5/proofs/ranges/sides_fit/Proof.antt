@@ -1,11 +1,11 @@
--- `p5::file::sides_fit` meets its contract. Assumes nothing.
+-- `p5::ranges::sides_fit` meets its contract. Assumes nothing.
 use Rattle.p5.proofs.Tests.{was-true, was-false}
--- `p5::file::sides_fit` meets its contract. Assumes nothing.
+-- `p5::ranges::sides_fit` meets its contract. Assumes nothing.
 use mathlib.Core.Path.{sym, _∙_}
 use borrow.Author.Tests.{not-true, not-false}
 use borrow.Author.Needs.{needs}
-use Rattle.p5.proofs.file.sides_fit.Statement.{statement}
-use Rattle.p5.proofs.file.sides_fit.Tie as tie
+use Rattle.p5.proofs.ranges.sides_fit.Statement.{statement}
+use Rattle.p5.proofs.ranges.sides_fit.Tie as tie
 
 side-fits-requires : tie.Need-side-fits-requires
 side-fits-requires c κs = search needs

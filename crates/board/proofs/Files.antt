@@ -8,10 +8,10 @@ use Rattle.p5.specs.declared.header.Header.{Header}
 use Rattle.p5.specs.declared.file.Outcome.{Outcome}
 use Rattle.p5.specs.Files.{readFile, numberOf, placeOf, headerOf, noHeader}
 use Rattle.board.specs.declared.Read.{Read}
-use Rattle.board.specs.Says.{Holds, Refused, pixelsOf}
+use Rattle.board.specs.Says.{ReadIs, RefusedRead, pixelsOf}
 
-pub refused-holds : (o : Outcome) {r : Read} → Refused (numberOf o) (placeOf o) r → headerOf o ≡ noHeader → Holds o r
-refused-holds o e h =
+pub refused-read : (o : Outcome) {r : Read} → RefusedRead (numberOf o) (placeOf o) r → headerOf o ≡ noHeader → ReadIs o r
+refused-read o e h =
     record {
       number = ap (λ (x : Read). x .number) e;
       place = ap (λ (x : Read). x .place) e;

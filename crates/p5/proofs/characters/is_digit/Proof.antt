@@ -1,8 +1,8 @@
--- `p5::field::is_digit` meets its contract. Assumes nothing.
+-- `p5::characters::is_digit` meets its contract. Assumes nothing.
 use mathlib.Core.Path.{_∙_}
 use borrow.Author.Needs.{needs}
-use Rattle.p5.proofs.field.is_digit.Statement.{statement}
-use Rattle.p5.proofs.field.is_digit.Tie as tie
+use Rattle.p5.proofs.characters.is_digit.Statement.{statement}
+use Rattle.p5.proofs.characters.is_digit.Tie as tie
 
 wide-requires : tie.Need-wide-requires
 wide-requires c κs = search needs
