@@ -49,13 +49,13 @@ module _ (h : Header) (s : List ℕ) where
     largest-outside e = rw (sides, e)
 
     module _ (largest : largestFits (h .largest) ≡ true) where
-      pub count-differs : (length s ≡ h .width * h .height → ⊥) → CountDiffers ≡ onHeader h s
+      pub count-differs : eqb (length s) (h .width * h .height) ≡ false → CountDiffers ≡ onHeader h s
       unfolding onHeader
-      count-differs e = rw (sides, largest, ne-eqb _ _ e)
+      count-differs e = rw (sides, largest, e)
 
-      pub count-fits : length s ≡ h .width * h .height → onPixels h s ≡ onHeader h s
+      pub count-same : eqb (length s) (h .width * h .height) ≡ true → onPixels h s ≡ onHeader h s
       unfolding onHeader
-      count-fits e = rw (sides, largest, eq-eqb _ _ e)
+      count-same e = rw (sides, largest, e)
 
 module _ (f : List ℕ) where
   pub read-other : beginsP5 f ≡ false → NotP5 ≡ readFile f

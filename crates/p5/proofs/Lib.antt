@@ -1,4 +1,4 @@
--- Laws of the definitions, which the proofs of the functions cite.
+-- The theorems about reading are in Accepted, Refused and Places; the other modules are laws that they and the proofs of the functions cite.
 pub mod Tests
 pub mod Leading
 pub mod Gap

@@ -2,6 +2,7 @@
 use crate::header::Header;
 use crate::header::Walk;
 use crate::header::walk_header;
+use crate::ranges::count_fits;
 use crate::ranges::first_above;
 use crate::ranges::largest_fits;
 use crate::ranges::sides_fit;
@@ -61,8 +62,7 @@ pub fn on_header(header: Header, pixels: &[u8]) -> Outcome
     if !largest {
         return Outcome::LargestOutside;
     }
-    let count = width * height;
-    if pixels.len() != count as usize {
+    if !count_fits(width, height, pixels.len()) {
         return Outcome::CountDiffers;
     }
     on_pixels(header, pixels)

@@ -1,7 +1,8 @@
 // The ranges of the sides, of the largest sample and of the pixels.
 ghost use mathlib.Core.Path.{_≡_};
-ghost use mathlib.Core.Bool.{_&&_};
-ghost use lib.Dec.{leb};
+ghost use mathlib.Core.Bool.{true, _&&_};
+ghost use Prim.Native.Nat.{_*_};
+ghost use lib.Dec.{eqb, leb};
 ghost use Rattle.picture.specs.Pictures.{sideFits};
 ghost use Rattle.p5.specs.Headers.{leading};
 ghost use Rattle.p5.specs.Files.{largestFits, atMost};
@@ -41,6 +42,15 @@ pub fn largest_fits(largest: u32) -> bool
     ensures { λ r. ⌜ r ≡ largestFits largest ⌝ }
 {
     between(1, largest, 255)
+}
+
+// The pixels are as many as the places of a picture with these sides.
+pub fn count_fits(width: u32, height: u32, count: usize) -> bool
+    requires { ⌜ sideFits width && sideFits height ≡ true ⌝ }
+    ensures { λ r. ⌜ r ≡ eqb count (width * height) ⌝ }
+{
+    let places = width * height;
+    count == places as usize
 }
 
 // The first place above the largest sample, the number of pixels where there is none.
