@@ -14,10 +14,10 @@ read-file-requires : tie.Need-read-file-requires
 read-file-requires c κs = search needs
 
 sub-result : tie.Need-sub-result
-sub-result c = rw (c .before .read-file .ensures .offset) (answer-within _)
+sub-result c = omega (arith, c .before .read-file .ensures .offset, answer-within (now (c .before .before .before .args .file)))
 
 part-result-start : tie.Need-part-result-start
-part-result-start c = rw (c .before .read-file .ensures .offset) (answer-within _)
+part-result-start c = omega (arith, c .before .read-file .ensures .offset, answer-within (now (c .before .before .before .args .file)))
 
 part-result-end : tie.Need-part-result-end
 part-result-end c = search needs
