@@ -1,0 +1,99 @@
+-- Laws of the answer for a walked header, its pixels and a whole file. Assumes nothing.
+use mathlib.Core.Path.{_≡_, refl}
+use mathlib.Core.Bool.{true, false, _&&_}
+use mathlib.Core.List.{List}
+use Prim.Native.Nat.{ℕ, _*_, _-_, _≤_, zero-le}
+use native.Mathlib.Nat.{mul-le-mul}
+use native.Mathlib.Omega.{arith}
+use borrow.Author.Tests.{leb-true, eq-eqb, ne-eqb}
+use lib.Dec.{eqb, leb}
+use lib.ListN.{length, take, drop, length-drop}
+use lib.Seq.{take-all}
+use Rattle.picture.specs.Pictures.{sideFits}
+use Rattle.p5.specs.declared.header.Header.{Header}
+use Rattle.p5.specs.declared.header.Walk.{Walk}
+use Rattle.p5.specs.declared.header.Walk.the-variants.{Walked, Stopped}
+use Rattle.p5.specs.declared.file.Outcome.{Outcome}
+use Rattle.p5.specs.declared.file.Outcome.the-variants.{Accepted, NotP5, Malformed, SideOutside, LargestOutside, CountDiffers, PixelAbove}
+use Rattle.p5.specs.Headers.{beginsP5, leading, walk}
+use Rattle.p5.specs.Files.{largestFits, atMost, onPixels, onHeader, onWalk, readFile, numberOf, headerOf, noHeader}
+use Rattle.p5.proofs.Tests.{on-pick, and-first, and-second}
+use Rattle.p5.proofs.Walking.{offset-within}
+
+-- sides in range leave at most 1,600 places
+pub area : (w h : ℕ) → sideFits w && sideFits h ≡ true → w * h ≤ 1600
+area w h e =
+    mul-le-mul (leb-true w 40 (and-second (leb 1 w) _ (and-first (sideFits w) _ e)))
+    (leb-true h 40 (and-second (leb 1 h) _ (and-second (sideFits w) _ e)))
+
+-- the part of a list from a position on, as a slice of it is made
+pub rest-is : (p : ℕ) (f : List ℕ) → take (length f - p) (drop p f) ≡ drop p f
+rest-is p f = take-all (length f - p) (drop p f) (omega (arith, length-drop p f))
+
+module _ (h : Header) (s : List ℕ) where
+  pub pixels-fit : leading (atMost (h .largest)) s ≡ length s → Accepted h ≡ onPixels h s
+  unfolding onPixels
+  pixels-fit e = rw (eq-eqb _ _ e)
+
+  pub pixels-exceed : (leading (atMost (h .largest)) s ≡ length s → ⊥) → PixelAbove (leading (atMost (h .largest)) s) ≡ onPixels h s
+  unfolding onPixels
+  pixels-exceed e = rw (ne-eqb _ _ e)
+
+  pub sides-outside : sideFits (h .width) && sideFits (h .height) ≡ false → SideOutside ≡ onHeader h s
+  unfolding onHeader
+  sides-outside e = rw e
+
+  module _ (sides : sideFits (h .width) && sideFits (h .height) ≡ true) where
+    pub largest-outside : largestFits (h .largest) ≡ false → LargestOutside ≡ onHeader h s
+    unfolding onHeader
+    largest-outside e = rw (sides, e)
+
+    module _ (largest : largestFits (h .largest) ≡ true) where
+      pub count-differs : eqb (length s) (h .width * h .height) ≡ false → CountDiffers ≡ onHeader h s
+      unfolding onHeader
+      count-differs e = rw (sides, largest, e)
+
+      pub count-same : eqb (length s) (h .width * h .height) ≡ true → onPixels h s ≡ onHeader h s
+      unfolding onHeader
+      count-same e = rw (sides, largest, e)
+
+module _ (f : List ℕ) where
+  pub read-other : beginsP5 f ≡ false → NotP5 ≡ readFile f
+  unfolding readFile
+  read-other e = rw e
+
+  pub read-p5 : beginsP5 f ≡ true → onWalk f (walk f) ≡ readFile f
+  unfolding readFile
+  read-p5 e = rw e
+
+-- the offset of an answer lies within the file, 0 on a refusal
+header-within : (h : Header) (s : List ℕ) (n : ℕ) → h .offset ≤ n → headerOf (onHeader h s) .offset ≤ n
+unfolding onHeader onPixels
+header-within h s n e =
+    on-pick Within (sideFits (h .width) && sideFits (h .height))
+    (λ _. on-pick Within (largestFits (h .largest))
+    (λ _. on-pick Within (eqb (length s) (h .width * h .height))
+    (λ _. on-pick Within (eqb (leading (atMost (h .largest)) s) (length s)) (λ _. e) (λ _. zero-le))
+    (λ _. zero-le))
+    (λ _. zero-le))
+    (λ _. zero-le)
+  where
+    Within : Outcome → Type 0
+    Within o = headerOf o .offset ≤ n
+
+pub answer-within : (f : List ℕ) → headerOf (readFile f) .offset ≤ length f
+unfolding readFile
+answer-within f = on-pick (λ (o : Outcome). headerOf o .offset ≤ length f) (beginsP5 f) (λ _. walked (walk f) refl) (λ _. zero-le)
+  where
+    walked : (w : Walk) → walk f ≡ w → headerOf (onWalk f w) .offset ≤ length f
+    walked (Walked h) e = header-within h _ (length f) (offset-within f e)
+    walked (Stopped p) e = zero-le
+
+pub refused-header : (o : Outcome) → (numberOf o ≡ 0 → ⊥) → headerOf o ≡ noHeader
+refused-header (Accepted h) n = absurd (n refl)
+refused-header NotP5 n = refl
+refused-header (Malformed p) n = refl
+refused-header SideOutside n = refl
+refused-header LargestOutside n = refl
+refused-header CountDiffers n = refl
+refused-header (PixelAbove x) n = refl

@@ -1,0 +1,18 @@
+-- `p5::ranges::count_fits` meets its contract. Assumes nothing.
+use native.Mathlib.Omega.{arith}
+use borrow.Author.Needs.{needs}
+use Rattle.p5.proofs.Answers.{area}
+use Rattle.p5.proofs.ranges.count_fits.Statement.{statement}
+use Rattle.p5.proofs.ranges.count_fits.Tie as tie
+
+mul-places : tie.Need-mul-places
+mul-places c = omega (arith, area (c .args .width) (c .args .height) (c .pre))
+
+cast-result : tie.Need-cast-result
+cast-result c = omega (arith, area (c .args .width) (c .args .height) (c .pre))
+
+returns : tie.Need-returns
+returns c = search needs
+
+pub count-fits-spec : {M : Type 1} → statement M
+count-fits-spec = tie.close (tie.spec mul-places cast-result returns)

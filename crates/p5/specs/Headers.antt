@@ -1,0 +1,78 @@
+-- The grammar of a P5 header, in the order of the scope document. A position counts bytes from the start of the file.
+use mathlib.Core.Bool.{Bool, _&&_, _||_}
+use mathlib.Core.List.{List, [], _∷_}
+use Prim.Native.Nat.{ℕ, suc, _+_, _-_, _*_}
+use lib.Dec.{eqb, leb}
+use lib.ListN.{getD, take, drop}
+use Rattle.picture.specs.Lists.{pick}
+use Rattle.p5.specs.declared.field.Field.{Field}
+use Rattle.p5.specs.declared.field.Field.the-variants.{Number, Unfit}
+use Rattle.p5.specs.declared.header.Walk.{Walk}
+use Rattle.p5.specs.declared.header.Walk.the-variants.{Walked, Stopped}
+
+-- the first two bytes are 80 and 53, the letters P5
+abbrev pub beginsP5 : List ℕ → Bool
+beginsP5 f = eqb (getD f 0 0) 80 && eqb (getD f 1 0) 53
+
+-- white space is any of the bytes 9, 10, 13 and 32
+abbrev pub isWhite : ℕ → Bool
+isWhite b = eqb b 9 || (eqb b 10 || (eqb b 13 || eqb b 32))
+
+-- how many bytes at the front pass the test, up to the first that does not
+abbrev pub leading : (ℕ → Bool) → List ℕ → ℕ
+leading t [] = 0
+leading t (b ∷ s) = pick (t b) (suc (leading t s)) 0
+
+-- the gap before a number, all the white space from a position on: the position after it
+unfoldable pub gapEnd : List ℕ → ℕ → ℕ
+gapEnd f p = p + leading isWhite (drop p f)
+
+-- a decimal digit is one of the bytes 48 to 57
+abbrev pub isDigit : ℕ → Bool
+isDigit b = leb 48 b && leb b 57
+
+-- the value of digits that follow digits of value v
+abbrev pub decimalFrom : ℕ → List ℕ → ℕ
+decimalFrom v [] = v
+decimalFrom v (b ∷ s) = decimalFrom (v * 10 + (b - 48)) s
+
+-- the value of digits
+abbrev pub decimal : List ℕ → ℕ
+decimal s = decimalFrom 0 s
+
+-- 1 to 5 digits from a position on: their value and the position after them; a missing digit or a sixth one is unfit
+unfoldable pub digitsAt : List ℕ → ℕ → Field
+digitsAt f p =
+    let d = leading isDigit (drop p f) in
+    pick (eqb d 0) (Unfit p) (pick (leb d 5) (Number (decimal (take d (drop p f))) (p + d)) (Unfit (p + 5)))
+
+-- a header number: a gap of at least one byte, then the digits
+unfoldable pub numberAt : List ℕ → ℕ → Field
+numberAt f p = pick (eqb (gapEnd f p) p) (Unfit p) (digitsAt f (gapEnd f p))
+
+-- one white space byte after the third number; the pixels begin after it
+unfoldable pub endAt : List ℕ → ℕ → ℕ → ℕ → ℕ → Walk
+endAt f w h m p =
+    pick (isWhite (getD f p 0)) (Walked (record { width = w; height = h; largest = m; offset = p + 1 })) (Stopped p)
+
+-- the walk from the answer of the third number, of the second, of the first: a field that is not well formed ends it there
+abbrev pub fromLargest : List ℕ → ℕ → ℕ → Field → Walk
+fromLargest f w h (Number m p) = endAt f w h m p
+fromLargest f w h (Unfit p) = Stopped p
+
+abbrev pub fromHeight : List ℕ → ℕ → Field → Walk
+fromHeight f w (Number h p) = fromLargest f w h (numberAt f p)
+fromHeight f w (Unfit p) = Stopped p
+
+abbrev pub fromWidth : List ℕ → Field → Walk
+fromWidth f (Number w p) = fromHeight f w (numberAt f p)
+fromWidth f (Unfit p) = Stopped p
+
+-- the whole header: width, height, largest sample, one white space byte
+unfoldable pub walk : List ℕ → Walk
+walk f = fromWidth f (numberAt f 2)
+
+-- the place where the walk stops at a field
+abbrev pub stoppedAt : Field → Walk
+stoppedAt (Number n p) = Stopped p
+stoppedAt (Unfit p) = Stopped p

@@ -1,0 +1,23 @@
+// White space and digits.
+use crate::ranges::between;
+use crate::ranges::wide;
+ghost use mathlib.Core.Path.{_≡_};
+ghost use Rattle.p5.specs.Headers.{isWhite, isDigit};
+
+pub fn is_white(byte: u8) -> bool
+    ensures { λ r. ⌜ r ≡ isWhite byte ⌝ }
+{
+    match byte {
+        9 => true,
+        10 => true,
+        13 => true,
+        32 => true,
+        _ => false,
+    }
+}
+
+pub fn is_digit(byte: u8) -> bool
+    ensures { λ r. ⌜ r ≡ isDigit byte ⌝ }
+{
+    between(48, wide(byte), 57)
+}

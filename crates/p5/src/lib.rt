@@ -1,0 +1,6 @@
+// Reading one P5 file.
+pub mod characters;
+pub mod field;
+pub mod file;
+pub mod header;
+pub mod ranges;
