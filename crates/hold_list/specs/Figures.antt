@@ -1,0 +1,31 @@
+-- Lines of patches from lists of their figures.
+use mathlib.Core.Path.{_≡_}
+use mathlib.Core.List.{List, [], _∷_, _++_}
+use Prim.Native.Nat.{ℕ, suc, _≤_, _<_}
+use lib.ListN.{length, getD}
+use Rattle.picture.specs.Patches.{centre}
+use Rattle.text.specs.Decimal.{fields}
+
+-- the texts of the numbers of a list, one behind the other
+abbrev pub flat : (ℕ → List ℕ) → List ℕ → List ℕ
+flat f [] = []
+flat f (x ∷ xs) = f x ++ flat f xs
+
+-- the line of the patch i: number, size, height, depth, centres from the sums of columns and rows
+abbrev pub lineOf : ℕ → ℕ → ℕ → ℕ → ℕ → ℕ → List ℕ
+lineOf i s h d c r = fields (suc i ∷ s ∷ h ∷ d ∷ centre c s ∷ centre r s ∷ [])
+
+-- the same from lists of sizes, heights, depths, column sums and row sums
+abbrev pub lineAt : List ℕ → List ℕ → List ℕ → List ℕ → List ℕ → ℕ → List ℕ
+lineAt ss hs ds cs rs i =
+    lineOf i (getD ss i 0) (getD hs i 0) (getD ds i 0) (getD cs i 0) (getD rs i 0)
+
+-- lists of figures of count patches, each of one pixel at least
+pub record Lists (count : ℕ) (ss hs ds cs rs : List ℕ) : Type 0 where
+  pub few : count ≤ 1600
+  pub sizes : count ≤ length ss
+  pub heights : count ≤ length hs
+  pub depths : count ≤ length ds
+  pub columns : count ≤ length cs
+  pub rows : count ≤ length rs
+  pub some : (i : ℕ) → i < count → 1 ≤ getD ss i 0

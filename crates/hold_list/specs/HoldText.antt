@@ -1,0 +1,64 @@
+-- What the program `holds` prints for a file.
+use mathlib.Core.Bool.{true, false}
+use mathlib.Core.List.{List, [], _∷_, _++_}
+use Prim.Native.Nat.{ℕ}
+use lib.Dec.{eqb, ltb}
+use lib.ListN.{length, drop}
+use Rattle.picture.specs.Pictures.{Picture}
+use Rattle.picture.specs.Watersheds.{watershed}
+use Rattle.picture.specs.Patches.{Patch, patches, lineCount, centre}
+use Rattle.p5.specs.Files.{readFile, numberOf, headerOf}
+use Rattle.text.specs.Decimal.{decimal, fields}
+
+-- the words `picture`, `patches` and `refused`, each with the space behind it, and `line` between spaces
+abbrev pub pictureWord : List ℕ
+pictureWord = 112 ∷ 105 ∷ 99 ∷ 116 ∷ 117 ∷ 114 ∷ 101 ∷ 32 ∷ []
+
+abbrev pub patchesWord : List ℕ
+patchesWord = 112 ∷ 97 ∷ 116 ∷ 99 ∷ 104 ∷ 101 ∷ 115 ∷ 32 ∷ []
+
+abbrev pub lineWord : List ℕ
+lineWord = 32 ∷ 108 ∷ 105 ∷ 110 ∷ 101 ∷ 32 ∷ []
+
+abbrev pub refusedWord : List ℕ
+refusedWord = 114 ∷ 101 ∷ 102 ∷ 117 ∷ 115 ∷ 101 ∷ 100 ∷ 32 ∷ []
+
+-- the line of a patch: number, size, height, depth, centre column and centre row in tenths
+abbrev pub patchLine : Patch → List ℕ
+patchLine q =
+    fields
+    (q .number ∷ q .size ∷ q .height ∷ q .depth ∷ centre (q .columns) (q .size) ∷ centre (q .rows) (q .size) ∷ [])
+
+-- the lines of patches
+abbrev pub patchLines : List Patch → List ℕ
+patchLines [] = []
+patchLines (q ∷ qs) = patchLine q ++ patchLines qs
+
+-- the two lines above them: the sides, and how many patches and line pixels there are
+abbrev pub headLines : ℕ → ℕ → ℕ → ℕ → List ℕ
+headLines w h count line =
+    pictureWord ++ (fields (w ∷ h ∷ []) ++ (patchesWord ++ (decimal count ++ (lineWord ++ fields (line ∷ [])))))
+
+-- the hold list of a picture: the patches and the line of its watershed
+unfoldable pub holdList : Picture → List ℕ
+holdList p =
+    let a = watershed p in
+    headLines (p .width) (p .height) (length (patches a)) (lineCount a) ++ patchLines (patches a)
+
+-- the line of a refusal
+abbrev pub refusedLine : ℕ → List ℕ
+refusedLine n = refusedWord ++ fields (n ∷ [])
+
+-- the picture of an accepted file, with adjacency 4
+abbrev pub pictureOf : List ℕ → Picture
+pictureOf f =
+    let h = headerOf (readFile f) in
+    record { adjacency = 4; width = h .width; height = h .height; pixels = drop (h .offset) f }
+
+-- the text for a file: 12 for more than 4096 bytes, else the refusal of reading, else the hold list
+unfoldable pub holdText : List ℕ → List ℕ
+holdText f =
+    elim (ltb 4096 (length f)) [
+      | true ↦ refusedLine 12
+      | false ↦ elim (eqb (numberOf (readFile f)) 0) [ true ↦ holdList (pictureOf f) | false ↦ refusedLine (numberOf (readFile f)) ]
+    ]

@@ -1,0 +1,3 @@
+-- The text of the hold list.
+pub mod HoldText
+pub mod Figures

@@ -1,0 +1,2 @@
+// The hold list as text.
+pub mod lines;
