@@ -21,3 +21,7 @@ pub mod Grid
 pub mod Climb
 pub mod Partners
 pub mod Demand
+pub mod Numbering
+pub mod Flood
+pub mod Labelled
+pub mod Agreeing
