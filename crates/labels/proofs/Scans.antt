@@ -2,12 +2,11 @@
 use mathlib.Core.Path.{_≡_, refl, sym, ap, subst, _∙_}
 use mathlib.Core.Bool.{true, false}
 use mathlib.Core.Logic.{_≢_}
-use mathlib.Core.List.{List, _++_}
+use mathlib.Core.List.{List, _++_, append-nil}
 use Prim.Native.Nat.{ℕ, _+_, _*_, _≤_, _<_}
 use native.Mathlib.Omega.{arith}
 use lib.Dec.{eqb}
 use lib.ListN.{length, getD, drop, replicate, length-replicate, drop-of-length-le}
-use mathlib.Core.List.{append-nil}
 use Rattle.picture.specs.Pictures.{Picture, places, isPicture}
 use Rattle.picture.specs.Components.{inSection}
 use Rattle.picture.specs.Geometry.{Placed}
@@ -19,21 +18,22 @@ use Rattle.topology.proofs.Labelled.{Labelled, labelled-start, count-most, outs
 use Rattle.labels.specs.Labels.{Ready, Scanned, LabelsHold}
 use Rattle.labels.specs.Floods.{Room, Seed, Floods}
 
+-- what an accepted picture gives
+module _ (p : Picture) (a : isPicture p ≡ true) where
+  pub picture-few : places p ≤ 1600
+  picture-few = places-bound p (accepted-is p a)
+
+  pub picture-size : length (p .pixels) ≡ places p
+  picture-size = accepted-is p a .size
+
+  pub picture-placed : (x : ℕ) → x < places p → Placed (p .width) (p .height) x
+  picture-placed x h = let e = accepted-is p a in record { some = e .wide; wide = e .narrow; high = e .short; inside = h }
+
 module _ (p : Picture) (l stack : List ℕ) (a : Ready p l stack) where
-  pub ready-few : places p ≤ 1600
-  ready-few = places-bound p (accepted-is p (a .accepted))
-
-  pub ready-size : length (p .pixels) ≡ places p
-  ready-size = accepted-is p (a .accepted) .size
-
-  pub ready-placed : (x : ℕ) → x < places p → Placed (p .width) (p .height) x
-  ready-placed x h =
-      let e = accepted-is p (a .accepted) in record { some = e .wide; wide = e .narrow; high = e .short; inside = h }
-
   pub ready-room : Room (places p) (p .pixels) l stack 0
   ready-room =
       let most = tally-length (eqb 0) l in
-      record { few = ready-few; pixel = ready-size; label = a .label; cells = a .cells; room = omega arith }
+      record { few = picture-few p (a .accepted); pixel = picture-size p (a .accepted); label = a .label; cells = a .cells; room = omega arith }
 
   module _ (k x c : ℕ) (h : x < places p) (s : Labelled p k x c l) where
     pub scan-outside : inSection p k x ≡ false → Scanned p k (x + 1) c l stack stack
@@ -44,7 +44,7 @@ module _ (p : Picture) (l stack : List ℕ) (a : Ready p l stack) where
 
     -- the number of components so far, and one more
     pub scan-count : c + 1 ≤ 1600
-    scan-count = let m = count-most p k x c l h s in let n = ready-few in omega arith
+    scan-count = let m = count-most p k x c l h s in let n = picture-few p (a .accepted) in omega arith
 
     module _ (e : inSection p k x ≡ true) (z : getD l x 0 ≡ 0) where
       begins : isFirst p k x ≡ true

@@ -10,10 +10,6 @@ use Rattle.labels.specs.Labels.{picture}
 use Rattle.labels.proofs.Floods.{Flowing, seed-some, flowing-start, flowing-top, flowing-room, flowing-turn, flowing-end}
 use Rattle.labels.proofs.flood.flood.Statement.{statement}
 use Rattle.labels.proofs.flood.flood.Tie as tie
-use Rattle.labels.proofs.flood.flood.Reads as reads
-use Rattle.labels.proofs.flood.flood.Lts as lts
-use Rattle.labels.proofs.flood.spread.Reads as spread-reads
-use Rattle.labels.proofs.flood.wide.Reads as wide-reads
 
 abbrev Inv-loop : tie.InvT-loop
 Inv-loop a w h pixels k x c labels₀ stack₀ t₀ labels stack t =
@@ -28,49 +24,38 @@ pictured c =
     let s = c .before .before .before .before in
     picture (s .args .a) (s .args .w) (s .args .h) (s .args .pixels .now)
 
--- src/flood.rt:64:5
 mul-labels : tie.Need-mul-labels Inv-loop μ-loop
 mul-labels c = search needs
 
--- src/flood.rt:64:5
 slice-write-labels : tie.Need-slice-write-labels Inv-loop μ-loop
 slice-write-labels c = search needs
 
--- src/flood.rt:65:16
 cast-stack : tie.Need-cast-stack Inv-loop μ-loop
 cast-stack c = search needs
 
--- src/flood.rt:65:5
 slice-write-stack : tie.Need-slice-write-stack Inv-loop μ-loop
 slice-write-stack c = search needs
 
--- src/flood.rt:67:5
 loop-holds : tie.Need-loop-holds Inv-loop μ-loop
 loop-holds c =
     let s = c .before .before .before in
     flowing-start (picture (s .args .a) (s .args .w) (s .args .h) (s .args .pixels .now)) _ _ _ _ _ (s .pre .1) (s .pre .2)
 
--- src/flood.rt:68:51
 sub-wide : tie.Need-sub-wide Inv-loop μ-loop
 sub-wide c = search needs
 
--- src/flood.rt:68:45
 mul-wide : tie.Need-mul-wide Inv-loop μ-loop
 mul-wide c = search needs
 
--- src/flood.rt:68:45
 slice-read-wide : tie.Need-slice-read-wide Inv-loop μ-loop
 slice-read-wide c = search needs
 
--- src/flood.rt:68:40
 wide-requires : tie.Need-wide-requires Inv-loop μ-loop
 wide-requires c κs = search needs
 
--- src/flood.rt:68:78
 sub-spread : tie.Need-sub-spread Inv-loop μ-loop
 sub-spread c = search needs
 
--- src/flood.rt:68:9
 spread-requires : tie.Need-spread-requires Inv-loop μ-loop
 spread-requires c κs =
     let w = c .before .before in
@@ -85,7 +70,6 @@ spread-requires c κs =
       seed-some (pictured top) _ _ _ _ (s .pre .2),
     )
 
--- src/flood.rt:67:5
 loop-less : tie.Need-loop-less Inv-loop μ-loop
 loop-less c =
     let g = c .before .before .before .before .spread .ensures .moved in
@@ -93,7 +77,6 @@ loop-less c =
     let b = g .less in
     omega arith
 
--- src/flood.rt:67:5
 loop-again : tie.Need-loop-again Inv-loop μ-loop
 loop-again c =
     let g = c .before .before .before .before in
@@ -105,15 +88,12 @@ loop-again c =
     (g .before .before .before .wide .ensures)
     (g .spread .ensures)
 
--- src/flood.rt:60:1
 same-length : tie.Need-same-length Inv-loop μ-loop
 same-length c = search needs
 
--- src/flood.rt:60:1
 same-length-2 : tie.Need-same-length-2 Inv-loop μ-loop
 same-length-2 c = c .before .loop .inv .cells ∙ simp length-set
 
--- src/flood.rt:60:1
 returns : tie.Need-returns Inv-loop μ-loop
 returns c =
     let top = c .before in

@@ -11,11 +11,6 @@ use Rattle.labels.specs.Labels.{picture}
 use Rattle.labels.specs.Floods.{Spread}
 use Rattle.labels.proofs.flood.spread.Statement.{statement}
 use Rattle.labels.proofs.flood.spread.Tie as tie
-use Rattle.labels.proofs.flood.spread.Reads as reads
-use Rattle.labels.proofs.flood.spread.Lts as lts
-use Rattle.labels.proofs.flood.visit.Reads as visit-reads
-use Rattle.labels.proofs.flood.wide.Reads as wide-reads
-use Rattle.picture.proofs.geometry.neighbours.Reads as neighbours-reads
 
 abbrev Inv-loop : tie.InvT-loop
 Inv-loop a w h pixels k x c labels₀ stack₀ top near count t₀ i₀ labels stack t i =
@@ -34,31 +29,24 @@ near-is c =
     let top = c .before .before in
     c .wide .ensures ∙ listed-at _ _ _ _ (top .before .before .neighbours .ensures) (top .loop .i) (c .before .loop-test .taken)
 
--- src/flood.rt:49:40
 slice-aggregate-neighbours : tie.Need-slice-aggregate-neighbours Inv-loop μ-loop
 slice-aggregate-neighbours c = search needs
 
--- src/flood.rt:49:9
 neighbours-requires : tie.Need-neighbours-requires Inv-loop μ-loop
 neighbours-requires c κs = search needs
 
--- src/flood.rt:52:5
 loop-holds : tie.Need-loop-holds Inv-loop μ-loop
 loop-holds c = search needs
 
--- src/flood.rt:53:35
 mul-wide : tie.Need-mul-wide Inv-loop μ-loop
 mul-wide c = search needs
 
--- src/flood.rt:53:35
 array-read-wide : tie.Need-array-read-wide Inv-loop μ-loop
 array-read-wide c = search needs
 
--- src/flood.rt:53:30
 wide-requires : tie.Need-wide-requires Inv-loop μ-loop
 wide-requires c κs = search needs
 
--- src/flood.rt:53:9
 visit-requires : tie.Need-visit-requires Inv-loop μ-loop
 visit-requires c κs =
     let top = c .before .before .before .before in
@@ -70,15 +58,12 @@ visit-requires c κs =
       omega (arith, near-is (c .before .before), neighbour-at p (s .args .x) (top .loop .i) (omega arith) .0),
     )
 
--- src/flood.rt:54:9
 add-i : tie.Need-add-i Inv-loop μ-loop
 add-i c = search needs
 
--- src/flood.rt:52:5
 loop-less : tie.Need-loop-less Inv-loop μ-loop
 loop-less c = search needs
 
--- src/flood.rt:52:5
 loop-again : tie.Need-loop-again Inv-loop μ-loop
 loop-again c =
     let v = c .before .before .before .before in
@@ -91,15 +76,12 @@ loop-again c =
           (top .loop .inv .1) (v .visit .ensures),
     )
 
--- src/flood.rt:44:1
 same-length : tie.Need-same-length Inv-loop μ-loop
 same-length c = search needs
 
--- src/flood.rt:44:1
 same-length-2 : tie.Need-same-length-2 Inv-loop μ-loop
 same-length-2 c = search needs
 
--- src/flood.rt:44:1
 returns : tie.Need-returns Inv-loop μ-loop
 returns c =
     let top = c .before in

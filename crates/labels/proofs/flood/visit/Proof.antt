@@ -9,72 +9,54 @@ use Rattle.labels.proofs.Floods.{unmarked-some, visit-outside}
 use borrow.Author.Needs.{needs}
 use Rattle.labels.proofs.flood.visit.Statement.{statement}
 use Rattle.labels.proofs.flood.visit.Tie as tie
-use Rattle.labels.proofs.flood.visit.Reads as reads
-use Rattle.labels.proofs.flood.visit.Lts as lts
-use Rattle.labels.proofs.flood.in_section.Reads as in-section-reads
 
--- src/flood.rt:32:20
 shared-slice-read-in-section : tie.Need-shared-slice-read-in-section
 shared-slice-read-in-section c = search needs
 
--- src/flood.rt:32:9
 in-section-requires : tie.Need-in-section-requires
 in-section-requires c κs = search needs
 
--- src/flood.rt:33:9
 returns : tie.Need-returns
 returns c =
     let t = c .before .in-section in
     visit-outside _ _ _ _ _ _ _ (sym (t .ensures) ∙ not-true (t .result) (c .if1 .taken))
 
--- src/flood.rt:35:8
 mul-if2 : tie.Need-mul-if2
 mul-if2 c = search needs
 
--- src/flood.rt:35:8
 slice-read-if2 : tie.Need-slice-read-if2
 slice-read-if2 c = search needs
 
--- src/flood.rt:36:9
 returns-2 : tie.Need-returns-2
 returns-2 c = passed refl refl refl (λ h. c .if2 .taken)
 
--- src/flood.rt:38:5
 mul-labels : tie.Need-mul-labels
 mul-labels c = search needs
 
--- src/flood.rt:38:5
 slice-write-labels : tie.Need-slice-write-labels
 slice-write-labels c = search needs
 
--- src/flood.rt:39:16
 cast-stack : tie.Need-cast-stack
 cast-stack c = search needs
 
--- src/flood.rt:39:5
 mul-stack : tie.Need-mul-stack
 mul-stack c = search needs
 
--- src/flood.rt:39:5
 slice-write-stack : tie.Need-slice-write-stack
 slice-write-stack c =
     let s = c .before .before .before .before .before .before .before .before in
     let b : s .args .y < length (s .args .labels .now) = omega arith in
     omega (arith, unmarked-some (s .args .labels .now) (s .args .y) b (c .if2 .left))
 
--- src/flood.rt:40:5
 add-result : tie.Need-add-result
 add-result c = search needs
 
--- src/flood.rt:28:1
 same-length : tie.Need-same-length
 same-length c = search needs
 
--- src/flood.rt:28:1
 same-length-2 : tie.Need-same-length-2
 same-length-2 c = search needs
 
--- src/flood.rt:28:1
 returns-3 : tie.Need-returns-3
 returns-3 c =
     let t = c .before .before .before .in-section in

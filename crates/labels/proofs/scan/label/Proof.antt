@@ -6,13 +6,9 @@ use native.Mathlib.Omega.{arith}
 use lib.ListN.{length}
 use Rattle.picture.specs.Pictures.{Picture}
 use Rattle.labels.specs.Labels.{picture, Scanned}
-use Rattle.labels.proofs.Scans.{ready-size, scan-start, scan-ready, scan-turn, scan-end}
+use Rattle.labels.proofs.Scans.{picture-size, scan-start, scan-ready, scan-turn, scan-end}
 use Rattle.labels.proofs.scan.label.Statement.{statement}
 use Rattle.labels.proofs.scan.label.Tie as tie
-use Rattle.labels.proofs.scan.label.Reads as reads
-use Rattle.labels.proofs.scan.label.Lts as lts
-use Rattle.labels.proofs.scan.label_place.Reads as label-place-reads
-use Rattle.picture.proofs.clearing.clear.Reads as clear-reads
 
 abbrev Inv-loop : tie.InvT-loop
 Inv-loop a w h pixels k labels₀ stack₀ n c₀ x₀ labels stack c x =
@@ -25,22 +21,19 @@ abbrev μ-loop : tie.MeasureT-loop
 abbrev pictured : tie.Start Inv-loop μ-loop → Picture
 pictured s = picture (s .args .a) (s .args .w) (s .args .h) (s .args .pixels .now)
 
--- src/scan.rt:30:5
 clear-requires : tie.Need-clear-requires Inv-loop μ-loop
 clear-requires c κs =
     let s = c .before .before .before .before in
-    omega (arith, ready-size (pictured s) _ _ (s .pre), s .pre .label)
+    omega (arith, picture-size (pictured s) (s .pre .accepted), s .pre .label)
 
--- src/scan.rt:33:5
 loop-holds : tie.Need-loop-holds Inv-loop μ-loop
 loop-holds c =
     let s = c .before .before .before .before .before .before .before in (
       search needs,
       search needs,
-      scan-start (pictured s) _ _ _ _ _ (s .pre .label) (ready-size (pictured s) _ _ (s .pre)) (c .before .before .clear .ensures),
+      scan-start (pictured s) _ _ _ _ _ (s .pre .label) (picture-size (pictured s) (s .pre .accepted)) (c .before .before .clear .ensures),
     )
 
--- src/scan.rt:34:9
 label-place-requires : tie.Need-label-place-requires Inv-loop μ-loop
 label-place-requires c κs =
     let top = c .before .before .before in
@@ -48,18 +41,15 @@ label-place-requires c κs =
     let inv = top .loop .inv in (
       scan-ready (pictured s) _ _ _ _ _ _ _ (s .pre) (inv .1) (inv .2),
       inv .2 .labelled,
-      omega (arith, ready-size (pictured s) _ _ (s .pre)),
+      omega (arith, picture-size (pictured s) (s .pre .accepted)),
     )
 
--- src/scan.rt:35:9
 add-x : tie.Need-add-x Inv-loop μ-loop
 add-x c = search needs
 
--- src/scan.rt:33:5
 loop-less : tie.Need-loop-less Inv-loop μ-loop
 loop-less c = search needs
 
--- src/scan.rt:33:5
 loop-again : tie.Need-loop-again Inv-loop μ-loop
 loop-again c =
     let v = c .before .before .before .before in
@@ -69,20 +59,17 @@ loop-again c =
       scan-turn _ _ _ _ _ _ _ _ _ _ (inv .2) (v .label-place .ensures),
     )
 
--- src/scan.rt:25:1
 same-length : tie.Need-same-length Inv-loop μ-loop
 same-length c = search needs
 
--- src/scan.rt:25:1
 same-length-2 : tie.Need-same-length-2 Inv-loop μ-loop
 same-length-2 c = search needs
 
--- src/scan.rt:25:1
 returns : tie.Need-returns Inv-loop μ-loop
 returns c =
     let top = c .before in
     let s = top .before .before .before .before .before .before .before .before in
-    let n = ready-size (pictured s) _ _ (s .pre) in
+    let n = picture-size (pictured s) (s .pre .accepted) in
     scan-end (pictured s) _ _ _ _ _ _ (omega arith) (top .loop .inv .2)
 
 pub label-spec : {M : Type 1} → statement M
