@@ -1,8 +1,8 @@
 -- The laws that every public call shares: its fault, its refusal, and what it leaves in the lent slices.
 -- A call's proof has three steps. The fault is one of the functions of the module faults, and `refused-answer` and `refused-left` close
--- its refusal. With no fault, `shell-picture` accepts the picture: that its entries are bytes is what the rules of a `&[u8]` give at the
--- entry of every function that calls something, as `c .. .shared-slice-known .given i`. At the end `accepted-answer`, `written-left` and
--- `cleared-left` close the return.
+-- its refusal. With no fault, `admitted` accepts the picture: that its pixels are bytes is what the rules of a `&[u8]` give at the entry of
+-- every function that calls something, as `c .. .shared-slice-known .given i`, for each index i. At the end `accepted-answer`,
+-- `written-over` and `cleared-left` close the return; of a part lent to the core `lent-length`, `back-room` and `behind-lent` say the rest.
 use mathlib.Core.Path.{_≡_, refl, sym, ap, ap₂, subst, _∙_}
 use mathlib.Core.Bool.{Bool, true, false, _&&_, _||_}
 use mathlib.Core.Logic.{_≢_, _↔_}
@@ -220,12 +220,12 @@ behind-lent n m ys q e h g =
     ap (λ (i : ℕ). drop i (ys ++ drop n q)) s ∙
     (drop-append-add ys (drop n q) (m - n) ∙ (drop-drop (m - n) n q ∙ ap (λ (i : ℕ). drop i q) t))
 
--- work cleared over m entries, of which some in front were lent to a core
+-- work cleared over 5 n entries, of which the first were lent to a core
 pub cleared-left :
-    (f m : ℕ) (p : Picture) (q lent q′ : List ℕ) → f ≡ 0 → m ≡ 5 * places p → drop m lent ≡ drop m q →
-    q′ ≡ replicate {A = ℕ} m 0 ++ drop m lent → q′ ≡ workAfter f p q
-cleared-left f m p q lent q′ z e d c =
+    (f n : ℕ) (p : Picture) (q lent q′ : List ℕ) → f ≡ 0 → n ≡ places p → drop (5 * n) lent ≡ drop (5 * n) q →
+    q′ ≡ replicate {A = ℕ} (5 * n) 0 ++ drop (5 * n) lent → q′ ≡ workAfter f p q
+cleared-left f n p q lent q′ z e d c =
     c ∙
-    (ap (λ (o : List ℕ). replicate m 0 ++ o) d ∙
-    (ap (λ (i : ℕ). replicate i 0 ++ drop i q) e ∙
+    (ap (λ (o : List ℕ). replicate (5 * n) 0 ++ o) d ∙
+    (ap (λ (i : ℕ). replicate (5 * i) 0 ++ drop (5 * i) q) e ∙
     written-over f (5 * places p) (replicate (5 * places p) 0) q _ z (length-replicate (5 * places p) 0) refl))

@@ -36,6 +36,11 @@ Refused f r = r ≡ record { number = f; value = 0 }
 abbrev pub Accepted : ℕ → Answer → Type 0
 Accepted v r = r ≡ record { number = 0; value = v }
 
+-- the end of a call that is not refused: the value, and work cleared over 5 n entries
+pub record Finished (n v : ℕ) (q q′ : List ℕ) (r : Answer) : Type 0 where
+  pub answer : Accepted v r
+  pub work : q′ ≡ replicate {A = ℕ} (5 * n) 0 ++ drop (5 * n) q
+
 -- the fault of a call that lends output and work, and of one that lends work and names a place
 abbrev pub outputFaultOf : Picture → List ℕ → List ℕ → ℕ
 outputFaultOf p o q =

@@ -1,4 +1,4 @@
-// The public calls. Each decides its refusal from numbers and lengths, lends exact parts to one core, and clears work.
+// The public calls. Each has one function decide its refusal from numbers and lengths, lends exact parts to one core, and finishes.
 use faults::output_fault;
 use faults::place_fault;
 use labels::lowerable::lowerable;
@@ -8,9 +8,11 @@ use picture::clearing::clear;
 pub mod faults;
 
 ghost use mathlib.Core.Path.{_≡_};
+ghost use Prim.Native.Nat.{_*_, _≤_};
+ghost use lib.ListN.{length};
 ghost use Rattle.picture.specs.Lists.{pick};
 ghost use Rattle.labels.specs.Labels.{picture};
-ghost use Rattle.calls.specs.Says.{Refused, Accepted, LabelsSay, LowerSays};
+ghost use Rattle.calls.specs.Says.{Refused, Accepted, Finished, LabelsSay, LowerSays};
 
 // The number of a refusal, or 0 with the number of labels, nodes or patches, the pass, or 1 for yes.
 pub struct Answer {
@@ -46,6 +48,15 @@ fn one_if(yes: bool) -> u32
     0
 }
 
+// The end of a call that is not refused: work is cleared over 5 n entries, and the value answered.
+fn finish(work: &mut [u16], n: usize, value: u32) -> Answer
+    requires { ⌜ (n ≤ 1600) × (5 * n ≤ length (now work)) ⌝ }
+    ensures { λ r. ⌜ Finished n value (now (work .entry)) (now (work .exit)) r ⌝ }
+{
+    clear(work, 5 * n);
+    accepted(value)
+}
+
 // The labels of the section at height k; answers the number of its components.
 pub fn label_section(
     a: u32,
@@ -63,10 +74,8 @@ pub fn label_section(
         return refused(fault);
     }
     let n = pixels.len();
-    let whole = 5 * n;
-    let count = label(a, w, h, pixels, k, &mut out[..n], &mut work[..whole]);
-    clear(work, whole);
-    accepted(count as u32)
+    let count = label(a, w, h, pixels, k, &mut out[..n], &mut work[..n]);
+    finish(work, n, count as u32)
 }
 
 // Whether the pixel at a place is lowerable: answers 1 for yes, 0 for no.
@@ -78,8 +87,6 @@ pub fn is_lowerable(a: u32, w: u32, h: u32, pixels: &[u8], place: u32, work: &mu
         return refused(fault);
     }
     let n = pixels.len();
-    let whole = 5 * n;
     let yes = lowerable(a, w, h, pixels, place as usize, &mut work[..n]);
-    clear(work, whole);
-    accepted(one_if(yes))
+    finish(work, n, one_if(yes))
 }

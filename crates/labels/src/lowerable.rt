@@ -32,14 +32,14 @@ fn agree(common: u16, label: u16) -> u16
     SEVERAL
 }
 
-// A common label is that of exactly one component.
-fn single(common: u16) -> bool
-    ensures { λ r. ⌜ r ≡ isSingle common ⌝ }
+// The label found is that of exactly one component.
+fn single(found: u16) -> bool
+    ensures { λ r. ⌜ r ≡ isSingle found ⌝ }
 {
-    if common == 0 {
+    if found == 0 {
         return false;
     }
-    common != SEVERAL
+    found != SEVERAL
 }
 
 // The label common to the neighbours of the place x.

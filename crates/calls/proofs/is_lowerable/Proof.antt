@@ -1,4 +1,4 @@
--- `calls::is_lowerable` meets its contract: a refusal leaves all as it was, and else the core and the clearing leave what is said.
+-- `calls::is_lowerable` meets its contract: a refusal leaves all as it was, and else the core and the end leave what is said.
 use mathlib.Core.Path.{_≡_, sym, ap, _∙_}
 use mathlib.Core.Bool.{Bool}
 use Prim.Native.Nat.{ℕ, _*_, _<_}
@@ -17,12 +17,12 @@ use Rattle.calls.proofs.is_lowerable.Tie as tie
 abbrev pictured : tie.Start → Picture
 pictured s = picture (s .args .a) (s .args .w) (s .args .h) (s .args .pixels .now)
 
--- the fault, and the number of entries of work that are cleared
+-- the fault, and the number of pixels
 abbrev fault : tie.Start → ℕ
 fault s = placeFaultOf (pictured s) (s .args .work .now) (s .args .place)
 
-abbrev whole : tie.Start → ℕ
-whole s = 5 * length (s .args .pixels .now)
+abbrev size : tie.Start → ℕ
+size s = length (s .args .pixels .now)
 
 -- past the refusal there is no fault
 abbrev origin : tie.Else1 → tie.Start
@@ -57,9 +57,6 @@ returns c =
       work = refused-left f _ (t .ensures) (c .before .if1 .taken) _ _;
     }
 
-mul-whole : tie.Need-mul-whole
-mul-whole c = let a = lends c in omega (arith, a .size, a .few)
-
 slice-relend-prefix-lowerable : tie.Need-slice-relend-prefix-lowerable
 slice-relend-prefix-lowerable c = omega (arith, lends c .room)
 
@@ -71,44 +68,45 @@ lowerable-requires c κs =
     let e = c .before in
     let a = lends e in
     let s = origin e in
-    let n = lent-length (length (s .args .pixels .now)) (s .args .work .now) (omega (arith, a .room)) in
+    let n = lent-length (size s) (s .args .work .now) (omega (arith, a .room)) in
     (a .picture, omega (arith, a .size, n), enough e .1)
-
-clear-requires : tie.Need-clear-requires
-clear-requires c κs =
-    let t = c .before .before .before in
-    let s = origin (t .before .before) in
-    back-room (length (s .args .pixels .now)) (whole s) (t .lowerable .last .1 .1 .1 .1 .1 .0) (s .args .work .now)
-    (t .lowerable .kept .1 .1 .1 .1 .1 .0)
-    (lends (t .before .before) .room)
 
 one-if-requires : tie.Need-one-if-requires
 one-if-requires c κs = search needs
 
-accepted-requires : tie.Need-accepted-requires
-accepted-requires c κs = search needs
+finish-requires : tie.Need-finish-requires
+finish-requires c κs =
+    let t = c .before .before .before .before in
+    let e = t .before .before in
+    let s = origin e in
+    let a = lends e in (
+      omega (arith, a .size, a .few),
+      back-room (size s) (5 * size s) (t .lowerable .last .1 .1 .1 .1 .1 .0) (s .args .work .now) (t .lowerable .kept .1 .1 .1 .1 .1 .0)
+          (a .room),
+    )
 
 same-length : tie.Need-same-length
 same-length c = search needs
 
 returns-2 : tie.Need-returns-2
 returns-2 c =
-    let t = c .before .before .before .before .before .before .before .before in
+    let f = c .before .before .finish in
+    let t = c .before .before .before .before .before .before .before in
     let e = t .before .before in
     let s = origin e in
     let a = lends e in
     record {
       answer =
           accepted-answer (fault s) _ _ _ (none e)
-          (c .before .one-if .ensures ∙ ap (λ (yes : Bool). pick yes 1 0) (t .lowerable .ensures))
-          (c .accepted .ensures);
+          (c .before .before .before .one-if .ensures ∙ ap (λ (yes : Bool). pick yes 1 0) (t .lowerable .ensures))
+          (f .ensures .answer);
       work =
-          cleared-left (fault s) (whole s) (pictured s) _ _ _ (none e) (ap (λ (l : ℕ). 5 * l) (a .size))
-          (behind-lent (length (s .args .pixels .now)) (whole s) (t .lowerable .last .1 .1 .1 .1 .1 .0) (s .args .work .now)
+          cleared-left (fault s) (size s) (pictured s) _ _ _ (none e) (a .size)
+          (behind-lent (size s) (5 * size s) (t .lowerable .last .1 .1 .1 .1 .1 .0) (s .args .work .now)
           (t .lowerable .kept .1 .1 .1 .1 .1 .0)
           (omega arith)
           (a .room))
-          (c .before .before .before .before .clear .ensures);
+          (f .ensures .work);
     }
 
 pub is-lowerable-spec : {M : Type 1} → statement M
@@ -118,12 +116,10 @@ is-lowerable-spec =
     place-fault-requires
     refused-requires
     returns
-    mul-whole
     slice-relend-prefix-lowerable
     slice-aggregate-lowerable
     lowerable-requires
-    clear-requires
     one-if-requires
-    accepted-requires
+    finish-requires
     same-length
     returns-2)

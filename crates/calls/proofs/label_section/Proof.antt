@@ -1,9 +1,8 @@
--- `calls::label_section` meets its contract: a refusal leaves all as it was, and else the core and the clearing leave what is said.
-use mathlib.Core.Path.{_≡_, sym, ap, _∙_}
+-- `calls::label_section` meets its contract: a refusal leaves all as it was, and else the core and the end leave what is said.
+use mathlib.Core.Path.{_≡_, sym, _∙_}
 use Prim.Native.Nat.{ℕ, _*_, _≤_}
 use native.Mathlib.Omega.{arith}
 use lib.ListN.{length}
-use native.Mathlib.Nat.{le-refl}
 use Rattle.picture.specs.Pictures.{Picture, places}
 use Rattle.topology.proofs.Numbering.{length-labels}
 use Rattle.labels.specs.Labels.{picture}
@@ -17,12 +16,12 @@ use Rattle.calls.proofs.label_section.Tie as tie
 abbrev pictured : tie.Start → Picture
 pictured s = picture (s .args .a) (s .args .w) (s .args .h) (s .args .pixels .now)
 
--- the fault, and the number of entries of work that are lent and cleared
+-- the fault, and the number of pixels
 abbrev fault : tie.Start → ℕ
 fault s = outputFaultOf (pictured s) (s .args .out .now) (s .args .work .now)
 
-abbrev whole : tie.Start → ℕ
-whole s = 5 * length (s .args .pixels .now)
+abbrev size : tie.Start → ℕ
+size s = length (s .args .pixels .now)
 
 -- past the refusal there is no fault
 abbrev origin : tie.Else1 → tie.Start
@@ -31,7 +30,10 @@ origin c = c .before .before .before .before .before
 none : (c : tie.Else1) → fault (origin c) ≡ 0
 none c = sym (c .before .output-fault .ensures) ∙ c .if1 .left
 
-enough : (c : tie.Else1) → let s = origin c in (workFaultOf (pictured s) (length (s .args .work .now)) ≡ 0) × (places (pictured s) ≤ length (s .args .out .now))
+enough :
+    (c : tie.Else1) →
+    let s = origin c in
+    (workFaultOf (pictured s) (length (s .args .work .now)) ≡ 0) × (places (pictured s) ≤ length (s .args .out .now))
 enough c = output-enough _ _ _ _ _ _ (none c)
 
 lends : (c : tie.Else1) → let s = origin c in Admitted (pictured s) (length (s .args .work .now))
@@ -55,9 +57,6 @@ returns c =
       work = refused-left f _ (t .ensures) (c .before .if1 .taken) _ _;
     }
 
-mul-whole : tie.Need-mul-whole
-mul-whole c = let a = lends c in omega (arith, a .size, a .few)
-
 slice-relend-prefix-label : tie.Need-slice-relend-prefix-label
 slice-relend-prefix-label c = omega (arith, lends c .size, enough c .1)
 
@@ -65,33 +64,32 @@ slice-aggregate-label : tie.Need-slice-aggregate-label
 slice-aggregate-label c = lent-length _ _ (omega (arith, lends (c .before) .size, enough (c .before) .1))
 
 slice-relend-prefix-label-2 : tie.Need-slice-relend-prefix-label-2
-slice-relend-prefix-label-2 c = lends (c .before) .room
+slice-relend-prefix-label-2 c = omega (arith, lends (c .before) .room)
 
 slice-aggregate-label-2 : tie.Need-slice-aggregate-label-2
-slice-aggregate-label-2 c = lent-length _ _ (lends (c .before .before) .room)
+slice-aggregate-label-2 c = lent-length _ _ (omega (arith, lends (c .before .before) .room))
 
 label-requires : tie.Need-label-requires
 label-requires c κs =
     let e = c .before .before in
     let a = lends e in
     let s = origin e in
-    let l = length (s .args .pixels .now) in
-    let n = lent-length l (s .args .out .now) (omega (arith, a .size, enough e .1)) in
-    let m = lent-length (whole s) (s .args .work .now) (a .room) in
+    let n = lent-length (size s) (s .args .out .now) (omega (arith, a .size, enough e .1)) in
+    let m = lent-length (size s) (s .args .work .now) (omega (arith, a .room)) in
     record { accepted = a .picture; label = omega (arith, a .size, n); cells = omega (arith, a .size, m) }
 
-clear-requires : tie.Need-clear-requires
-clear-requires c κs =
+cast-finish : tie.Need-cast-finish
+cast-finish c = search needs
+
+finish-requires : tie.Need-finish-requires
+finish-requires c κs =
     let t = c .before .before .before .before .before in
-    let a = lends (t .before .before .before) in
-    let s = origin (t .before .before .before) in
-    back-room (whole s) (whole s) (t .label .last .1 .1 .1 .1 .1 .1 .0) (s .args .work .now) (t .label .kept .1 .1 .1 .1 .1 .1 .0) (a .room)
-
-cast-accepted : tie.Need-cast-accepted
-cast-accepted c = search needs
-
-accepted-requires : tie.Need-accepted-requires
-accepted-requires c κs = search needs
+    let e = t .before .before .before in
+    let s = origin e in
+    let a = lends e in (
+      omega (arith, a .size, a .few),
+      back-room (size s) (5 * size s) (t .label .last .1 .1 .1 .1 .1 .1 .0) (s .args .work .now) (t .label .kept .1 .1 .1 .1 .1 .1 .0) (a .room),
+    )
 
 same-length : tie.Need-same-length
 same-length c = search needs
@@ -101,17 +99,21 @@ same-length-2 c = search needs
 
 returns-2 : tie.Need-returns-2
 returns-2 c =
-    let t = c .before .before .before .before .before .before .before .before .before in
+    let f = c .before .before .finish in
+    let t = c .before .before .before .before .before .before .before .before in
     let e = t .before .before .before in
     let s = origin e in
     let a = lends e in
     record {
-      answer = accepted-answer (fault s) _ _ _ (none e) (t .label .ensures .count) (c .accepted .ensures);
-      output = written-over (fault s) _ _ _ _ (none e) (length-labels (pictured s) _ ∙ sym (a .size)) (t .label .ensures .labels);
+      answer = accepted-answer (fault s) _ _ _ (none e) (t .label .ensures .count) (f .ensures .answer);
+      output =
+          written-over (fault s) _ _ _ _ (none e) (length-labels (pictured s) _ ∙ sym (a .size)) (t .label .ensures .labels);
       work =
-          cleared-left (fault s) (whole s) (pictured s) _ _ _ (none e) (ap (λ (l : ℕ). 5 * l) (a .size))
-          (behind-lent (whole s) (whole s) (t .label .last .1 .1 .1 .1 .1 .1 .0) (s .args .work .now) (t .label .kept .1 .1 .1 .1 .1 .1 .0) (le-refl _) (a .room))
-          (c .before .before .before .clear .ensures);
+          cleared-left (fault s) (size s) (pictured s) _ _ _ (none e) (a .size)
+          (behind-lent (size s) (5 * size s) (t .label .last .1 .1 .1 .1 .1 .1 .0) (s .args .work .now) (t .label .kept .1 .1 .1 .1 .1 .1 .0)
+          (omega arith)
+          (a .room))
+          (f .ensures .work);
     }
 
 pub label-section-spec : {M : Type 1} → statement M
@@ -121,15 +123,13 @@ label-section-spec =
     output-fault-requires
     refused-requires
     returns
-    mul-whole
     slice-relend-prefix-label
     slice-aggregate-label
     slice-relend-prefix-label-2
     slice-aggregate-label-2
     label-requires
-    clear-requires
-    cast-accepted
-    accepted-requires
+    cast-finish
+    finish-requires
     same-length
     same-length-2
     returns-2)
