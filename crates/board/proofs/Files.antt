@@ -8,7 +8,7 @@ use Rattle.p5.specs.declared.header.Header.{Header}
 use Rattle.p5.specs.declared.file.Outcome.{Outcome}
 use Rattle.p5.specs.Files.{readFile, numberOf, placeOf, headerOf, noHeader}
 use Rattle.board.specs.declared.Read.{Read}
-use Rattle.board.specs.Says.{ReadIs, RefusedRead, pixelsOf}
+use Rattle.board.specs.Reads.{ReadIs, RefusedRead, pixelsOf}
 
 pub refused-read : (o : Outcome) {r : Read} → RefusedRead (numberOf o) (placeOf o) r → headerOf o ≡ noHeader → ReadIs o r
 refused-read o e h =

@@ -1,2 +1,3 @@
 -- Laws of what the public calls promise.
 pub mod Files
+pub mod Shell

@@ -1,2 +1,4 @@
 -- What the public calls promise.
-pub mod Says
+pub mod Reads
+pub mod Faults
+pub mod Calls

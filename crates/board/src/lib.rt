@@ -1,7 +1,20 @@
-// The public calls.
+// The public calls. Each has one function decide its refusal from numbers and lengths, lends exact parts to one core, and finishes.
+use faults::output_fault;
+use faults::place_fault;
+use labels::lowerable::lowerable;
+use labels::scan::label;
+use picture::clearing::clear;
+
+pub mod faults;
 mod reading;
 
-ghost use Rattle.board.specs.Says.{ReadSays, PixelsSay};
+ghost use mathlib.Core.Path.{_≡_};
+ghost use Prim.Native.Nat.{_*_, _≤_};
+ghost use lib.ListN.{length};
+ghost use Rattle.picture.specs.Lists.{pick};
+ghost use Rattle.labels.specs.Labels.{picture};
+ghost use Rattle.board.specs.Reads.{ReadSays, PixelsSay};
+ghost use Rattle.board.specs.Calls.{Refused, Accepted, Finished, LabelsSay, LowerSays};
 
 // The number of a refusal, or 0, with the refusal's place; of an accepted file the sides, the largest sample and the offset of the pixels.
 pub struct Read {
@@ -31,4 +44,81 @@ pub fn file_pixels<'a>(file: &'a [u8]) -> &'a [u8]
     } else {
         &file[..0]
     }
+}
+
+// The number of a refusal, or 0 with the number of labels, nodes or patches, the pass, or 1 for yes.
+pub struct Answer {
+    pub number: u8,
+    pub value: u32,
+}
+
+fn refused(number: u8) -> Answer
+    ensures { λ r. ⌜ Refused number r ⌝ }
+{
+    Answer {
+        number: number,
+        value: 0,
+    }
+}
+
+fn accepted(value: u32) -> Answer
+    ensures { λ r. ⌜ Accepted value r ⌝ }
+{
+    Answer {
+        number: 0,
+        value: value,
+    }
+}
+
+// 1 for yes, 0 for no.
+fn one_if(yes: bool) -> u32
+    ensures { λ r. ⌜ r ≡ pick yes 1 0 ⌝ }
+{
+    if yes {
+        return 1;
+    }
+    0
+}
+
+// The end of a call that is not refused: work is cleared over 5 n entries, and the value answered.
+fn finish(work: &mut [u16], n: usize, value: u32) -> Answer
+    requires { ⌜ (n ≤ 1600) × (5 * n ≤ length (now work)) ⌝ }
+    ensures { λ r. ⌜ Finished n value (now (work .entry)) (now (work .exit)) r ⌝ }
+{
+    clear(work, 5 * n);
+    accepted(value)
+}
+
+// The labels of the section at height k; answers the number of its components.
+pub fn label_section(
+    a: u32,
+    w: u32,
+    h: u32,
+    pixels: &[u8],
+    k: u8,
+    out: &mut [u16],
+    work: &mut [u16],
+) -> Answer
+    ensures { λ r. ⌜ LabelsSay (picture a w h (now (pixels .entry))) k (now (out .entry)) (now (out .exit)) (now (work .entry)) (now (work .exit)) r ⌝ }
+{
+    let fault = output_fault(a, w, h, pixels.len(), out.len(), work.len());
+    if fault != 0 {
+        return refused(fault);
+    }
+    let n = pixels.len();
+    let count = label(a, w, h, pixels, k, &mut out[..n], &mut work[..n]);
+    finish(work, n, count as u32)
+}
+
+// Whether the pixel at a place is lowerable: answers 1 for yes, 0 for no.
+pub fn is_lowerable(a: u32, w: u32, h: u32, pixels: &[u8], place: u32, work: &mut [u16]) -> Answer
+    ensures { λ r. ⌜ LowerSays (picture a w h (now (pixels .entry))) place (now (work .entry)) (now (work .exit)) r ⌝ }
+{
+    let fault = place_fault(a, w, h, pixels.len(), work.len(), place);
+    if fault != 0 {
+        return refused(fault);
+    }
+    let n = pixels.len();
+    let yes = lowerable(a, w, h, pixels, place as usize, &mut work[..n]);
+    finish(work, n, one_if(yes))
 }

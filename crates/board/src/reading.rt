@@ -1,7 +1,7 @@
 // The record of an answer for a file.
 use crate::Read;
 use p5::file::Outcome;
-ghost use Rattle.board.specs.Says.{RefusedRead, ReadIs};
+ghost use Rattle.board.specs.Reads.{RefusedRead, ReadIs};
 
 fn refused(number: u8, place: usize) -> Read
     ensures { λ r. ⌜ RefusedRead number place r ⌝ }

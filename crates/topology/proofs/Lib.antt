@@ -28,3 +28,7 @@ pub mod Positions
 pub mod Leaves
 pub mod PatchNumbers
 pub mod PatchFigures
+pub mod Numbering
+pub mod Flood
+pub mod Labelled
+pub mod Agreeing

@@ -1,0 +1,61 @@
+-- What the public calls promise: the answer, and what they leave in each lent slice.
+use mathlib.Core.Path.{_≡_}
+use mathlib.Core.Bool.{Bool}
+use mathlib.Core.List.{List, _++_}
+use Prim.Native.Nat.{ℕ, _*_}
+use lib.Dec.{eqb}
+use lib.ListN.{length, drop, replicate}
+use Rattle.picture.specs.Lists.{pick}
+use Rattle.picture.specs.Pictures.{Picture, places}
+use Rattle.picture.specs.Components.{components, labels}
+use Rattle.picture.specs.Watersheds.{lowerable}
+use Rattle.board.specs.Faults.{outputFault, placeFault}
+use Rattle.board.specs.declared.Answer.{Answer}
+
+-- a list in front of what follows in another
+abbrev pub over : List ℕ → List ℕ → List ℕ
+over xs ys = xs ++ drop (length xs) ys
+
+-- what a call with the fault f leaves in a lent slice: the new content where there is no fault, else the old
+abbrev pub afterCall : ℕ → List ℕ → List ℕ → List ℕ
+afterCall f new old = pick (eqb f 0) new old
+
+-- work is zero over its named length after success, as before a refusal
+abbrev pub workAfter : ℕ → Picture → List ℕ → List ℕ
+workAfter f p q = afterCall f (over (replicate (5 * places p) 0) q) q
+
+-- the number of the refusal, or 0 with the value
+pub record Answered (f v : ℕ) (r : Answer) : Type 0 where
+  pub number : r .number ≡ f
+  pub value : r .value ≡ pick (eqb f 0) v 0
+
+-- the record of a refusal, and that of an answer
+abbrev pub Refused : ℕ → Answer → Type 0
+Refused f r = r ≡ record { number = f; value = 0 }
+
+abbrev pub Accepted : ℕ → Answer → Type 0
+Accepted v r = r ≡ record { number = 0; value = v }
+
+-- the end of a call that is not refused: the value, and work cleared over 5 n entries
+pub record Finished (n v : ℕ) (q q′ : List ℕ) (r : Answer) : Type 0 where
+  pub answer : Accepted v r
+  pub work : q′ ≡ replicate {A = ℕ} (5 * n) 0 ++ drop (5 * n) q
+
+-- the fault of a call that lends output and work, and of one that lends work and names a place
+abbrev pub outputFaultOf : Picture → List ℕ → List ℕ → ℕ
+outputFaultOf p o q =
+    outputFault (p .adjacency) (p .width) (p .height) (length (p .pixels)) (length o) (length q)
+
+abbrev pub placeFaultOf : Picture → List ℕ → ℕ → ℕ
+placeFaultOf p q x = placeFault (p .adjacency) (p .width) (p .height) (length (p .pixels)) (length q) x
+
+-- the labels of the section at height k, and the number of its components
+pub record LabelsSay (p : Picture) (k : ℕ) (o o′ q q′ : List ℕ) (r : Answer) : Type 0 where
+  pub answer : Answered (outputFaultOf p o q) (length (components p k)) r
+  pub output : o′ ≡ afterCall (outputFaultOf p o q) (over (labels p k) o) o
+  pub work : q′ ≡ workAfter (outputFaultOf p o q) p q
+
+-- 1 if the pixel at the place x is lowerable, else 0
+pub record LowerSays (p : Picture) (x : ℕ) (q q′ : List ℕ) (r : Answer) : Type 0 where
+  pub answer : Answered (placeFaultOf p q x) (pick (lowerable p x) 1 0) r
+  pub work : q′ ≡ workAfter (placeFaultOf p q x) p q

@@ -1,0 +1,103 @@
+-- The laws of the scan.
+use mathlib.Core.Path.{_≡_, refl, sym, ap, subst, _∙_}
+use mathlib.Core.Bool.{true, false}
+use mathlib.Core.Logic.{_≢_}
+use mathlib.Core.List.{List, _++_, append-nil}
+use Prim.Native.Nat.{ℕ, _+_, _*_, _≤_, _<_}
+use native.Mathlib.Omega.{arith}
+use lib.Dec.{eqb}
+use lib.ListN.{length, getD, drop, replicate, length-replicate, drop-of-length-le}
+use Rattle.picture.specs.Pictures.{Picture, places, isPicture}
+use Rattle.picture.specs.Components.{inSection}
+use Rattle.picture.specs.Geometry.{Placed}
+use Rattle.topology.proofs.Lists.{tally-length}
+use Rattle.topology.proofs.Parts.{isFirst, first-is}
+use Rattle.topology.proofs.Accepted.{Accepted, accepted-is, places-bound}
+use Rattle.topology.proofs.Flood.{unmarked, Flooded}
+use Rattle.topology.proofs.Labelled.{Labelled, labelled-start, count-most, outside-first, labelled-first, unlabelled-first, labelled-pass, labelled-fresh, labelled-new, labelled-flood, labelled-end}
+use Rattle.labels.specs.Labels.{Ready, Scanned, LabelsHold}
+use Rattle.labels.specs.Floods.{Room, Seed, Floods}
+
+-- what an accepted picture gives
+module _ (p : Picture) (a : isPicture p ≡ true) where
+  pub picture-few : places p ≤ 1600
+  picture-few = places-bound p (accepted-is p a)
+
+  pub picture-size : length (p .pixels) ≡ places p
+  picture-size = accepted-is p a .size
+
+  pub picture-placed : (x : ℕ) → x < places p → Placed (p .width) (p .height) x
+  picture-placed x h = let e = accepted-is p a in record { some = e .wide; wide = e .narrow; high = e .short; inside = h }
+
+module _ (p : Picture) (l stack : List ℕ) (a : Ready p l stack) where
+  pub ready-room : Room (places p) (p .pixels) l stack 0
+  ready-room =
+      let most = tally-length (eqb 0) l in
+      record { few = picture-few p (a .accepted); pixel = picture-size p (a .accepted); label = a .label; cells = a .cells; room = omega arith }
+
+  module _ (k x c : ℕ) (h : x < places p) (s : Labelled p k x c l) where
+    pub scan-outside : inSection p k x ≡ false → Scanned p k (x + 1) c l stack stack
+    scan-outside e = record { labelled = labelled-pass p k x c l h s (outside-first p k x c l h s e); rest = refl }
+
+    pub scan-labelled : getD l x 0 ≢ 0 → Scanned p k (x + 1) c l stack stack
+    scan-labelled e = record { labelled = labelled-pass p k x c l h s (labelled-first p k x c l h s e); rest = refl }
+
+    -- the number of components so far, and one more
+    pub scan-count : c + 1 ≤ 1600
+    scan-count = let m = count-most p k x c l h s in let n = picture-few p (a .accepted) in omega arith
+
+    module _ (e : inSection p k x ≡ true) (z : getD l x 0 ≡ 0) where
+      begins : isFirst p k x ≡ true
+      begins = unlabelled-first p k x c l h s e z
+
+      pub scan-seed : Seed p k x (c + 1) l
+      scan-seed =
+          record {
+            at = first-is p k x h begins .0;
+            fresh = labelled-fresh p k x c l h s begins;
+            new = labelled-new p k x c l h s begins;
+          }
+
+      pub scan-flood :
+          (m after : List ℕ) → length m ≡ length l → Floods p k x (c + 1) l stack m after →
+          Scanned p k (x + 1) (c + 1) m stack after
+      scan-flood m after size f =
+          record {
+            labelled = labelled-flood p k x c l h s begins m (size ∙ a .label) (f .marks);
+            rest = f .rest;
+          }
+
+-- n places, all labels cleared
+pub scan-start :
+    (p : Picture) (k n : ℕ) (l m stack : List ℕ) → length l ≡ places p → n ≡ places p → m ≡ replicate {A = ℕ} n 0 ++ drop n l →
+    Scanned p k 0 0 m stack stack
+scan-start p k n l m stack e d f =
+    record {
+      labelled =
+          subst (λ o. Labelled p k 0 0 o)
+          (sym
+          (f ∙
+          (ap (λ i. replicate i 0 ++ drop i l) d ∙
+          (ap (λ o. replicate (places p) 0 ++ o) (drop-of-length-le l {i = places p} (omega arith)) ∙
+          append-nil (replicate (places p) 0)))))
+          (labelled-start p k);
+      rest = refl;
+    }
+
+-- the labels and the stack at the place x are ready for the next
+pub scan-ready :
+    (p : Picture) (k x c : ℕ) (l stack m after : List ℕ) → Ready p l stack → length after ≡ length stack →
+    Scanned p k x c m stack after → Ready p m after
+scan-ready p k x c l stack m after a e s =
+    record { accepted = a .accepted; label = s .labelled .size; cells = let q = a .cells in omega arith }
+
+pub scan-turn :
+    (p : Picture) (k x c r : ℕ) (m o stack after last : List ℕ) → Scanned p k x c m stack after →
+    Scanned p k (x + 1) r o after last → Scanned p k (x + 1) r o stack last
+scan-turn p k x c r m o stack after last s t = record { labelled = t .labelled; rest = t .rest ∙ s .rest }
+
+pub scan-end :
+    (p : Picture) (k x c : ℕ) (m stack after : List ℕ) → x ≡ places p → Scanned p k x c m stack after → LabelsHold p k c m stack after
+scan-end p k x c m stack after e s =
+    let w = labelled-end p k c m (subst (λ y. Labelled p k y c m) e (s .labelled)) in
+    record { labels = w .0; count = w .1; rest = s .rest }

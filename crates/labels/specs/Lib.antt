@@ -1,0 +1,3 @@
+-- What the labelling and the lowerable test say.
+pub mod Floods
+pub mod Labels
