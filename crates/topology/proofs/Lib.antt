@@ -24,3 +24,8 @@ pub mod Demand
 pub mod Oracle
 pub mod TreeOracle
 pub mod Falls
+pub mod WinnerTree
+pub mod WinnerSteps
+pub mod Stopping
+pub mod Running
+pub mod Turns
