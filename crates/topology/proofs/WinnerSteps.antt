@@ -54,6 +54,28 @@ pub record Waking (n : ℕ) (g before : List ℕ) (s k : ℕ) (ys t : List ℕ) 
       (j : ℕ) → j < i → s < getD g (getD ys j 0) 0 → getD g (getD ys j 0) 0 ≤ k →
       getD t (n + getD ys j 0) 0 ≡ getD ys j 0
 
+pub fill-start : (n : ℕ) (t : List ℕ) → length t ≡ 2 * n → Filling n t 0
+fill-start n t e = record { size = e; set-below = λ x h. absurd (omega arith) }
+
+pub fill-turn : (n : ℕ) (t : List ℕ) (i : ℕ) → Filling n t i → i < n → Filling n (set t (n + i) i) (i + 1)
+fill-turn n t i p h =
+    let s = p .size in
+    record {
+      size = length-set t (n + i) i ∙ s;
+      set-below =
+          λ x l.
+          by-cases (ℕ-discrete x i)
+          (λ q.
+          subst (λ (m : ℕ). getD (set t (n + i) i) (n + m) 0 ≡ m) (sym q) (getD-set-same t (n + i) i 0 (omega arith)))
+          (λ q.
+          getD-set-other t (n + i) (n + x) i 0 (λ u. q (omega arith)) ∙ p .set-below x (omega arith));
+    }
+
+-- the next cell is a smaller one
+pub played-less : (g t : List ℕ) (j : ℕ) (after : List ℕ) (r : ℕ) → 1 ≤ j → Played g t j after r → r < j
+played-less g t j after r h (same b e f) = omega arith
+played-less g t j after r h (moved c b e f) = omega arith
+
 module _ (n : ℕ) (g : List ℕ) where
   -- a cell of the tree can be played
   pub winner-cell : (t : List ℕ) (from hole i : ℕ) → Winner n g t from hole → from ≤ i → i < 2 * n → Candidate n (getD t i 0)
@@ -100,23 +122,6 @@ module _ (n : ℕ) (g : List ℕ) where
         other = λ z h d. p .leaves z h ∙ getD-set-other t (n + x) (n + z) c 0 (λ q. d (omega arith));
       }
 
-  pub fill-start : (t : List ℕ) → length t ≡ 2 * n → Filling n t 0
-  fill-start t e = record { size = e; set-below = λ x h. absurd (omega arith) }
-
-  pub fill-turn : (t : List ℕ) (i : ℕ) → Filling n t i → i < n → Filling n (set t (n + i) i) (i + 1)
-  fill-turn t i p h =
-      let s = p .size in
-      record {
-        size = length-set t (n + i) i ∙ s;
-        set-below =
-            λ x l.
-            by-cases (ℕ-discrete x i)
-            (λ q.
-            subst (λ (m : ℕ). getD (set t (n + i) i) (n + m) 0 ≡ m) (sym q) (getD-set-same t (n + i) i 0 (omega arith)))
-            (λ q.
-            getD-set-other t (n + i) (n + x) i 0 (λ u. q (omega arith)) ∙ p .set-below x (omega arith));
-      }
-
   pub build-start : (t : List ℕ) → Filling n t n → Building n g t n
   build-start t p =
       record {
@@ -135,10 +140,10 @@ module _ (n : ℕ) (g : List ℕ) where
             };
       }
 
-  pub build-turn :
+  build-down :
       (t : List ℕ) (i : ℕ) (after : List ℕ) (r : ℕ) →
       Building n g t (suc i) → 1 ≤ i → i < n → Played g t i after r → Building n g after i
-  build-turn t i after r p some h (same b e f) =
+  build-down t i after r p some h (same b e f) =
       let w = p .winner in
       subst (λ (l : List ℕ). Building n g l i) (sym e)
       (record {
@@ -166,7 +171,7 @@ module _ (n : ℕ) (g : List ℕ) where
           (λ q. ⊎-elim (λ u. inl (q ∙ u)) (λ u. inr (omega arith)) (p .winner .cell (2 * i) (omega arith) (omega arith)))
           (λ q. ⊎-elim (λ u. inl (q ∙ u)) (λ u. inr (omega arith)) (p .winner .cell (2 * i + 1) (omega arith) (omega arith)))
           (b .either)
-  build-turn t i after r p some h (moved c b e f) =
+  build-down t i after r p some h (moved c b e f) =
       let w =
       winner-set n g t (suc i) 0 i i c (p .size) some h (omega arith)
       (λ j a d. let k : suc i ≤ j = omega arith in (k, λ q. omega arith))
@@ -178,6 +183,13 @@ module _ (n : ℕ) (g : List ℕ) where
         full = λ x l. getD-set-other t i (n + x) c 0 (λ q. omega arith) ∙ p .full x l;
         winner = record { leaf = w .leaf; cell = w .cell; node = λ j a l d. w .node j a l (λ q. omega arith) };
       })
+
+  pub build-turn :
+      (t : List ℕ) (k : ℕ) (after : List ℕ) (r : ℕ) →
+      Building n g t k → 1 < k → k ≤ n → Played g t (k - 1) after r → Building n g after (k - 1)
+  build-turn t k after r p some h q =
+      let e : k ≡ suc (k - 1) = omega arith in
+      build-down t (k - 1) after r (subst (Building n g t) e p) (omega arith) (omega arith) q
 
   module _ (before : List ℕ) (s k y : ℕ) where
     -- a place whose value lies outside stays as it is
