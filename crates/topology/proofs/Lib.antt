@@ -29,3 +29,4 @@ pub mod WinnerSteps
 pub mod Stopping
 pub mod Running
 pub mod Turns
+pub mod Lending

@@ -31,8 +31,13 @@ use Rattle.topology.proofs.WinnerTree.{Beats, last, less as beats-less,
 use Rattle.topology.proofs.WinnerSteps.{Assigned, Building, Waking}
 use Rattle.topology.proofs.Stopping.{Climbs, Meets, Lowest, Stopped, Around, found-stops, found-none}
 
+-- a picture by its parts
+abbrev pub framed : ℕ → ℕ → ℕ → List ℕ → Picture
+framed a w h g = record { adjacency = a; width = w; height = h; pixels = g }
+
 -- the state of the run on the frame f: pixels g, the tree's cells, the winner tree t; a lowerable place is a candidate or exempt
 pub record Running (f : Picture) (g tree t : List ℕ) (Exempt : ℕ → Type 0) : Type 0 where
+  pub filled : 1 ≤ places f
   pub some : 1 ≤ f .width
   pub wide : f .width ≤ 40
   pub high : f .height ≤ 40
@@ -213,6 +218,7 @@ module _ (f : Picture) (g tree t : List ℕ) (x : ℕ) (p : Settling f g tree t 
       record {
         running =
             record {
+              filled = run .filled;
               some = run .some;
               wide = run .wide;
               high = run .high;
@@ -264,6 +270,7 @@ module _ (f : Picture) (g tree t : List ℕ) (x : ℕ) (p : Settling f g tree t 
     pub settle-falls : Running f lowered-to remapped t (Window f lowered-to x s (getD g x 0))
     settle-falls =
         record {
+          filled = run .filled;
           some = run .some;
           wide = run .wide;
           high = run .high;
@@ -322,6 +329,7 @@ module _ (f : Picture) (g tree t : List ℕ) (x : ℕ) (p : Settling f g tree t 
         record {
           running =
               record {
+                filled = r .filled;
                 some = r .some;
                 wide = r .wide;
                 high = r .high;

@@ -2,14 +2,12 @@
 use mathlib.Core.Path.{_≡_, refl, sym, ap, subst, _∙_}
 use mathlib.Core.Bool.{Bool, true, false}
 use mathlib.Core.Logic.{_⊎_, inl, inr, ⊎-elim, _≢_, by-cases}
-use mathlib.Core.List.{List, [], _∷_, _++_, append-nil}
+use mathlib.Core.List.{List, [], _∷_}
 use Prim.Native.Nat.{ℕ, zero, suc, _+_, _-_, _*_, _≤_, _<_}
-use native.Mathlib.Nat.{zero-add}
+use native.Mathlib.Nat.{mul-le-mul}
 use native.Mathlib.Decide.{ℕ-discrete}
 use native.Mathlib.Omega.{arith}
-use lib.ListN.{length, getD, take, drop, set, length-set, length-drop, drop-of-length-le}
-use lib.Seq.{take-all, take-at, drop-at, length-take-le, take-set-lt, drop-set-lt, getD-take}
-use borrow.Rule.Slice.PartMut.{midOf, putMid}
+use lib.ListN.{length, getD, set}
 use Rattle.picture.specs.Lists.{total}
 use Rattle.picture.specs.Pictures.{Picture, places, valueAt, withPixels}
 use Rattle.picture.specs.Trees.{nodes, nodeAt, fatherOf, mapOf}
@@ -43,6 +41,7 @@ module _ (f : Picture) (g tree t : List ℕ) where
   pub running-start : Accepted p → Holds p tree → Building (places f) g t 1 → Running f g tree t Nobody
   running-start ok h b =
       record {
+        filled = mul-le-mul (ok .wide) (ok .tall);
         some = ok .wide;
         wide = ok .narrow;
         high = ok .short;
@@ -94,15 +93,15 @@ module _ (f : Picture) (g tree t : List ℕ) where
     abbrev run₁ : Running f g tree t Nobody
     run₁ = p .running
 
-    place : 1 ≤ places f → (x < places f) × (getD t (places f + x) 0 ≡ x)
-    place s =
+    place : (x < places f) × (getD t (places f + x) 0 ≡ x)
+    place =
         let e = p .top in
-        let (a, b) = winner-place (places f) g t (run₁ .winner) s (λ q. p .candidate (e ∙ q)) in
+        let (a, b) = winner-place (places f) g t (run₁ .winner) (run₁ .filled) (λ q. p .candidate (e ∙ q)) in
         (omega arith, subst (λ (z : ℕ). getD t (places f + z) 0 ≡ z) (sym e) b)
 
     -- the winner is a place, and leads the lowerable ones
-    pub turn-place : 1 ≤ places f → x < places f
-    turn-place s = place s .0
+    pub turn-place : x < places f
+    turn-place = place .0
 
     leads : First (withPixels f g) x
     unfolding First
@@ -126,11 +125,12 @@ module _ (f : Picture) (g tree t : List ℕ) where
             (omega arith)
 
     -- the winner is taken away
-    pub turn-settling : (t₁ : List ℕ) → 1 ≤ places f → Assigned (places f) g t x 65535 t₁ → Settling f g tree t₁ x
-    turn-settling t₁ s a =
+    pub turn-settling : (t₁ : List ℕ) → Assigned (places f) g t x 65535 t₁ → Settling f g tree t₁ x
+    turn-settling t₁ a =
         record {
           running =
               record {
+                filled = run₁ .filled;
                 some = run₁ .some;
                 wide = run₁ .wide;
                 high = run₁ .high;
@@ -146,17 +146,17 @@ module _ (f : Picture) (g tree t : List ℕ) where
                     (λ q. inr q)
                     (λ q. ⊎-elim (λ e. inl (a .other y b q ∙ e)) (λ (n : Nobody y). nobody n) (run₁ .awake y b l));
               };
-          within = turn-place s;
+          within = turn-place;
           unset = a .own;
           first = leads;
         }
 
     pub turn-done :
-        (t₁ : List ℕ) → 1 ≤ places f → Assigned (places f) g t x 65535 t₁ →
+        (t₁ : List ℕ) → Assigned (places f) g t x 65535 t₁ →
         (g₂ tree₂ t₂ : List ℕ) → Settled f g t₁ g₂ tree₂ t₂ →
         (r : ℕ) → r ≡ getD t₂ 1 0 → Turned f g t g₂ tree₂ t₂ r
     unfolding measure
-    turn-done t₁ s a g₂ tree₂ t₂ q r e =
+    turn-done t₁ a g₂ tree₂ t₂ q r e =
         record {
           running = q .running;
           water = q .water;
@@ -165,7 +165,7 @@ module _ (f : Picture) (g tree t : List ℕ) where
               ⊎-elim
               (λ h. let c = candidates-most (places f) t₂ (places f) in let k = most run₁ in omega arith)
               (λ (u, v).
-              let (inside, own) = place s in
+              let (inside, own) = place in
               let c =
               candidates-fewer (places f) t t₁ x (λ z. p .candidate (sym own ∙ z)) (a .own) (a .other) (places f) (omega arith) inside
               in
@@ -174,29 +174,6 @@ module _ (f : Picture) (g tree t : List ℕ) where
               omega arith)
               (q .less);
         }
-
--- the cells from e on, lent and back
-module _ (l : List ℕ) (e : ℕ) where
-  -- what is lent is the rest of the cells
-  pub rest-lent : midOf e (length l - e) l ≡ drop e l
-  rest-lent = take-all (length l - e) (drop e l) (omega (arith, length-drop e l))
-
-  pub rest-back : (t : List ℕ) → e ≤ length l → drop e (putMid e (length l - e) l t) ≡ t
-  rest-back t h =
-      let b : length (drop e l) ≤ length l - e = omega (arith, length-drop e l) in
-      drop-at (take e l) (t ++ drop (length l - e) (drop e l)) e (length-take-le e l h) ∙
-      (ap (λ (z : List ℕ). t ++ z) (drop-of-length-le (drop e l) b) ∙ append-nil t)
-
-  pub front-back : (t : List ℕ) → e ≤ length l → take e (putMid e (length l - e) l t) ≡ take e l
-  front-back t h = take-at (take e l) (t ++ drop (length l - e) (drop e l)) e (length-take-le e l h)
-
-  -- an entry in front that is copied
-  pub front-copied : (i j : ℕ) → i < e → j < e → take e (set l i (getD l j 0)) ≡ set (take e l) i (getD (take e l) j 0)
-  front-copied i j hi hj =
-      take-set-lt e l i (getD l j 0) hi ∙ ap (λ (v : ℕ). set (take e l) i v) (sym (getD-take e l j 0 hj))
-
-  pub rest-kept : (i v : ℕ) → i < e → drop e (set l i v) ≡ drop e l
-  rest-kept i v h = drop-set-lt e l i v h
 
 -- a run of c falls from the pixels xs to ys
 pub data Falls (f : Picture) (xs : List ℕ) : ℕ → List ℕ → Type 0 where
