@@ -43,6 +43,12 @@ module _ (g : List ℕ) where
   beats-trans (less m i) (ties n h l) = less m (omega arith)
   beats-trans (ties m i k) (ties n h l) = ties m (omega arith) (omega arith)
 
+  -- a value with the place behind it orders the candidates
+  pub beats-key :
+      (a b : ℕ) → a ≢ 65535 → a < 65536 → b < 65536 → getD g a 0 * 65536 + a ≤ getD g b 0 * 65536 + b → Beats g a b
+  beats-key a b n ha hb h =
+      by-cases (decLt (getD g a 0) (getD g b 0)) (λ l. less n l) (λ l. ties n (omega arith) (omega arith))
+
   -- the ways in which the better of two is found
   pub better-left : (a b : ℕ) → Beats g a b → Better g a b a
   better-left a b h = record { either = inl refl; left = beats-refl a; right = h }

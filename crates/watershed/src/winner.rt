@@ -23,13 +23,9 @@ fn better(pixels: &[u8], a: u16, b: u16) -> u16
     if b == NONE {
         return a;
     }
-    if pixels[a as usize] < pixels[b as usize] {
-        return a;
-    }
-    if pixels[b as usize] < pixels[a as usize] {
-        return b;
-    }
-    if a < b {
+    let first = value(pixels[a as usize]) * 65536 + wide(a);
+    let second = value(pixels[b as usize]) * 65536 + wide(b);
+    if first < second {
         return a;
     }
     b
