@@ -2,4 +2,5 @@
 pub mod climb;
 pub mod fall;
 pub mod run;
+pub mod whole;
 pub mod winner;

@@ -1,3 +1,4 @@
+-- `watershed::climb::meet` meets its contract. The invariant is Climbed: a climb from the two nodes is on its way.
 use Prim.Native.Nat.{ℕ, _-_, _+_, _*_, _<_}
 use native.Mathlib.Omega.{arith}
 use Rattle.topology.proofs.Stopping.{Climbed, climb-start, climb-left, climb-right, climb-above, climb-above-right, climb-within, climb-end}

@@ -1,3 +1,4 @@
+-- `watershed::climb::meeting` meets its contract: the climb from the nodes of two places, and the height where it meets.
 use native.Mathlib.Omega.{arith}
 use Rattle.topology.proofs.Stopping.{Met, climb-places, met-height}
 use borrow.Author.Needs.{needs}

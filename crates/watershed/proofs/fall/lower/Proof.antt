@@ -1,3 +1,4 @@
+-- `watershed::fall::lower` meets its contract: each return is a case of Lower.
 use Rattle.topology.proofs.Stopping.{stays, moves}
 use borrow.Author.Needs.{needs}
 use Rattle.watershed.proofs.fall.lower.Statement.{statement}

@@ -1,3 +1,4 @@
+-- `watershed::fall::lowest` meets its contract. The invariant is Lowest among the neighbours passed.
 use mathlib.Core.Path.{_≡_, subst}
 use Prim.Native.Nat.{ℕ, _-_, _≤_}
 use native.Mathlib.Omega.{arith}

@@ -1,3 +1,4 @@
+-- `watershed::fall::raise` meets its contract: each return is a case of Raised.
 use native.Mathlib.Omega.{arith}
 use mathlib.Core.Logic.{inl, inr}
 use Rattle.topology.proofs.Stopping.{above, early, late}

@@ -1,3 +1,4 @@
+-- `watershed::fall::stop_at` meets its contract. The invariant is Stopped among the neighbours passed.
 use mathlib.Core.Path.{_≡_, subst}
 use Prim.Native.Nat.{ℕ, _-_, _≤_}
 use native.Mathlib.Omega.{arith}

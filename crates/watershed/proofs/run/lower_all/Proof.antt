@@ -1,3 +1,4 @@
+-- `watershed::run::lower_all` meets its contract. The invariant is Running with the watershed unchanged, the measure that of Turned.
 use native.Mathlib.Nat.{mul-le-mul}
 use mathlib.Core.Path.{_≡_, refl, sym, ap, _∙_}
 use mathlib.Core.List.{[]}

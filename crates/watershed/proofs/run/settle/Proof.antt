@@ -1,3 +1,4 @@
+-- `watershed::run::settle` meets its contract: the place stays and was not lowerable, or falls, and its neighbours are woken.
 use mathlib.Core.Path.{_≡_, subst}
 use mathlib.Core.List.{[]}
 use Prim.Native.Nat.{ℕ, _*_, _≤_, _<_}

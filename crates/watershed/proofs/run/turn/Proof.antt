@@ -1,3 +1,4 @@
+-- `watershed::run::turn` meets its contract: the winner's leaf is unset, and the winner settled.
 use Rattle.topology.proofs.Lending.{size-back}
 use mathlib.Core.Path.{_≡_, refl}
 use mathlib.Core.Logic.{inr}

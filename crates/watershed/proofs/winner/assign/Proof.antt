@@ -1,3 +1,4 @@
+-- `watershed::winner::assign` meets its contract: the leaf is stored, and the cells above it are played again.
 use Rattle.topology.proofs.WinnerSteps.{replay-start, replay-end}
 use borrow.Author.Needs.{needs}
 use Rattle.watershed.proofs.winner.assign.Statement.{statement}

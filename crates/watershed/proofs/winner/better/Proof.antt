@@ -1,3 +1,4 @@
+-- `watershed::winner::better` meets its contract: a missing candidate is last, and else the keys decide.
 use native.Mathlib.Omega.{arith}
 use mathlib.Core.Logic.{⊎-elim}
 use Rattle.topology.proofs.WinnerTree.{last, beats-key, better-left, better-right}

@@ -1,3 +1,4 @@
+-- `watershed::winner::build` meets its contract. The invariant is Building: the tree is in order from a cell on.
 use mathlib.Core.Path.{_≡_, subst}
 use Prim.Native.Nat.{ℕ, _-_, _≤_}
 use native.Mathlib.Omega.{arith}

@@ -1,3 +1,4 @@
+-- `watershed::winner::fill` meets its contract. The invariant is Filling: the leaves passed are set.
 use mathlib.Core.Path.{_≡_, subst}
 use Prim.Native.Nat.{ℕ, _-_, _≤_}
 use native.Mathlib.Omega.{arith}

@@ -1,3 +1,4 @@
+-- `watershed::winner::play` meets its contract: the cell is right, or set to the better of the two below.
 use mathlib.Core.Path.{refl}
 use Rattle.topology.proofs.WinnerTree.{same, moved}
 use borrow.Author.Needs.{needs}

@@ -1,3 +1,4 @@
+-- `watershed::winner::replay` meets its contract. The invariant is Replaying: one cell may be wrong, the next to play.
 use mathlib.Core.Path.{_≡_, subst}
 use Rattle.topology.proofs.WinnerSteps.{played-less}
 use Prim.Native.Nat.{ℕ, _-_, _≤_}

@@ -1,3 +1,4 @@
+-- `watershed::winner::wake` meets its contract: the place is no candidate to be, is one, or becomes one.
 use mathlib.Core.Path.{refl}
 use mathlib.Core.Logic.{inl}
 use Rattle.topology.proofs.WinnerSteps.{woken-now}

@@ -1,3 +1,4 @@
+-- `watershed::winner::wake_all` meets its contract. The invariant is Waking among the neighbours passed.
 use mathlib.Core.Path.{_≡_, subst}
 use Prim.Native.Nat.{ℕ, _-_, _≤_}
 use native.Mathlib.Omega.{arith}
