@@ -1,10 +1,15 @@
 -- Laws of tests and of lists that the proofs share.
-use mathlib.Core.Path.{_≡_, refl}
-use mathlib.Core.Bool.{Bool, true, false, _&&_}
-use mathlib.Core.List.{List, [], _∷_}
-use Prim.Native.Nat.{ℕ, zero, suc}
-use lib.ListN.{getD}
-use Rattle.picture.specs.Lists.{pick, all}
+use mathlib.Core.Path.{_≡_, refl, sym, ap, subst, _∙_}
+use mathlib.Core.Bool.{Bool, true, false, _&&_, _||_, not, or-true, false≢true}
+use mathlib.Core.List.{List, [], _∷_, _++_, map}
+use mathlib.Core.Logic.{_⊎_, inl, inr, ⊎-elim}
+use Prim.Native.Nat.{ℕ, zero, suc, _+_, _≤_, _<_, suc-le-suc}
+use native.Mathlib.Nat.{not-suc-le-zero, le-of-suc-le-suc, zero-add, add-zero, add-suc, suc-add}
+use native.Mathlib.Omega.{arith}
+use lib.Dec.{eqb}
+use lib.ListN.{length, getD}
+use borrow.Author.Tests.{eqb-true, eq-eqb}
+use Rattle.picture.specs.Lists.{pick, any, all, select, range, isIn}
 
 -- both tests of a conjunction pass
 pub and-left : (a b : Bool) → (a && b) ≡ true → a ≡ true
@@ -18,6 +23,22 @@ and-right false b e = let z : false ≡ true = e in elim b [ true ↦ refl | fal
 pub and-both : {a b : Bool} → a ≡ true → b ≡ true → (a && b) ≡ true
 and-both p q = rw (p, q)
 
+-- one test of a disjunction passes
+pub or-cases : (a b : Bool) → (a || b) ≡ true → (a ≡ true) ⊎ (b ≡ true)
+or-cases true b e = inl refl
+or-cases false b e = inr e
+
+pub or-left : {a : Bool} (b : Bool) → a ≡ true → (a || b) ≡ true
+or-left b p = rw p
+
+pub or-right : (a : Bool) {b : Bool} → b ≡ true → (a || b) ≡ true
+or-right a p = rw p (or-true a)
+
+-- an implication of tests
+pub implied : (a b : Bool) → (not a || b) ≡ true → a ≡ true → b ≡ true
+implied true b e p = e
+implied false b e p = absurd (false≢true p)
+
 -- what holds of either value, under the test that picks it, holds of the one picked
 pub on-pick : {A : Type 0} (P : A → Type 0) (t : Bool) {x y : A} → (t ≡ true → P x) → (t ≡ false → P y) → P (pick t x y)
 on-pick P true f g = f refl
@@ -29,3 +50,104 @@ module _ {A : Type 0} (t : A → Bool) where
   all-at [] d p q i = p
   all-at (x ∷ xs) d p q zero = and-left (t x) _ q
   all-at (x ∷ xs) d p q (suc i) = all-at xs d p (and-right (t x) _ q) i
+
+  -- if some member passes the test and every member passes another, one passes both
+  pub any-all :
+      (u : A → Bool) (xs : List A) → any t xs ≡ true → all u xs ≡ true → (a : A) × (t a ≡ true) × (u a ≡ true)
+  any-all u [] p q = absurd (false≢true p)
+  any-all u (x ∷ xs) p q =
+      ⊎-elim
+      (λ e. (x, e, and-left (u x) _ q))
+      (λ e. any-all u xs e (and-right (u x) _ q))
+      (or-cases (t x) (any t xs) p)
+
+  -- a test that passes wherever another does passes at some member if the other does
+  pub any-mono : (v : A → Bool) → ((a : A) → v a ≡ true → t a ≡ true) → (xs : List A) → any v xs ≡ true → any t xs ≡ true
+  any-mono v f [] p = p
+  any-mono v f (x ∷ xs) p =
+      ⊎-elim
+      (λ e. or-left (any t xs) (f x e))
+      (λ e. or-right (t x) (any-mono v f xs e))
+      (or-cases (v x) (any v xs) p)
+
+  -- a selection is no longer than the list
+  pub select-most : (xs : List A) → length (select t xs) ≤ length xs
+  select-most [] = omega arith
+  select-most (x ∷ xs) = by (t x) (select-most xs)
+    where
+      by : (b : Bool) → length (select t xs) ≤ length xs → length (pick b (x ∷ []) [] ++ select t xs) ≤ suc (length xs)
+      by true h = omega arith
+      by false h = omega arith
+
+  -- some member of the images of a selection passes a test
+  pub any-map-select :
+      {B : Type 0} (q : B → Bool) (f : A → B) (xs : List A) →
+      any q (map f (select t xs)) ≡ any (λ a. t a && q (f a)) xs
+  any-map-select q f [] = refl
+  any-map-select q f (x ∷ xs) = by (t x) (any-map-select q f xs)
+    where
+      by :
+          (b : Bool) → any q (map f (select t xs)) ≡ any (λ a. t a && q (f a)) xs →
+          any q (map f (pick b (x ∷ []) [] ++ select t xs)) ≡ (b && q (f x) || any (λ a. t a && q (f a)) xs)
+      by true e = ap (λ r. q (f x) || r) e
+      by false e = e
+
+-- no number stands twice
+abbrev pub distinct : List ℕ → Bool
+distinct [] = true
+distinct (x ∷ xs) = not (isIn x xs) && distinct xs
+
+-- each member passes a test with every later one
+abbrev pub pairwise : {A : Type 0} → (A → A → Bool) → List A → Bool
+pairwise d [] = true
+pairwise d (x ∷ xs) = all (d x) xs && pairwise d xs
+
+-- a test that is not passed
+not-passed : (b : Bool) → (b ≡ true → ⊥) → not b ≡ true
+not-passed true f = absurd (f refl)
+not-passed false f = refl
+
+-- members of a selection that differ pairwise have images that stand once each, if different members have different images
+module _ {A : Type 0} (t : A → Bool) (f : A → ℕ) (d : A → A → Bool) where
+  pub distinct-images :
+      ((a b : A) → t a ≡ true → t b ≡ true → d a b ≡ true → f a ≡ f b → ⊥) →
+      (xs : List A) → pairwise d xs ≡ true → distinct (map f (select t xs)) ≡ true
+  distinct-images apart [] e = refl
+  distinct-images apart (x ∷ xs) e = by (t x) refl (distinct-images apart xs (and-right (all (d x) xs) _ e))
+    where
+      once : t x ≡ true → isIn (f x) (map f (select t xs)) ≡ true → ⊥
+      once p q =
+          let (a, s, u) =
+          any-all (λ a. t a && eqb (f x) (f a)) (d x) xs (sym (any-map-select t (eqb (f x)) f xs) ∙ q)
+          (and-left (all (d x) xs) _ e) in
+          apart x a p (and-left (t a) _ s) u (eqb-true (f x) (f a) (and-right (t a) _ s))
+
+      by :
+          (b : Bool) → t x ≡ b → distinct (map f (select t xs)) ≡ true →
+          distinct (map f (pick b (x ∷ []) [] ++ select t xs)) ≡ true
+      by true p h = and-both (not-passed _ (once p)) h
+      by false p h = h
+
+-- what stands at an index is a member, and a member stands at an index
+pub isIn-at : (xs : List ℕ) (i : ℕ) → i < length xs → isIn (getD xs i 0) xs ≡ true
+isIn-at [] i h = absurd (not-suc-le-zero h)
+isIn-at (x ∷ xs) zero h = or-left (isIn x xs) (eq-eqb x x refl)
+isIn-at (x ∷ xs) (suc i) h = or-right (eqb (getD xs i 0) x) (isIn-at xs i (le-of-suc-le-suc h))
+
+pub isIn-index : (y : ℕ) (xs : List ℕ) → isIn y xs ≡ true → (i : ℕ) × (i < length xs) × (getD xs i 0 ≡ y)
+isIn-index y [] e = absurd (false≢true e)
+isIn-index y (x ∷ xs) e =
+    ⊎-elim
+    (λ p. (0, omega arith, sym (eqb-true y x p)))
+    (λ p. let (i, h, q) = isIn-index y xs p in (suc i, suc-le-suc h, q))
+    (or-cases (eqb y x) (isIn y xs) e)
+
+-- a test that every number of a range passes passes at each of them
+all-range : (t : ℕ → Bool) (x l : ℕ) → all t (range x l) ≡ true → (i : ℕ) → i < l → t (x + i) ≡ true
+all-range t x zero e i h = absurd (not-suc-le-zero h)
+all-range t x (suc l) e zero h = ap t (add-zero x) ∙ and-left (t x) _ e
+all-range t x (suc l) e (suc i) h =
+    ap t (add-suc x i ∙ sym (suc-add x i)) ∙ all-range t (suc x) l (and-right (t x) _ e) i (le-of-suc-le-suc h)
+
+pub all-below : (t : ℕ → Bool) (l : ℕ) → all t (range 0 l) ≡ true → (i : ℕ) → i < l → t i ≡ true
+all-below t l e i h = sym (ap t (zero-add i)) ∙ all-range t 0 l e i h
