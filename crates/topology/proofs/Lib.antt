@@ -21,3 +21,5 @@ pub mod Grid
 pub mod Climb
 pub mod Partners
 pub mod Demand
+pub mod Beneath
+pub mod Levels
