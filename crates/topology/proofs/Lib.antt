@@ -23,3 +23,4 @@ pub mod Partners
 pub mod Demand
 pub mod Beneath
 pub mod Levels
+pub mod Numbering
