@@ -24,3 +24,4 @@ pub mod Demand
 pub mod Beneath
 pub mod Levels
 pub mod Numbering
+pub mod Forests
