@@ -87,10 +87,10 @@ walk-end l m x r a h =
       is = λ root st f. a .same root st f ∙ a .keeps root st f .top r (omega arith) h;
     }
 
-module _ (l : List ℕ) (x u : ℕ) (b : x < length l) (h : Parents l) (low : getD l x 0 < 2048) where
+module _ (l : List ℕ) (x : ℕ) (b : x < length l) (h : Parents l) (low : getD l x 0 < 2048) where
   -- to the parent, with no cell changed
-  pub split-top : Split l x (getD l x 0) l
-  split-top =
+  split-stay : Split l x (getD l x 0) l
+  split-stay =
       let g = h .less x b low in
       record {
         walked =
@@ -105,8 +105,8 @@ module _ (l : List ℕ) (x u : ℕ) (b : x < length l) (h : Parents l) (low : ge
       }
 
   -- to the parent, with the grandparent as the new parent
-  pub split-up : getD l (getD l x 0) 0 < 2048 → Split l x (getD l x 0) (set l x (getD l (getD l x 0) 0))
-  split-up mid =
+  split-move : getD l (getD l x 0) 0 < 2048 → Split l x (getD l x 0) (set l x (getD l (getD l x 0) 0))
+  split-move mid =
       let g = h .less x b low in
       record {
         walked =
@@ -122,9 +122,6 @@ module _ (l : List ℕ) (x u : ℕ) (b : x < length l) (h : Parents l) (low : ge
     where
       grand : ℕ
       grand = getD l (getD l x 0) 0
-
-      m : List ℕ
-      m = set l x grand
 
       smaller : (y : ℕ) → y < length l → getD (set l x grand) y 0 < 2048 → getD (set l x grand) y 0 < y
       smaller y c =
@@ -165,6 +162,13 @@ module _ (l : List ℕ) (x u : ℕ) (b : x < length l) (h : Parents l) (low : ge
               ap root s ∙ (f .up (getD l x 0) (omega arith) mid ∙ (f .up x b low ∙ ap root (sym e))))
               (λ d. let s = getD-set-other l x y grand 0 d in ap root s ∙ f .up y c (omega arith))
 
+  pub split-end : (u : ℕ) → u ≡ getD l x 0 → Split l x u l
+  split-end u e = subst (λ (v : ℕ). Split l x v l) (sym e) split-stay
+
+  pub split-up : (u : ℕ) → u ≡ getD l x 0 → getD l u 0 < 2048 → Split l x u (set l x (getD l u 0))
+  split-up u e h =
+      subst (λ (v : ℕ). Split l x v (set l x (getD l v 0))) (sym e) (split-move (subst (λ (v : ℕ). getD l v 0 < 2048) e h))
+
 -- the class of hi hung below lo, which gets the state s
 pub forest-link :
     (l : List ℕ) (lo hi s : ℕ) (root st : ℕ → ℕ) → Forest l root st → lo < hi → hi < length l → lo < 2048 → root lo ≡ lo → root hi ≡ hi → 2048 ≤ s →
@@ -178,9 +182,6 @@ forest-link l lo hi s root st f less b small at-lo at-hi big =
       state = λ y c q. high y (bound y c) q .1;
     }
   where
-    m : List ℕ
-    m = set (set l hi lo) lo s
-
     bound : (y : ℕ) → y < length (set (set l hi lo) lo s) → y < length l
     bound y c = let a = length-set (set l hi lo) lo s in let d = length-set l hi lo in omega arith
 

@@ -25,3 +25,5 @@ pub mod Beneath
 pub mod Levels
 pub mod Numbering
 pub mod Forests
+pub mod Marks
+pub mod Absorbing

@@ -1,1 +1,2 @@
 // The component tree.
+pub mod union_find;
