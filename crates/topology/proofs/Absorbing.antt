@@ -12,7 +12,7 @@ use Rattle.picture.specs.Trees.{nodes}
 use Rattle.picture.proofs.Neighbours.{neighbour-at, neighbour-index}
 use Rattle.topology.proofs.Connected.{conn-source, conn-target, conn-trans, conn-edge}
 use Rattle.topology.proofs.Adjacency.{Adj, At, Joined, adj-sym, joined-sym}
-use Rattle.topology.proofs.Accepted.{Accepted, places-bound}
+use Rattle.topology.proofs.Accepted.{Accepted, byte-at, places-bound}
 use Rattle.topology.proofs.Nodes.{nodes-few}
 use Rattle.topology.proofs.Beneath.{Low, beneath-number}
 use Rattle.topology.proofs.Levels.{put, relink, relink-moved, relink-kept, State, nothing, single, several, Level, Upto, Edges, edges-lower, Merged, linked}
@@ -25,7 +25,6 @@ pub record Classes (p : Picture) (k x : ℕ) (l : List ℕ) (fa : ℕ → ℕ) :
   pub root : ℕ → ℕ
   pub st : ℕ → ℕ
   pub size : length l ≡ places p
-  pub low : k ≤ 255
   pub forest : Forest l root st
   pub level : Level p k (soFar p k) root st fa
   pub edges : Edges p k x root
@@ -60,7 +59,7 @@ module _ (p : Picture) (ok : Accepted p) (k x : ℕ) where
         root = c .root;
         st = c .st;
         size = f .size ∙ c .size;
-        low = c .low;
+        low = let h = byte-at (p .pixels) (ok .bytes) x in omega arith;
         forest = f .keeps (c .root) (c .st) (c .forest);
         level = c .level;
         edges = c .edges;
@@ -77,7 +76,6 @@ module _ (p : Picture) (ok : Accepted p) (k x : ℕ) where
         root = n .root;
         st = n .st;
         size = n .size;
-        low = n .low;
         forest = n .forest;
         level = n .level;
         edges =

@@ -27,3 +27,5 @@ pub mod Numbering
 pub mod Forests
 pub mod Marks
 pub mod Absorbing
+pub mod Chains
+pub mod Walks

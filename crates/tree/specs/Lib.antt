@@ -1,2 +1,3 @@
 -- What the arrays of the tree hold.
 pub mod Arrays
+pub mod Frame

@@ -1,2 +1,3 @@
 // The component tree.
+pub mod absorb;
 pub mod union_find;
