@@ -29,3 +29,4 @@ pub mod Marks
 pub mod Absorbing
 pub mod Chains
 pub mod Walks
+pub mod Insertion
