@@ -30,3 +30,4 @@ pub mod Absorbing
 pub mod Chains
 pub mod Walks
 pub mod Insertion
+pub mod Listing

@@ -8,12 +8,12 @@ use native.Mathlib.Decide.{ℕ-discrete, decLt}
 use native.Mathlib.Omega.{arith}
 use lib.ListN.{length, getD, length-append, length-map, List·getD-append}
 use lib.Seq.{getD-append-add}
-use Rattle.picture.specs.Lists.{select, range, isIn}
+use Rattle.picture.specs.Lists.{tally, select, range, isIn}
 use Rattle.picture.specs.Pictures.{Picture, places, valueAt}
 use Rattle.picture.specs.Components.{componentAt}
 use Rattle.picture.specs.Trees.{Node, isBranch, nodesAt, nodesFrom, nodes, nodeAt, numberOf, fatherOf, mapOf}
 use Rattle.topology.proofs.Tests.{and-left, and-right, and-both, same-test, not-of-false, clash}
-use Rattle.topology.proofs.Lists.{select-mem, mem-select, in-mem, mem-in, length-range, range-mem, mem-range, getD-map-range}
+use Rattle.topology.proofs.Lists.{select-mem, mem-select, length-select, tally-stronger, tally-equal, in-mem, mem-in, length-range, range-mem, mem-range, getD-map-range}
 use Rattle.topology.proofs.Rising.{Rising, none, more, rising-select, rising-equal}
 use Rattle.topology.proofs.Connected.{start, conn-source, conn-target, conn-trans}
 use Rattle.topology.proofs.Keeping.{sec-mono}
@@ -219,6 +219,63 @@ module _ (p : Picture) (ok : Accepted p) (k c : ℕ) (low : k ≤ 255) (root st 
       not-true : (b : Bool) → not b ≡ true → b ≡ false
       not-true true h = absurd (clash h refl)
       not-true false h = refl
+
+  -- a list of some new roots that lacks one is shorter than the definition's
+  pub nodes-more :
+      (d : ℕ) (f : ℕ → ℕ) → c ≤ d → ((i j : ℕ) → c ≤ i → i < j → j < d → f i < f j) → ((i : ℕ) → c ≤ i → i < d → At p k (f i)) →
+      ((i : ℕ) → c ≤ i → i < d → root (f i) ≡ f i) → ((i : ℕ) → c ≤ i → i < d → 65534 ≤ st (f i)) →
+      (r : ℕ) → At p k r → root r ≡ r → 65534 ≤ st r → (Member f c d r → ⊥) → d - c < length (nodesAt p k)
+  nodes-more d f order rising place fixed free r s q g lacks =
+      let all = range 0 (places p) in
+      let size = ap length (nodes-at p k) ∙ (length-map defined (node k) ∙ length-select (isNode p k) all) in
+      let part = sym (length-range c (d - c)) ∙ (sym (length-map (range c (d - c)) f) ∙ (ap length as-select ∙ length-select here all)) in
+      let less = tally-stronger here (isNode p k) all sound in
+      by-cases (ℕ-discrete (tally here all) (tally (isNode p k) all))
+      (λ e.
+      absurd
+      (lacks
+      (member-of r
+      (in-mem r listed
+      (tally-equal here (isNode p k) all sound e
+      (mem-range 0 (places p) (omega arith) (omega (arith, s .within)))
+      (node-test r s q g))))))
+      (λ e. omega arith)
+    where
+      defined : List ℕ
+      defined = select (isNode p k) (range 0 (places p))
+
+      listed : List ℕ
+      listed = map f (range c (d - c))
+
+      here : ℕ → Bool
+      here y = isIn y listed
+
+      member-of : (y : ℕ) → List·Memᴰ y listed → Member f c d y
+      member-of y m =
+          let (i, n, e) = Memᴰ·of-map f (range c (d - c)) m in
+          let (a, b) = range-mem c (d - c) n in
+          record { at = i; from = a; to = omega arith; is = e }
+
+      sound : (y : ℕ) → here y ≡ true → isNode p k y ≡ true
+      sound y h =
+          let t = member-of y (in-mem y listed h) in
+          subst (λ (z : ℕ). isNode p k z ≡ true) (t .is)
+          (node-test (f (t .at)) (place (t .at) (t .from) (t .to)) (fixed (t .at) (t .from) (t .to)) (free (t .at) (t .from) (t .to)))
+
+      within : (y : ℕ) → here y ≡ true → y < places p
+      within y h =
+          let t = member-of y (in-mem y listed h) in
+          subst (λ (z : ℕ). z < places p) (t .is) (place (t .at) (t .from) (t .to) .within)
+
+      as-select : listed ≡ select here (range 0 (places p))
+      as-select =
+          rising-equal
+          (rising-map f 0 c (d - c) (λ i a b. omega arith) (λ i j a b h. rising i j a b (omega arith)))
+          (rising-select here 0 (places p))
+          (λ y.
+          same-test (isIn y listed) (isIn y (select here (range 0 (places p))))
+          (λ h. mem-in y (select here (range 0 (places p))) (mem-select here (range 0 (places p)) (mem-range 0 (places p) (omega arith) (omega (arith, within y h))) h))
+          (λ h. select-mem here (range 0 (places p)) (in-mem y (select here (range 0 (places p))) h) .1))
 
   module _ (d : ℕ) (f : ℕ → ℕ) (l : Listed p k c d f root st) where
     abbrev listed : List ℕ
