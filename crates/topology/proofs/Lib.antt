@@ -31,3 +31,4 @@ pub mod Chains
 pub mod Walks
 pub mod Insertion
 pub mod Listing
+pub mod Naming

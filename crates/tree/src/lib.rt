@@ -1,3 +1,4 @@
 // The component tree.
 pub mod absorb;
+pub mod list;
 pub mod union_find;
