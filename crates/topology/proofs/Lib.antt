@@ -32,3 +32,4 @@ pub mod Walks
 pub mod Insertion
 pub mod Listing
 pub mod Naming
+pub mod Mapped
