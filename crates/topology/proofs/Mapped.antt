@@ -318,3 +318,35 @@ between-list p k c x l w m v low b n r block =
           n;
       is = n .is;
     }
+
+-- the pixels of a chain are mapped
+pub record MapWhole (x : ℕ) (l w m v : List ℕ) : Type 0 where
+  pub between : (p : Picture) (k d : ℕ) → MapFrom p k d x l w → Between p (k + 1) d m v
+
+pub map-whole : (x y : ℕ) (l w m v : List ℕ) → MapWalk x l w y m v → length m ≤ y → MapWhole x l w m v
+map-whole x y l w m v s h =
+    record {
+      between =
+          λ p k d a.
+          let g = s .from p k d a in
+          subst (λ (j : ℕ). Between p j d m v) (sym (add-one k))
+          (map-end p k d y m v g (let e = g .mapping .size in omega arith));
+    }
+
+-- the list of a height is numbered: the map begins
+pub name-map :
+    (p : Picture) (k c d x : ℕ) (l w m v : List ℕ) → Listing p k c d (places p) l w → NameWalk k c d d l w m v → Next p k 0 x → MapFrom p k d x m v
+name-map p k c d x l w m v s n h = record { mapping = naming-end p k c d x m w v (n .naming p s) h; is = h .is }
+
+pub list-ready : {p : Picture} {k c d x : ℕ} {l w : List ℕ} → ListFrom p k c d x l w → ListReady c d x l w
+list-ready {p} {k} s = record { p = p; k = k; from = s }
+
+pub name-ready : {p : Picture} {k c d x : ℕ} {l w : List ℕ} → Listing p k c d x l w → x ≡ places p → NameReady k c d l w
+name-ready {p} {k} {c} {d} {x} {l} {w} s e = record { p = p; listing = subst (λ (y : ℕ). Listing p k c d y l w) e s }
+
+pub map-from-ready : {p : Picture} {k d x : ℕ} {l w : List ℕ} → MapFrom p k d x l w → MapReady x l w
+map-from-ready {p} {k} {d} s = record { p = p; k = k; d = d; from = s }
+
+pub name-end : (k c d i : ℕ) (l w m v : List ℕ) → NameWalk k c d i l w m v → d ≤ i → NameWalk k c d d l w m v
+name-end k c d i l w m v s h =
+    let a = s .most in subst (λ (j : ℕ). NameWalk k c d j l w m v) (let e : i ≡ d = omega arith in e) s

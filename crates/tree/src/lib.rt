@@ -1,4 +1,5 @@
 // The component tree.
 pub mod absorb;
+pub mod levels;
 pub mod list;
 pub mod union_find;
