@@ -33,3 +33,5 @@ pub mod Insertion
 pub mod Listing
 pub mod Naming
 pub mod Mapped
+pub mod Buckets
+pub mod Settling

@@ -350,3 +350,6 @@ map-from-ready {p} {k} {d} s = record { p = p; k = k; d = d; from = s }
 pub name-end : (k c d i : ℕ) (l w m v : List ℕ) → NameWalk k c d i l w m v → d ≤ i → NameWalk k c d d l w m v
 name-end k c d i l w m v s h =
     let a = s .most in subst (λ (j : ℕ). NameWalk k c d j l w m v) (let e : i ≡ d = omega arith in e) s
+
+pub between-same : (p : Picture) (j k c : ℕ) (l w : List ℕ) → Between p j c l w → j ≡ k → Between p k c l w
+between-same p j k c l w b e = subst (λ (i : ℕ). Between p i c l w) e b

@@ -37,7 +37,15 @@ pub fn comes_before(pixels: &[u8], k: usize, x: usize, y: usize) -> bool
 }
 
 // Joins the place x, whose root is r, to its neighbour y if y comes before x, and answers the root then.
-fn absorb_edge(pixels: &[u8], work: &mut [u16], cells: &mut [u16], k: usize, x: usize, r: usize, y: usize) -> usize
+fn absorb_edge(
+    pixels: &[u8],
+    work: &mut [u16],
+    cells: &mut [u16],
+    k: usize,
+    x: usize,
+    r: usize,
+    y: usize,
+) -> usize
     requires { ⌜ EdgeReady (now pixels) k x r y (now cells) (now work) ⌝ }
     ensures { λ q. ⌜ EdgeDone (now (pixels .entry)) k x r y (now (cells .entry)) (now (work .entry)) q (now (cells .exit)) (now (work .exit)) ⌝ }
 {
@@ -57,7 +65,16 @@ fn absorb_edge(pixels: &[u8], work: &mut [u16], cells: &mut [u16], k: usize, x: 
 }
 
 // Joins the place x of value k to its neighbours that come before it, and answers the next place of its value.
-fn absorb(a: u32, w: u32, h: u32, pixels: &[u8], work: &mut [u16], cells: &mut [u16], k: usize, x: usize) -> usize
+fn absorb(
+    a: u32,
+    w: u32,
+    h: u32,
+    pixels: &[u8],
+    work: &mut [u16],
+    cells: &mut [u16],
+    k: usize,
+    x: usize,
+) -> usize
     requires { ⌜ Ready (pictureOf a w h (now pixels)) k x (now cells) (now work) × (x < length (now cells)) ⌝ }
     ensures { λ r. ⌜ Absorbed (pictureOf a w h (now (pixels .entry))) k x r (now (cells .exit)) (now (work .entry)) (now (work .exit)) ⌝ }
 {
@@ -73,7 +90,16 @@ fn absorb(a: u32, w: u32, h: u32, pixels: &[u8], work: &mut [u16], cells: &mut [
 }
 
 // The pixels of value k join the classes; their chain begins at head.
-pub fn absorb_level(a: u32, w: u32, h: u32, pixels: &[u8], work: &mut [u16], cells: &mut [u16], k: usize, head: usize)
+pub fn absorb_level(
+    a: u32,
+    w: u32,
+    h: u32,
+    pixels: &[u8],
+    work: &mut [u16],
+    cells: &mut [u16],
+    k: usize,
+    head: usize,
+)
     requires { ⌜ Ready (pictureOf a w h (now pixels)) k head (now cells) (now work) ⌝ }
     ensures { λ _. ⌜ Ready (pictureOf a w h (now (pixels .entry))) k (w * h) (now (cells .exit)) (now (work .exit)) × Block (w * h) (w * h) (now (work .entry)) (now (work .exit)) ⌝ }
 {

@@ -9,6 +9,7 @@ ghost use lib.ListN.{length, getD};
 ghost use Rattle.picture.specs.Pictures.{Picture, places};
 ghost use Rattle.topology.proofs.Forests.{Parents};
 ghost use Rattle.topology.proofs.Chains.{Next};
+ghost use Rattle.topology.proofs.Buckets.{Heads};
 ghost use Rattle.topology.proofs.Mapped.{Between, NameReady, NameBounds, NamedOne, NameWalk, MapReady, MappedOne, MapWalk, MapWhole};
 ghost use Rattle.tree.specs.Frame.{pictureOf};
 
@@ -60,7 +61,17 @@ fn map_level(work: &mut [u16], cells: &mut [u16], head: usize)
 }
 
 // The height k, whose chain begins at head: answers the number of nodes up to it.
-fn level(a: u32, w: u32, h: u32, pixels: &[u8], work: &mut [u16], cells: &mut [u16], k: usize, head: usize, c: usize) -> usize
+fn level(
+    a: u32,
+    w: u32,
+    h: u32,
+    pixels: &[u8],
+    work: &mut [u16],
+    cells: &mut [u16],
+    k: usize,
+    head: usize,
+    c: usize,
+) -> usize
     requires { ⌜ Between (pictureOf a w h (now pixels)) k c (now cells) (now work) × Next (pictureOf a w h (now pixels)) k 0 head × (k < 256) ⌝ }
     ensures { λ d. ⌜ Between (pictureOf a w h (now (pixels .entry))) (k + 1) d (now (cells .exit)) (now (work .exit)) ⌝ }
 {
@@ -69,4 +80,26 @@ fn level(a: u32, w: u32, h: u32, pixels: &[u8], work: &mut [u16], cells: &mut [u
     number_level(work, cells, k, c, d);
     map_level(work, cells, head);
     d
+}
+
+// All heights: answers the number of nodes.
+pub fn levels(
+    a: u32,
+    w: u32,
+    h: u32,
+    pixels: &[u8],
+    work: &mut [u16],
+    cells: &mut [u16],
+    heads: &[u16; 256],
+) -> usize
+    requires { ⌜ Between (pictureOf a w h (now pixels)) 0 0 (now cells) (now work) × Heads (pictureOf a w h (now pixels)) (now heads) ⌝ }
+    ensures { λ c. ⌜ Between (pictureOf a w h (now (pixels .entry))) 256 c (now (cells .exit)) (now (work .exit)) ⌝ }
+{
+    let mut c = 0;
+    let mut k = 0;
+    while k < 256 {
+        c = level(a, w, h, pixels, work, cells, k, wide(heads[k]), c);
+        k += 1;
+    }
+    c
 }

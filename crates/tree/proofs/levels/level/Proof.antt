@@ -24,11 +24,13 @@ list-level-requires c κs = let s = c .before .before .before .before .before .b
 -- src/levels.rt:69:5
 number-level-requires : tie.Need-number-level-requires
 number-level-requires c κs = let s = c .before .before .before .before .before .before .before .before .before .before .before .before .before .before .before .before .before .before .before in
-    let e = c .before .before .before .before .before .before .before .before .before .before .before .before .before .absorb-level .ensures in
-    (name-ready
-    (c .before .before .before .before .before .before .list-level .ensures .whole _ _
-    (between-list _ _ _ _ _ _ _ _ (omega (arith, s .pre .2)) (s .pre .0) (s .pre .1) (e .0) (e .1)))
-    refl, s .pre .2)
+    let e = c .before .before .before .before .before .before .before .before .before .before .before .before .before .absorb-level .ensures in (
+      name-ready
+          (c .before .before .before .before .before .before .list-level .ensures .whole _ _
+          (between-list _ _ _ _ _ _ _ _ (omega (arith, s .pre .2)) (s .pre .0) (s .pre .1) (e .0) (e .1)))
+          refl,
+      s .pre .2,
+    )
 
 -- src/levels.rt:70:5
 map-level-requires : tie.Need-map-level-requires
