@@ -11,6 +11,7 @@ ghost use Rattle.picture.specs.Trees.{nodes};
 ghost use Rattle.topology.proofs.Settling.{SettledOne, SettleBounds, SettleReady, SettleWalk};
 ghost use Rattle.tree.specs.Frame.{pictureOf};
 ghost use Rattle.tree.specs.Arrays.{TreeIn};
+ghost use Rattle.tree.specs.Built.{Built};
 
 // The entry of the node i, if it is a pixel, gives way to the node of the pixel.
 fn settle_one(work: &mut [u16], n: usize, i: usize)
@@ -54,4 +55,16 @@ fn build_exactly(
     let c = levels(a, w, h, pixels, work, cells, &heads);
     settle(work, cells.len(), c);
     c
+}
+
+// The tree of an accepted picture of n places in the first 4 n cells of work: heights, fathers, map, first places, n cells each. Answers the number of nodes.
+// The first n of the other cells serve the union-find.
+pub fn build(a: u32, w: u32, h: u32, pixels: &[u8], work: &mut [u16], cells: &mut [u16]) -> usize
+    requires { ⌜ isPicture (pictureOf a w h (now pixels)) ≡ true ⌝ }
+    requires { ⌜ (4 * (w * h) ≤ length (now work)) × (w * h ≤ length (now cells)) ⌝ }
+    ensures { λ r. ⌜ Built (pictureOf a w h (now (pixels .entry))) r (now (work .entry)) (now (work .exit)) (now (cells .entry)) (now (cells .exit)) ⌝ }
+{
+    let n = w as usize * h as usize;
+    let room = 4 * n;
+    build_exactly(a, w, h, pixels, &mut work[..room], &mut cells[..n])
 }
