@@ -30,3 +30,17 @@ pub mod Stopping
 pub mod Running
 pub mod Turns
 pub mod Lending
+pub mod Beneath
+pub mod Levels
+pub mod Numbering
+pub mod Forests
+pub mod Marks
+pub mod Absorbing
+pub mod Chains
+pub mod Walks
+pub mod Insertion
+pub mod Listing
+pub mod Naming
+pub mod Mapped
+pub mod Buckets
+pub mod Settling

@@ -31,10 +31,6 @@ use Rattle.topology.proofs.WinnerTree.{Beats, last, less as beats-less,
 use Rattle.topology.proofs.WinnerSteps.{Assigned, Building, Waking}
 use Rattle.topology.proofs.Stopping.{Climbs, Meets, Lowest, Stopped, Around, found-stops, found-none}
 
--- a picture by its parts
-abbrev pub framed : ℕ → ℕ → ℕ → List ℕ → Picture
-framed a w h g = record { adjacency = a; width = w; height = h; pixels = g }
-
 -- the state of the run on the frame f: pixels g, the tree's cells, the winner tree t; a lowerable place is a candidate or exempt
 pub record Running (f : Picture) (g tree t : List ℕ) (Exempt : ℕ → Type 0) : Type 0 where
   pub filled : 1 ≤ places f

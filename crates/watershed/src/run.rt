@@ -15,13 +15,14 @@ ghost use Prim.Native.Nat.{_*_};
 ghost use lib.ListN.{length, take, drop};
 ghost use Rattle.picture.specs.Pictures.{isPicture};
 ghost use Rattle.picture.specs.Watersheds.{watershed};
+ghost use Rattle.tree.specs.Frame.{pictureOf};
 ghost use Rattle.tree.specs.Arrays.{TreeIn};
-ghost use Rattle.topology.proofs.Running.{framed, Settling, Settled, Turning, Turned};
+ghost use Rattle.topology.proofs.Running.{Settling, Settled, Turning, Turned};
 
 // Lowers the place x as far as it falls, if it is lowerable, and makes candidates of the neighbours that may now be lowerable.
 fn settle(a: u32, w: u32, h: u32, x: usize, out: &mut [u8], work: &mut [u16])
-    requires { ⌜ Settling (framed a w h []) (now out) (take (3 * (w * h)) (now work)) (drop (3 * (w * h)) (now work)) x × (length (now work) ≡ 5 * (w * h)) ⌝ }
-    ensures { λ _. ⌜ Settled (framed a w h []) (now (out .entry)) (drop (3 * (w * h)) (now (work .entry))) (now (out .exit)) (take (3 * (w * h)) (now (work .exit))) (drop (3 * (w * h)) (now (work .exit))) ⌝ }
+    requires { ⌜ Settling (pictureOf a w h []) (now out) (take (3 * (w * h)) (now work)) (drop (3 * (w * h)) (now work)) x × (length (now work) ≡ 5 * (w * h)) ⌝ }
+    ensures { λ _. ⌜ Settled (pictureOf a w h []) (now (out .entry)) (drop (3 * (w * h)) (now (work .entry))) (now (out .exit)) (take (3 * (w * h)) (now (work .exit))) (drop (3 * (w * h)) (now (work .exit))) ⌝ }
 {
     let n = w as usize * h as usize;
     let e = 3 * n;
@@ -40,8 +41,8 @@ fn settle(a: u32, w: u32, h: u32, x: usize, out: &mut [u8], work: &mut [u16])
 
 // Takes the winner x away, settles it, and answers the next winner.
 fn turn(a: u32, w: u32, h: u32, x: usize, out: &mut [u8], work: &mut [u16]) -> usize
-    requires { ⌜ Turning (framed a w h []) (now out) (take (3 * (w * h)) (now work)) (drop (3 * (w * h)) (now work)) x × (length (now work) ≡ 5 * (w * h)) ⌝ }
-    ensures { λ r. ⌜ Turned (framed a w h []) (now (out .entry)) (drop (3 * (w * h)) (now (work .entry))) (now (out .exit)) (take (3 * (w * h)) (now (work .exit))) (drop (3 * (w * h)) (now (work .exit))) r ⌝ }
+    requires { ⌜ Turning (pictureOf a w h []) (now out) (take (3 * (w * h)) (now work)) (drop (3 * (w * h)) (now work)) x × (length (now work) ≡ 5 * (w * h)) ⌝ }
+    ensures { λ r. ⌜ Turned (pictureOf a w h []) (now (out .entry)) (drop (3 * (w * h)) (now (work .entry))) (now (out .exit)) (take (3 * (w * h)) (now (work .exit))) (drop (3 * (w * h)) (now (work .exit))) r ⌝ }
 {
     let n = w as usize * h as usize;
     let e = 3 * n;
@@ -52,8 +53,8 @@ fn turn(a: u32, w: u32, h: u32, x: usize, out: &mut [u8], work: &mut [u16]) -> u
 
 // Lowers the picture in out, whose tree stands in work, to its watershed.
 pub fn lower_all(a: u32, w: u32, h: u32, out: &mut [u8], work: &mut [u16])
-    requires { ⌜ (isPicture (framed a w h (now out)) ≡ true) × (length (now work) ≡ 5 * (w * h)) × TreeIn (framed a w h (now out)) (now work) ⌝ }
-    ensures { λ _. ⌜ now (out .exit) ≡ watershed (framed a w h (now (out .entry))) .pixels ⌝ }
+    requires { ⌜ (isPicture (pictureOf a w h (now out)) ≡ true) × (length (now work) ≡ 5 * (w * h)) × TreeIn (pictureOf a w h (now out)) (now work) ⌝ }
+    ensures { λ _. ⌜ now (out .exit) ≡ watershed (pictureOf a w h (now (out .entry))) .pixels ⌝ }
 {
     let n = w as usize * h as usize;
     let e = 3 * n;

@@ -8,8 +8,9 @@ use lib.ListN.{length, getD, take, drop}
 use lib.Seq.{getD-drop}
 use Rattle.picture.specs.Pictures.{Picture, places}
 use Rattle.picture.specs.Watersheds.{watershed}
+use Rattle.tree.specs.Frame.{pictureOf}
 use Rattle.topology.proofs.Accepted.{accepted-is, places-bound}
-use Rattle.topology.proofs.Running.{framed, Running, Nobody, measure, places-most}
+use Rattle.topology.proofs.Running.{Running, Nobody, measure, places-most}
 use Rattle.topology.proofs.Turns.{running-end}
 use Rattle.topology.proofs.Lending.{start-lent, start-back, size-back}
 use Rattle.watershed.proofs.Held.{tree-holds}
@@ -23,9 +24,9 @@ use Rattle.watershed.proofs.run.turn.Reads as turn-reads
 use Rattle.watershed.proofs.winner.build.Reads as build-reads
 
 abbrev Inv-loop : tie.InvT-loop
-Inv-loop a w h out₀ work₀ n e x₀ out work x = Running (framed a w h []) out (take (3 * (w * h)) work) (drop (3 * (w * h)) work) Nobody ×
+Inv-loop a w h out₀ work₀ n e x₀ out work x = Running (pictureOf a w h []) out (take (3 * (w * h)) work) (drop (3 * (w * h)) work) Nobody ×
     (x ≡ getD (drop (3 * (w * h)) work) 1 0) ×
-    (watershed (framed a w h out) ≡ watershed (framed a w h out₀)) ×
+    (watershed (pictureOf a w h out) ≡ watershed (pictureOf a w h out₀)) ×
     (length work ≡ 5 * (w * h))
 
 abbrev μ-loop : tie.MeasureT-loop
@@ -51,7 +52,7 @@ part-build-end c = search needs
 
 build-requires : tie.Need-build-requires Inv-loop μ-loop
 build-requires c κs = let s = c .before .before .before .before in
-    let f = framed (s .args .a) (s .args .w) (s .args .h) (s .args .out .now) in
+    let f = pictureOf (s .args .a) (s .args .w) (s .args .h) (s .args .out .now) in
     let ok = accepted-is f (s .pre .0) in (
       start-lent f (s .args .out .now) (s .args .work .now) (s .pre .1),
       mul-le-mul (ok .wide) (ok .tall),
@@ -67,7 +68,7 @@ mul-wide c = search needs
 
 slice-read-wide : tie.Need-slice-read-wide Inv-loop μ-loop
 slice-read-wide c = let s = c .before .before .before .before .before .before .before .before in
-    let f = framed (s .args .a) (s .args .w) (s .args .h) (s .args .out .now) in
+    let f = pictureOf (s .args .a) (s .args .w) (s .args .h) (s .args .out .now) in
     let ok = accepted-is f (s .pre .0) in
     let filled : 1 ≤ places f = mul-le-mul (ok .wide) (ok .tall) in
     omega
@@ -78,8 +79,8 @@ wide-requires c κs = search needs
 
 loop-holds : tie.Need-loop-holds Inv-loop μ-loop
 loop-holds c = let s = c .before .before .before .before .before .before .before .before .before in
-    let f = framed (s .args .a) (s .args .w) (s .args .h) [] in
-    let p = framed (s .args .a) (s .args .w) (s .args .h) (s .args .out .now) in (
+    let f = pictureOf (s .args .a) (s .args .w) (s .args .h) [] in
+    let p = pictureOf (s .args .a) (s .args .w) (s .args .h) (s .args .out .now) in (
       start-back f (s .args .out .now) (s .args .work .now) (c .before .before .before .before .build .last .1 .0) (s .pre .1) (accepted-is p (s .pre .0))
           (tree-holds p (s .args .work .now) (omega (arith, s .pre .1)) (s .pre .2))
           (c .before .before .before .before .build .ensures),
@@ -104,7 +105,7 @@ loop-again c = let t = c .before .before .before .before .turn .ensures in
 
 same-length : tie.Need-same-length Inv-loop μ-loop
 same-length c = let s = c .before .before .before .before .before .before .before .before .before .before .before in
-    c .before .loop .inv .0 .size ∙ sym (accepted-is (framed (s .args .a) (s .args .w) (s .args .h) (s .args .out .now)) (s .pre .0) .size)
+    c .before .loop .inv .0 .size ∙ sym (accepted-is (pictureOf (s .args .a) (s .args .w) (s .args .h) (s .args .out .now)) (s .pre .0) .size)
 
 same-length-2 : tie.Need-same-length-2 Inv-loop μ-loop
 same-length-2 c = search needs
@@ -112,7 +113,7 @@ same-length-2 c = search needs
 returns : tie.Need-returns Inv-loop μ-loop
 returns c = let l = c .before .loop .inv in
     let s = c .before .before .before .before .before .before .before .before .before .before .before in
-    let f = framed (s .args .a) (s .args .w) (s .args .h) [] in
+    let f = pictureOf (s .args .a) (s .args .w) (s .args .h) [] in
     ap (λ (p : Picture). p .pixels) (sym (running-end f _ _ _ (l .0) (sym (l .1) ∙ c .loop-test .left)) ∙ l .2)
 
 pub lower-all-spec : {M : Type 1} → statement M

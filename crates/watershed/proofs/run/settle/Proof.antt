@@ -5,8 +5,9 @@ use Prim.Native.Nat.{ℕ, _*_, _≤_, _<_}
 use native.Mathlib.Omega.{arith}
 use lib.ListN.{length, getD, take, length-set}
 use Rattle.picture.specs.Pictures.{Picture, places}
+use Rattle.tree.specs.Frame.{pictureOf}
 use Rattle.topology.proofs.Stopping.{Around, Lowest, Stopped, listed-around, around-places}
-use Rattle.topology.proofs.Running.{framed, places-most, settle-stays}
+use Rattle.topology.proofs.Running.{places-most, settle-stays}
 use Rattle.topology.proofs.Lending.{fall-winner, fall-lent, fall-back}
 use borrow.Author.Needs.{needs}
 use Rattle.watershed.proofs.run.settle.Statement.{statement}
@@ -21,7 +22,7 @@ use Rattle.watershed.proofs.winner.wake_all.Reads as wake-all-reads
 
 -- what the loops over the neighbours have found
 abbrev frame-at : tie.After-stop-at → Picture
-frame-at c = framed (c .before .before .before .before .before .before .before .before .before .before .before .before .before .before .args .a) (c .before .before .before .before .before .before .before .before .before .before .before .before .before .before .args .w) (c .before .before .before .before .before .before .before .before .before .before .before .before .before .before .args .h) []
+frame-at c = pictureOf (c .before .before .before .before .before .before .before .before .before .before .before .before .before .before .args .a) (c .before .before .before .before .before .before .before .before .before .before .before .before .before .before .args .w) (c .before .before .before .before .before .before .before .before .before .before .before .before .before .before .args .h) []
 
 around-at :
     (c : tie.After-stop-at) →
@@ -59,7 +60,7 @@ value-requires c κs = search needs
 lowest-requires : tie.Need-lowest-requires
 lowest-requires c κs = let s = c .before .before .before .before .before .before .before .before .before in
     let r = s .pre .0 .running in
-    let f = framed (s .args .a) (s .args .w) (s .args .h) [] in
+    let f = pictureOf (s .args .a) (s .args .w) (s .args .h) [] in
     (rw (r .size) (around-places f _ _ _ (listed-around f _ _ _ _ (r .some) (c .before .before .before .before .before .neighbours .ensures))), rw (r .size) (s .pre .0 .within))
 
 slice-reshare-prefix-stop-at : tie.Need-slice-reshare-prefix-stop-at
@@ -71,7 +72,7 @@ slice-aggregate-stop-at c = search needs
 stop-at-requires : tie.Need-stop-at-requires
 stop-at-requires c κs = let s = c .before .before .before .before .before .before .before .before .before .before .before .before .before in
     let r = s .pre .0 .running in
-    let f = framed (s .args .a) (s .args .w) (s .args .h) [] in (
+    let f = pictureOf (s .args .a) (s .args .w) (s .args .h) [] in (
       r .climbs,
       places-most f (r .wide) (r .high),
       r .size,
@@ -138,7 +139,7 @@ wake-all-requires : tie.Need-wake-all-requires
 wake-all-requires c κs = let s = c .before .before .before .before .before .before .before .before .before .before .before .before .before .before .before .before .before .before .before in
     let q = c .before .before .before .before .before in
     let r = s .pre .0 .running in
-    let f = framed (s .args .a) (s .args .w) (s .args .h) [] in
+    let f = pictureOf (s .args .a) (s .args .w) (s .args .h) [] in
     let h = rw (c .before .before .before .before .before .before .before .before .before .before .before .before .value .ensures) at (c .before .before .before .before .if1 .left) in (
       fall-winner _ _ _ _ (s .pre .0) (s .pre .1) _ _ _ _ (around-at q) (lowest-at q) (stopped-at q) h,
       places-most f (r .wide) (r .high),

@@ -1,4 +1,5 @@
 -- `watershed::run::turn` meets its contract: the winner's leaf is unset, and the winner settled.
+use Rattle.tree.specs.Frame.{pictureOf}
 use Rattle.topology.proofs.Lending.{size-back}
 use mathlib.Core.Path.{_≡_, refl}
 use mathlib.Core.Logic.{inr}
@@ -6,7 +7,7 @@ use mathlib.Core.List.{[]}
 use Prim.Native.Nat.{ℕ, _*_, _≤_, _<_}
 use native.Mathlib.Omega.{arith}
 use lib.ListN.{length}
-use Rattle.topology.proofs.Running.{framed, places-most}
+use Rattle.topology.proofs.Running.{places-most}
 use Rattle.topology.proofs.Turns.{turn-place}
 use Rattle.topology.proofs.Lending.{start-lent, turn-winner, turn-back, turn-over}
 use borrow.Author.Needs.{needs}
@@ -39,7 +40,7 @@ part-assign-end c = search needs
 assign-requires : tie.Need-assign-requires
 assign-requires c κs = let s = c .before .before .before .before in
     let r = s .pre .0 .running in
-    let f = framed (s .args .a) (s .args .w) (s .args .h) [] in (
+    let f = pictureOf (s .args .a) (s .args .w) (s .args .h) [] in (
       turn-winner f _ _ _ (s .pre .0) (s .pre .1),
       places-most f (r .wide) (r .high),
       r .size,
@@ -50,7 +51,7 @@ assign-requires c κs = let s = c .before .before .before .before in
 
 settle-requires : tie.Need-settle-requires
 settle-requires c κs = let s = c .before .before .before .before .before .before .before .before .before in
-    let f = framed (s .args .a) (s .args .w) (s .args .h) [] in (
+    let f = pictureOf (s .args .a) (s .args .w) (s .args .h) [] in (
       turn-back f _ _ _ (s .pre .0) (s .pre .1) _ (c .before .before .before .before .assign .ensures),
       size-back f (s .args .out .now) (s .args .work .now) (c .before .before .before .before .assign .last .1 .0) (s .pre .1) (c .before .before .before .before .assign .ensures .size),
     )
@@ -63,7 +64,7 @@ mul-wide c = search needs
 
 slice-read-wide : tie.Need-slice-read-wide
 slice-read-wide c = let s = c .before .before .before .before .before .before .before .before .before .before .before .before .before .before .before in
-    let f = framed (s .args .a) (s .args .w) (s .args .h) [] in
+    let f = pictureOf (s .args .a) (s .args .w) (s .args .h) [] in
     omega (
       arith,
       s .pre .0 .running .filled,
@@ -82,7 +83,7 @@ same-length-2 c = search needs
 
 returns : tie.Need-returns
 returns c = let s = c .before .before .before .before .before .before .before .before .before .before .before .before .before .before .before .before in
-    let f = framed (s .args .a) (s .args .w) (s .args .h) [] in
+    let f = pictureOf (s .args .a) (s .args .w) (s .args .h) [] in
     turn-over f _ _ _ (s .pre .0) (s .pre .1) _ (c .before .before .before .before .before .before .before .before .before .before .before .assign .ensures) _ _ (c .before .before .before .before .before .before .settle .ensures) _ (c .wide .ensures)
 
 pub turn-spec : {M : Type 1} → statement M
