@@ -1,0 +1,143 @@
+-- `watershed::run::lower_all` meets its contract. The invariant is Running with the watershed unchanged, the measure that of Turned.
+use native.Mathlib.Nat.{mul-le-mul}
+use mathlib.Core.Path.{_≡_, refl, sym, ap, _∙_}
+use mathlib.Core.List.{[]}
+use Prim.Native.Nat.{ℕ, _*_, _≤_, _<_}
+use native.Mathlib.Omega.{arith}
+use lib.ListN.{length, getD, take, drop}
+use lib.Seq.{getD-drop}
+use Rattle.picture.specs.Pictures.{Picture, places}
+use Rattle.picture.specs.Watersheds.{watershed}
+use Rattle.tree.specs.Frame.{pictureOf}
+use Rattle.topology.proofs.Accepted.{accepted-is, places-bound}
+use Rattle.topology.proofs.Running.{Running, Nobody, measure, places-most}
+use Rattle.topology.proofs.Turns.{running-end}
+use Rattle.topology.proofs.Lending.{start-lent, start-back, size-back}
+use Rattle.watershed.proofs.Held.{tree-holds}
+use borrow.Author.Needs.{needs}
+use Rattle.watershed.proofs.run.lower_all.Statement.{statement}
+use Rattle.watershed.proofs.run.lower_all.Tie as tie
+use Rattle.watershed.proofs.run.lower_all.Reads as reads
+use Rattle.watershed.proofs.run.lower_all.Lts as lts
+use Rattle.watershed.proofs.climb.wide.Reads as wide-reads
+use Rattle.watershed.proofs.run.turn.Reads as turn-reads
+use Rattle.watershed.proofs.winner.build.Reads as build-reads
+
+abbrev Inv-loop : tie.InvT-loop
+Inv-loop a w h out₀ work₀ n e x₀ out work x = Running (pictureOf a w h []) out (take (3 * (w * h)) work) (drop (3 * (w * h)) work) Nobody ×
+    (x ≡ getD (drop (3 * (w * h)) work) 1 0) ×
+    (watershed (pictureOf a w h out) ≡ watershed (pictureOf a w h out₀)) ×
+    (length work ≡ 5 * (w * h))
+
+abbrev μ-loop : tie.MeasureT-loop
+μ-loop a w h out₀ work₀ n e x₀ out work x = measure (w * h) out (drop (3 * (w * h)) work)
+
+mul-n : tie.Need-mul-n Inv-loop μ-loop
+mul-n c = search needs
+
+mul-e : tie.Need-mul-e Inv-loop μ-loop
+mul-e c = search needs
+
+mul-build : tie.Need-mul-build Inv-loop μ-loop
+mul-build c = search needs
+
+sub-build : tie.Need-sub-build Inv-loop μ-loop
+sub-build c = search needs
+
+part-build-start : tie.Need-part-build-start Inv-loop μ-loop
+part-build-start c = search needs
+
+part-build-end : tie.Need-part-build-end Inv-loop μ-loop
+part-build-end c = search needs
+
+build-requires : tie.Need-build-requires Inv-loop μ-loop
+build-requires c κs = let s = c .before .before .before .before in
+    let f = pictureOf (s .args .a) (s .args .w) (s .args .h) (s .args .out .now) in
+    let ok = accepted-is f (s .pre .0) in (
+      start-lent f (s .args .out .now) (s .args .work .now) (s .pre .1),
+      mul-le-mul (ok .wide) (ok .tall),
+      places-bound f ok,
+      ok .size,
+    )
+
+add-wide : tie.Need-add-wide Inv-loop μ-loop
+add-wide c = search needs
+
+mul-wide : tie.Need-mul-wide Inv-loop μ-loop
+mul-wide c = search needs
+
+slice-read-wide : tie.Need-slice-read-wide Inv-loop μ-loop
+slice-read-wide c = let s = c .before .before .before .before .before .before .before .before in
+    let f = pictureOf (s .args .a) (s .args .w) (s .args .h) (s .args .out .now) in
+    let ok = accepted-is f (s .pre .0) in
+    let filled : 1 ≤ places f = mul-le-mul (ok .wide) (ok .tall) in
+    omega
+    (arith, size-back f (s .args .out .now) (s .args .work .now) (c .before .before .before .build .last .1 .0) (s .pre .1) (c .before .before .before .build .ensures .size))
+
+wide-requires : tie.Need-wide-requires Inv-loop μ-loop
+wide-requires c κs = search needs
+
+loop-holds : tie.Need-loop-holds Inv-loop μ-loop
+loop-holds c = let s = c .before .before .before .before .before .before .before .before .before in
+    let f = pictureOf (s .args .a) (s .args .w) (s .args .h) [] in
+    let p = pictureOf (s .args .a) (s .args .w) (s .args .h) (s .args .out .now) in (
+      start-back f (s .args .out .now) (s .args .work .now) (c .before .before .before .before .build .last .1 .0) (s .pre .1) (accepted-is p (s .pre .0))
+          (tree-holds p (s .args .work .now) (omega (arith, s .pre .1)) (s .pre .2))
+          (c .before .before .before .before .build .ensures),
+      c .wide .ensures ∙ sym (getD-drop (3 * (s .args .w * s .args .h)) _ 1 0),
+      refl,
+      size-back f (s .args .out .now) (s .args .work .now) (c .before .before .before .before .build .last .1 .0) (s .pre .1) (c .before .before .before .before .build .ensures .size),
+    )
+
+cast-loop : tie.Need-cast-loop Inv-loop μ-loop
+cast-loop c = search needs
+
+turn-requires : tie.Need-turn-requires Inv-loop μ-loop
+turn-requires c κs = search needs
+
+loop-less : tie.Need-loop-less Inv-loop μ-loop
+loop-less c = search needs
+
+loop-again : tie.Need-loop-again Inv-loop μ-loop
+loop-again c = let t = c .before .before .before .before .turn .ensures in
+    let l = c .before .before .before .before .before .before .before .before .loop .inv in
+    (t .running, t .top, t .water ∙ l .2, c .before .before .before .before .turn .kept .1 .1 .1 .1 .1 .0 ∙ l .3)
+
+same-length : tie.Need-same-length Inv-loop μ-loop
+same-length c = let s = c .before .before .before .before .before .before .before .before .before .before .before in
+    c .before .loop .inv .0 .size ∙ sym (accepted-is (pictureOf (s .args .a) (s .args .w) (s .args .h) (s .args .out .now)) (s .pre .0) .size)
+
+same-length-2 : tie.Need-same-length-2 Inv-loop μ-loop
+same-length-2 c = search needs
+
+returns : tie.Need-returns Inv-loop μ-loop
+returns c = let l = c .before .loop .inv in
+    let s = c .before .before .before .before .before .before .before .before .before .before .before in
+    let f = pictureOf (s .args .a) (s .args .w) (s .args .h) [] in
+    ap (λ (p : Picture). p .pixels) (sym (running-end f _ _ _ (l .0) (sym (l .1) ∙ c .loop-test .left)) ∙ l .2)
+
+pub lower-all-spec : {M : Type 1} → statement M
+lower-all-spec =
+    tie.close
+    (tie.spec
+    Inv-loop
+    μ-loop
+    mul-n
+    mul-e
+    mul-build
+    sub-build
+    part-build-start
+    part-build-end
+    build-requires
+    add-wide
+    mul-wide
+    slice-read-wide
+    wide-requires
+    loop-holds
+    cast-loop
+    turn-requires
+    loop-less
+    loop-again
+    same-length
+    same-length-2
+    returns)

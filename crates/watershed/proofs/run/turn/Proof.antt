@@ -1,0 +1,107 @@
+-- `watershed::run::turn` meets its contract: the winner's leaf is unset, and the winner settled.
+use Rattle.tree.specs.Frame.{pictureOf}
+use Rattle.topology.proofs.Lending.{size-back}
+use mathlib.Core.Path.{_≡_, refl}
+use mathlib.Core.Logic.{inr}
+use mathlib.Core.List.{[]}
+use Prim.Native.Nat.{ℕ, _*_, _≤_, _<_}
+use native.Mathlib.Omega.{arith}
+use lib.ListN.{length}
+use Rattle.topology.proofs.Running.{places-most}
+use Rattle.topology.proofs.Turns.{turn-place}
+use Rattle.topology.proofs.Lending.{start-lent, turn-winner, turn-back, turn-over}
+use borrow.Author.Needs.{needs}
+use Rattle.watershed.proofs.run.turn.Statement.{statement}
+use Rattle.watershed.proofs.run.turn.Tie as tie
+use Rattle.watershed.proofs.run.turn.Reads as reads
+use Rattle.watershed.proofs.run.turn.Lts as lts
+use Rattle.watershed.proofs.climb.wide.Reads as wide-reads
+use Rattle.watershed.proofs.run.settle.Reads as settle-reads
+use Rattle.watershed.proofs.winner.assign.Reads as assign-reads
+
+mul-n : tie.Need-mul-n
+mul-n c = search needs
+
+mul-e : tie.Need-mul-e
+mul-e c = search needs
+
+mul-assign : tie.Need-mul-assign
+mul-assign c = search needs
+
+sub-assign : tie.Need-sub-assign
+sub-assign c = search needs
+
+part-assign-start : tie.Need-part-assign-start
+part-assign-start c = search needs
+
+part-assign-end : tie.Need-part-assign-end
+part-assign-end c = search needs
+
+assign-requires : tie.Need-assign-requires
+assign-requires c κs = let s = c .before .before .before .before in
+    let r = s .pre .0 .running in
+    let f = pictureOf (s .args .a) (s .args .w) (s .args .h) [] in (
+      turn-winner f _ _ _ (s .pre .0) (s .pre .1),
+      places-most f (r .wide) (r .high),
+      r .size,
+      start-lent f (s .args .out .now) (s .args .work .now) (s .pre .1),
+      turn-place f _ _ _ _ (s .pre .0),
+      inr refl,
+    )
+
+settle-requires : tie.Need-settle-requires
+settle-requires c κs = let s = c .before .before .before .before .before .before .before .before .before in
+    let f = pictureOf (s .args .a) (s .args .w) (s .args .h) [] in (
+      turn-back f _ _ _ (s .pre .0) (s .pre .1) _ (c .before .before .before .before .assign .ensures),
+      size-back f (s .args .out .now) (s .args .work .now) (c .before .before .before .before .assign .last .1 .0) (s .pre .1) (c .before .before .before .before .assign .ensures .size),
+    )
+
+add-wide : tie.Need-add-wide
+add-wide c = search needs
+
+mul-wide : tie.Need-mul-wide
+mul-wide c = search needs
+
+slice-read-wide : tie.Need-slice-read-wide
+slice-read-wide c = let s = c .before .before .before .before .before .before .before .before .before .before .before .before .before .before .before in
+    let f = pictureOf (s .args .a) (s .args .w) (s .args .h) [] in
+    omega (
+      arith,
+      s .pre .0 .running .filled,
+      c .before .before .before .before .before .settle .kept .1 .1 .1 .1 .1 .0,
+      size-back f (s .args .out .now) (s .args .work .now) (c .before .before .before .before .before .before .before .before .before .before .assign .last .1 .0) (s .pre .1) (c .before .before .before .before .before .before .before .before .before .before .assign .ensures .size),
+    )
+
+wide-requires : tie.Need-wide-requires
+wide-requires c κs = search needs
+
+same-length : tie.Need-same-length
+same-length c = search needs
+
+same-length-2 : tie.Need-same-length-2
+same-length-2 c = search needs
+
+returns : tie.Need-returns
+returns c = let s = c .before .before .before .before .before .before .before .before .before .before .before .before .before .before .before .before in
+    let f = pictureOf (s .args .a) (s .args .w) (s .args .h) [] in
+    turn-over f _ _ _ (s .pre .0) (s .pre .1) _ (c .before .before .before .before .before .before .before .before .before .before .before .assign .ensures) _ _ (c .before .before .before .before .before .before .settle .ensures) _ (c .wide .ensures)
+
+pub turn-spec : {M : Type 1} → statement M
+turn-spec =
+    tie.close
+    (tie.spec
+    mul-n
+    mul-e
+    mul-assign
+    sub-assign
+    part-assign-start
+    part-assign-end
+    assign-requires
+    settle-requires
+    add-wide
+    mul-wide
+    slice-read-wide
+    wide-requires
+    same-length
+    same-length-2
+    returns)

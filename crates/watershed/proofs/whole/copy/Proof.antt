@@ -1,0 +1,55 @@
+-- `watershed::whole::copy` meets its contract. The invariant is Copied: the bytes passed are equal.
+use Prim.Native.Nat.{ℕ, _-_, _≤_}
+use lib.ListN.{length}
+use Rattle.watershed.proofs.Copying.{Copied, copy-start, copy-turn, copy-end}
+use borrow.Author.Needs.{needs}
+use Rattle.watershed.proofs.whole.copy.Statement.{statement}
+use Rattle.watershed.proofs.whole.copy.Tie as tie
+use Rattle.watershed.proofs.whole.copy.Reads as reads
+use Rattle.watershed.proofs.whole.copy.Lts as lts
+
+abbrev Inv-loop : tie.InvT-loop
+Inv-loop from to₀ i₀ to i = Copied from to i × (i ≤ length from)
+
+abbrev μ-loop : tie.MeasureT-loop
+μ-loop from to₀ i₀ to i = length from - i
+
+loop-holds : tie.Need-loop-holds Inv-loop μ-loop
+loop-holds c = (copy-start _ _ (c .pre), search needs)
+
+shared-slice-read-to : tie.Need-shared-slice-read-to Inv-loop μ-loop
+shared-slice-read-to c = search needs
+
+slice-write-to : tie.Need-slice-write-to Inv-loop μ-loop
+slice-write-to c = search needs
+
+add-i : tie.Need-add-i Inv-loop μ-loop
+add-i c = search needs
+
+loop-less : tie.Need-loop-less Inv-loop μ-loop
+loop-less c = search needs
+
+loop-again : tie.Need-loop-again Inv-loop μ-loop
+loop-again c = let l = c .before .before .loop .inv in
+    (copy-turn _ _ _ (l .0) (c .before .loop-test .taken), search needs)
+
+same-length : tie.Need-same-length Inv-loop μ-loop
+same-length c = search needs
+
+returns : tie.Need-returns Inv-loop μ-loop
+returns c = copy-end _ _ _ (c .before .loop .inv .0) (c .loop-test .left)
+
+pub copy-spec : {M : Type 1} → statement M
+copy-spec =
+    tie.close
+    (tie.spec
+    Inv-loop
+    μ-loop
+    loop-holds
+    shared-slice-read-to
+    slice-write-to
+    add-i
+    loop-less
+    loop-again
+    same-length
+    returns)

@@ -1,0 +1,36 @@
+-- `watershed::winner::assign` meets its contract: the leaf is stored, and the cells above it are played again.
+use Rattle.topology.proofs.WinnerSteps.{replay-start, replay-end}
+use borrow.Author.Needs.{needs}
+use Rattle.watershed.proofs.winner.assign.Statement.{statement}
+use Rattle.watershed.proofs.winner.assign.Tie as tie
+use Rattle.watershed.proofs.winner.assign.Reads as reads
+use Rattle.watershed.proofs.winner.assign.Lts as lts
+use Rattle.watershed.proofs.winner.replay.Reads as replay-reads
+
+add-cells : tie.Need-add-cells
+add-cells c = search needs
+
+mul-cells : tie.Need-mul-cells
+mul-cells c = search needs
+
+slice-write-cells : tie.Need-slice-write-cells
+slice-write-cells c = search needs
+
+add-replay : tie.Need-add-replay
+add-replay c = search needs
+
+replay-requires : tie.Need-replay-requires
+replay-requires c κs = let p = c .before .before .before .pre in
+    (replay-start _ _ _ _ _ (p .3) (p .4) (p .5) (p .0), p .1, p .2)
+
+same-length : tie.Need-same-length
+same-length c = search needs
+
+returns : tie.Need-returns
+returns c = let p = c .before .before .before .before .before .before .pre in
+    replay-end _ _ _ _ _ _ (p .3) (p .4) (c .before .before .replay .ensures)
+
+pub assign-spec : {M : Type 1} → statement M
+assign-spec =
+    tie.close
+    (tie.spec add-cells mul-cells slice-write-cells add-replay replay-requires same-length returns)

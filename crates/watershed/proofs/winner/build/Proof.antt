@@ -1,0 +1,65 @@
+-- `watershed::winner::build` meets its contract. The invariant is Building: the tree is in order from a cell on.
+use mathlib.Core.Path.{_≡_, subst}
+use Prim.Native.Nat.{ℕ, _-_, _≤_}
+use native.Mathlib.Omega.{arith}
+use Rattle.topology.proofs.WinnerSteps.{Building, build-start, build-turn, winner-cell}
+use borrow.Author.Needs.{needs}
+use Rattle.watershed.proofs.winner.build.Statement.{statement}
+use Rattle.watershed.proofs.winner.build.Tie as tie
+use Rattle.watershed.proofs.winner.build.Reads as reads
+use Rattle.watershed.proofs.winner.build.Lts as lts
+use Rattle.watershed.proofs.winner.fill.Reads as fill-reads
+use Rattle.watershed.proofs.winner.play.Reads as play-reads
+
+abbrev Inv-loop : tie.InvT-loop
+Inv-loop pixels cells₀ n i₀ cells i = Building n pixels cells i × (1 ≤ i) × (i ≤ n)
+
+abbrev μ-loop : tie.MeasureT-loop
+μ-loop pixels cells₀ n i₀ cells i = i
+
+fill-requires : tie.Need-fill-requires Inv-loop μ-loop
+fill-requires c κs = search needs
+
+loop-holds : tie.Need-loop-holds Inv-loop μ-loop
+loop-holds c = (build-start _ _ _ (c .before .before .fill .ensures), search needs, search needs)
+
+sub-i : tie.Need-sub-i Inv-loop μ-loop
+sub-i c = search needs
+
+play-requires : tie.Need-play-requires Inv-loop μ-loop
+play-requires c κs = let p = c .before .before .before .before .before .before .before .before .before .pre in
+    let l = c .before .before .loop .inv in (
+      omega arith,
+      omega arith,
+      rw (p .3) (winner-cell _ _ _ _ _ _ (l .0 .winner) (omega arith) (omega arith)),
+      rw (p .3) (winner-cell _ _ _ _ _ _ (l .0 .winner) (omega arith) (omega arith)),
+    )
+
+loop-less : tie.Need-loop-less Inv-loop μ-loop
+loop-less c = search needs
+
+loop-again : tie.Need-loop-again Inv-loop μ-loop
+loop-again c = let l = c .before .before .before .before .before .loop .inv in
+    (build-turn _ _ _ _ _ _ (l .0) (c .before .before .before .before .loop-test .taken) (l .2) (c .before .before .play .ensures), search needs, search needs)
+
+same-length : tie.Need-same-length Inv-loop μ-loop
+same-length c = search needs
+
+returns : tie.Need-returns Inv-loop μ-loop
+returns c = let e : c .before .loop .i ≡ 1 = omega arith in
+    subst (Building _ _ _) e (c .before .loop .inv .0)
+
+pub build-spec : {M : Type 1} → statement M
+build-spec =
+    tie.close
+    (tie.spec
+    Inv-loop
+    μ-loop
+    fill-requires
+    loop-holds
+    sub-i
+    play-requires
+    loop-less
+    loop-again
+    same-length
+    returns)

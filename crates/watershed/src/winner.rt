@@ -1,0 +1,128 @@
+// The winner tree over the candidates: cell n + x is the leaf of the place x, cell i below n the better of the cells 2 i and 2 i + 1.
+use crate::climb::wide;
+use crate::fall::value;
+ghost use mathlib.Core.Path.{_≡_};
+ghost use mathlib.Core.Logic.{_⊎_};
+ghost use Prim.Native.Nat.{_+_, _*_, _≤_, _<_};
+ghost use lib.ListN.{length, getD};
+ghost use Rattle.topology.proofs.WinnerTree.{Better, Winner, Played};
+ghost use Rattle.topology.proofs.WinnerSteps.{Candidate, Replaying, Assigned, Filling, Building, Woken, Waking};
+ghost use Rattle.topology.proofs.Stopping.{Places};
+
+// The mark of no candidate.
+pub const NONE: u16 = 65535;
+
+// The better of two candidates: of lesser value, then of smaller place.
+fn better(pixels: &[u8], a: u16, b: u16) -> u16
+    requires { ⌜ Candidate (length (now pixels)) a × Candidate (length (now pixels)) b ⌝ }
+    ensures { λ r. ⌜ Better (now (pixels .entry)) a b r ⌝ }
+{
+    if a == NONE {
+        return b;
+    }
+    if b == NONE {
+        return a;
+    }
+    let first = value(pixels[a as usize]) * 65536 + wide(a);
+    let second = value(pixels[b as usize]) * 65536 + wide(b);
+    if first < second {
+        return a;
+    }
+    b
+}
+
+// Plays a cell again, and answers the cell above it, or 0 if it stays as it is.
+fn play(pixels: &[u8], cells: &mut [u16], i: usize) -> usize
+    requires { ⌜ (i < 1600) × (2 * i + 1 < length (now cells)) × Candidate (length (now pixels)) (getD (now cells) (2 * i) 0) × Candidate (length (now pixels)) (getD (now cells) (2 * i + 1) 0) ⌝ }
+    ensures { λ r. ⌜ Played (now (pixels .entry)) (now (cells .entry)) i (now (cells .exit)) r ⌝ }
+{
+    let best = better(pixels, cells[2 * i], cells[2 * i + 1]);
+    if cells[i] == best {
+        return 0;
+    }
+    cells[i] = best;
+    i / 2
+}
+
+// Plays a cell and those above it again until one stays as it is.
+fn replay(pixels: &[u8], cells: &mut [u16], n: usize, i: usize)
+    requires { ⌜ Replaying n (now pixels) (now cells) (now cells) i × (n ≤ 1600) × (length (now pixels) ≡ n) ⌝ }
+    ensures { λ _. ⌜ Replaying n (now (pixels .entry)) (now (cells .entry)) (now (cells .exit)) 0 ⌝ }
+{
+    let mut j = i;
+    while 0 < j {
+        j = play(pixels, cells, j);
+    }
+}
+
+// Sets the leaf of a place to the place or to no candidate.
+pub fn assign(pixels: &[u8], cells: &mut [u16], n: usize, x: usize, c: u16)
+    requires { ⌜ Winner n (now pixels) (now cells) 1 0 × (n ≤ 1600) × (length (now pixels) ≡ n) × (length (now cells) ≡ 2 * n) × (x < n) × ((c ≡ x) ⊎ (c ≡ 65535)) ⌝ }
+    ensures { λ _. ⌜ Assigned n (now (pixels .entry)) (now (cells .entry)) x c (now (cells .exit)) ⌝ }
+{
+    cells[n + x] = c;
+    replay(pixels, cells, n, (n + x) / 2);
+}
+
+// Sets every leaf to its place.
+fn fill(cells: &mut [u16], n: usize)
+    requires { ⌜ (length (now cells) ≡ 2 * n) × (n ≤ 1600) ⌝ }
+    ensures { λ _. ⌜ Filling n (now (cells .exit)) n ⌝ }
+{
+    let mut x = 0;
+    while x < n {
+        cells[n + x] = x as u16;
+        x += 1;
+    }
+}
+
+// Makes every place a candidate.
+pub fn build(pixels: &[u8], cells: &mut [u16], n: usize)
+    requires { ⌜ (length (now cells) ≡ 2 * n) × (1 ≤ n) × (n ≤ 1600) × (length (now pixels) ≡ n) ⌝ }
+    ensures { λ _. ⌜ Building n (now (pixels .entry)) (now (cells .exit)) 1 ⌝ }
+{
+    fill(cells, n);
+    let mut i = n;
+    while 1 < i {
+        i -= 1;
+        play(pixels, cells, i);
+    }
+}
+
+// Makes a place a candidate if its value is above the stop and at most k.
+fn wake(pixels: &[u8], cells: &mut [u16], n: usize, y: usize, stop: usize, k: usize)
+    requires { ⌜ Winner n (now pixels) (now cells) 1 0 × (n ≤ 1600) × (length (now pixels) ≡ n) × (length (now cells) ≡ 2 * n) × (y < n) ⌝ }
+    ensures { λ _. ⌜ Woken n (now (pixels .entry)) (now (cells .entry)) stop k y (now (cells .exit)) ⌝ }
+{
+    let own = value(pixels[y]);
+    if own <= stop {
+        return;
+    }
+    if k < own {
+        return;
+    }
+    if wide(cells[n + y]) == y {
+        return;
+    }
+    assign(pixels, cells, n, y, y as u16);
+}
+
+// Makes candidates of the neighbours whose value is above the stop and at most k.
+pub fn wake_all(
+    pixels: &[u8],
+    cells: &mut [u16],
+    n: usize,
+    near: &[u16; 8],
+    m: usize,
+    stop: usize,
+    k: usize,
+)
+    requires { ⌜ Winner n (now pixels) (now cells) 1 0 × (n ≤ 1600) × (length (now pixels) ≡ n) × (length (now cells) ≡ 2 * n) × Places n (now near) m ⌝ }
+    ensures { λ _. ⌜ Waking n (now (pixels .entry)) (now (cells .entry)) stop k (now (near .entry)) (now (cells .exit)) m ⌝ }
+{
+    let mut i = 0;
+    while i < m {
+        wake(pixels, cells, n, wide(near[i]), stop, k);
+        i += 1;
+    }
+}
