@@ -21,7 +21,7 @@ use Rattle.topology.proofs.Adjacency.{Adj, At, Joined}
 use Rattle.topology.proofs.Reached.{first-at}
 use Rattle.topology.proofs.Parts.{isFirst}
 use Rattle.topology.proofs.Bridge.{lowerable-lowers, lowers-lowerable, lowerable-above}
-use Rattle.topology.proofs.Numbering.{tally-bound, numberAt, at-dec, number-some, number-less, number-same, same-number, labels-at, labels-none}
+use Rattle.topology.proofs.ComponentNumbers.{tally-bound, numberAt, at-dec, number-some, number-less, number-same, same-number, labels-at, labels-none}
 
 -- the label common to some places, 0 for none and 65,535 for several, when a place with the label v joins them
 abbrev pub agreed : ℕ → ℕ → ℕ

@@ -16,7 +16,7 @@ use Rattle.topology.proofs.Connected.{start, conn-source, conn-target}
 use Rattle.topology.proofs.Adjacency.{At, Joined, section-at, at-section}
 use Rattle.topology.proofs.Reached.{firstAt, first-least, first-same, first-at, first-first, same-first}
 use Rattle.topology.proofs.Parts.{isFirst, first-is, is-first}
-use Rattle.topology.proofs.Numbering.{tally-more, tally-less, tally-bound, numberAt, at-dec, number-some, number-less, length-labels, labels-at, labels-none, count-components}
+use Rattle.topology.proofs.ComponentNumbers.{tally-more, tally-less, tally-bound, numberAt, at-dec, number-some, number-less, length-labels, labels-at, labels-none, count-components}
 use Rattle.topology.proofs.Flood.{Flooded}
 
 -- at the place x, with c components so far

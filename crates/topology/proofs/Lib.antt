@@ -28,7 +28,7 @@ pub mod Positions
 pub mod Leaves
 pub mod PatchNumbers
 pub mod PatchFigures
-pub mod Numbering
+pub mod ComponentNumbers
 pub mod Flood
 pub mod Labelled
 pub mod Agreeing
@@ -40,6 +40,7 @@ pub mod Turns
 pub mod Lending
 pub mod Beneath
 pub mod Levels
+pub mod Numbering
 pub mod Forests
 pub mod Marks
 pub mod Absorbing

@@ -4,7 +4,7 @@ use Prim.Native.Nat.{ℕ, _*_, _≤_}
 use native.Mathlib.Omega.{arith}
 use lib.ListN.{length}
 use Rattle.picture.specs.Pictures.{Picture, places}
-use Rattle.topology.proofs.Numbering.{length-labels}
+use Rattle.topology.proofs.ComponentNumbers.{length-labels}
 use Rattle.labels.specs.Labels.{picture}
 use Rattle.board.specs.Calls.{outputFaultOf}
 use Rattle.board.proofs.Shell.{workFaultOf, output-enough, Admitted, admitted, refused-answer, refused-left, accepted-answer, written-over, lent-length, back-room, behind-lent, cleared-left}
