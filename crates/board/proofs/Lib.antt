@@ -1,3 +1,4 @@
 -- Laws of what the public calls promise.
 pub mod Files
 pub mod Shell
+pub mod Demands

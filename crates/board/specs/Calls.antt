@@ -8,7 +8,7 @@ use lib.ListN.{length, drop, replicate}
 use Rattle.picture.specs.Lists.{pick}
 use Rattle.picture.specs.Pictures.{Picture, places}
 use Rattle.picture.specs.Components.{components, labels}
-use Rattle.picture.specs.Watersheds.{lowerable}
+use Rattle.picture.specs.Watersheds.{lowerable, watershed}
 use Rattle.board.specs.Faults.{outputFault, placeFault}
 use Rattle.board.specs.declared.Answer.{Answer}
 
@@ -59,3 +59,9 @@ pub record LabelsSay (p : Picture) (k : ℕ) (o o′ q q′ : List ℕ) (r : Ans
 pub record LowerSays (p : Picture) (x : ℕ) (q q′ : List ℕ) (r : Answer) : Type 0 where
   pub answer : Answered (placeFaultOf p q x) (pick (lowerable p x) 1 0) r
   pub work : q′ ≡ workAfter (placeFaultOf p q x) p q
+
+-- the pixels of the watershed
+pub record WaterSays (p : Picture) (o o′ q q′ : List ℕ) (r : Answer) : Type 0 where
+  pub answer : Answered (outputFaultOf p o q) 0 r
+  pub output : o′ ≡ afterCall (outputFaultOf p o q) (over (watershed p .pixels) o) o
+  pub work : q′ ≡ workAfter (outputFaultOf p o q) p q

@@ -4,6 +4,7 @@ use faults::place_fault;
 use labels::lowerable::lowerable;
 use labels::scan::label;
 use picture::clearing::clear;
+use watershed::whole::watershed_core;
 
 pub mod faults;
 mod reading;
@@ -14,7 +15,7 @@ ghost use lib.ListN.{length};
 ghost use Rattle.picture.specs.Lists.{pick};
 ghost use Rattle.labels.specs.Labels.{picture};
 ghost use Rattle.board.specs.Reads.{ReadSays, PixelsSay};
-ghost use Rattle.board.specs.Calls.{Refused, Accepted, Finished, LabelsSay, LowerSays};
+ghost use Rattle.board.specs.Calls.{Refused, Accepted, Finished, LabelsSay, LowerSays, WaterSays};
 
 // The number of a refusal, or 0, with the refusal's place; of an accepted file the sides, the largest sample and the offset of the pixels.
 pub struct Read {
@@ -121,4 +122,25 @@ pub fn is_lowerable(a: u32, w: u32, h: u32, pixels: &[u8], place: u32, work: &mu
     let n = pixels.len();
     let yes = lowerable(a, w, h, pixels, place as usize, &mut work[..n]);
     finish(work, n, one_if(yes))
+}
+
+// The watershed of a picture.
+pub fn watershed_of(
+    a: u32,
+    w: u32,
+    h: u32,
+    pixels: &[u8],
+    out: &mut [u8],
+    work: &mut [u16],
+) -> Answer
+    ensures { λ r. ⌜ WaterSays (picture a w h (now (pixels .entry))) (now (out .entry)) (now (out .exit)) (now (work .entry)) (now (work .exit)) r ⌝ }
+{
+    let fault = output_fault(a, w, h, pixels.len(), out.len(), work.len());
+    if fault != 0 {
+        return refused(fault);
+    }
+    let n = pixels.len();
+    let whole = 5 * n;
+    watershed_core(a, w, h, pixels, &mut out[..n], &mut work[..whole]);
+    finish(work, n, 0)
 }
