@@ -1,10 +1,13 @@
 -- What the calls for C promise, built on the definitions of the public calls: the result is 0 or the number of the refusal.
 use mathlib.Core.Path.{_≡_}
+use mathlib.Core.Bool.{_||_}
 use mathlib.Core.List.{List, [], _∷_, _++_}
-use Prim.Native.Nat.{ℕ}
+use Prim.Native.Nat.{ℕ, _*_}
 use lib.Dec.{ltb}
-use lib.ListN.{length}
-use Rattle.picture.specs.Faults.{firstOf, when}
+use lib.ListN.{length, replicate}
+use Rattle.picture.specs.Pictures.{Picture, places}
+use Rattle.picture.specs.Faults.{firstOf, when, pictureFault}
+use Rattle.picture.specs.Watersheds.{watershed}
 use Rattle.p5.specs.Files.{readFile, numberOf, headerOf}
 use Rattle.text.specs.Little.{littleEndian}
 use Rattle.board.specs.Calls.{over, afterCall}
@@ -27,3 +30,18 @@ headerBytes f =
 pub record ReadForC (f o o′ : List ℕ) (r : ℕ) : Type 0 where
   pub number : r ≡ readFaultForC f o
   pub output : o′ ≡ afterCall (readFaultForC f o) (over (headerBytes f) o) o
+
+-- the watershed for C: 7, 3, 8, then 9 for output of fewer than n bytes or work of fewer than 10 n
+unfoldable pub waterFaultForC : Picture → ℕ → ℕ → ℕ
+waterFaultForC p out work =
+    firstOf (pictureFault p) (when (ltb out (places p) || ltb work (10 * places p)) 9)
+
+-- what a call for C leaves in its work: 10 n zero bytes after success
+abbrev pub bytesAfter : ℕ → Picture → List ℕ → List ℕ
+bytesAfter f p q = afterCall f (over (replicate (10 * places p) 0) q) q
+
+-- the result of the watershed for C, and what it leaves in output and work
+pub record WaterForC (p : Picture) (o o′ q q′ : List ℕ) (r : ℕ) : Type 0 where
+  pub number : r ≡ waterFaultForC p (length o) (length q)
+  pub output : o′ ≡ afterCall (waterFaultForC p (length o) (length q)) (over (watershed p .pixels) o) o
+  pub work : q′ ≡ bytesAfter (waterFaultForC p (length o) (length q)) p q
