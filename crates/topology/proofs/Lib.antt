@@ -28,3 +28,7 @@ pub mod Positions
 pub mod Leaves
 pub mod PatchNumbers
 pub mod PatchFigures
+pub mod Zones
+pub mod ZoneScan
+pub mod LeafNodes
+pub mod PatchesKept
