@@ -1,1 +1,3 @@
-// Patches: the minima of a picture.
+// Patches: the minima of a picture, their number, their figures and the patch of a place.
+pub mod cells;
+pub mod minima;

@@ -2,15 +2,18 @@
 use mathlib.Core.Path.{_≡_, refl, sym, ap, subst, _∙_}
 use mathlib.Core.Bool.{Bool, true, false}
 use mathlib.Core.Logic.{_⊎_, inl, inr, ⊎-elim, _≢_, by-cases}
-use mathlib.Core.List.{List}
+use mathlib.Core.List.{List, [], _∷_}
 use Prim.Native.Nat.{ℕ, zero, suc, _≤_, _<_}
 use native.Mathlib.Decide.{ℕ-discrete}
 use native.Mathlib.Omega.{arith}
-use lib.ListN.{length, getD}
+use lib.Dec.{eqb}
+use lib.ListN.{length, getD, set}
+use borrow.Author.Tests.{eq-eqb, ne-eqb}
 use Rattle.picture.specs.Lists.{tally, range}
 use Rattle.picture.specs.Pictures.{Picture, places, valueAt}
 use Rattle.picture.specs.Patches.{patches}
-use Rattle.topology.proofs.Tests.{test-false, clash}
+use Rattle.topology.proofs.Tests.{on-test, test-false, clash}
+use Rattle.topology.proofs.Lists.{tally-in, tally-out}
 use Rattle.topology.proofs.Connected.{start, conn-source, conn-target, conn-trans, conn-sym}
 use Rattle.topology.proofs.Adjacency.{Adj, At, Joined, adj-sym, joined-sym}
 use Rattle.topology.proofs.Accepted.{Accepted}
@@ -19,6 +22,29 @@ use Rattle.topology.proofs.Positions.{tally-next-in, tally-next-out}
 use Rattle.topology.proofs.Leaves.{leafAt, bottom, leaf-sound, bottom-is, is-bottom}
 use Rattle.topology.proofs.PatchFigures.{patches-count}
 use Rattle.topology.proofs.Zones.{Flat, Zone, Flooded, zone-joined, zone-whole, zone-leaf, lower-no-leaf}
+
+-- how many places are not visited
+abbrev pub unvisited : List ℕ → ℕ
+unvisited l = tally (eqb 65535) l
+
+-- a visit to one of them
+pub unvisited-set : (l : List ℕ) (y v : ℕ) → y < length l → getD l y 0 ≡ 65535 → v ≢ 65535 → suc (unvisited (set l y v)) ≡ unvisited l
+unvisited-set [] y v h e d = absurd (omega arith)
+unvisited-set (x ∷ xs) zero v h e d =
+    let p = tally-in (eqb 65535) x xs (eq-eqb 65535 x (sym e)) in
+    let q = tally-out (eqb 65535) v xs (ne-eqb 65535 v (λ f. d (sym f))) in
+    omega arith
+unvisited-set (x ∷ xs) (suc y) v h e d =
+    let r = unvisited-set xs y v (omega arith) e d in
+    on-test (eqb 65535 x)
+    (λ f.
+    let p = tally-in (eqb 65535) x xs f in
+    let q = tally-in (eqb 65535) x (set xs y v) f in
+    omega arith)
+    (λ f.
+    let p = tally-out (eqb 65535) x xs f in
+    let q = tally-out (eqb 65535) x (set xs y v) f in
+    omega arith)
 
 -- the zones of the places before x are visited, nothing else, and r minima begin there
 pub record Scanned (p : Picture) (x r : ℕ) (cells : List ℕ) : Type 0 where

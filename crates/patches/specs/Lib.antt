@@ -1,0 +1,3 @@
+-- What the cores of the patches promise.
+pub mod Blocks
+pub mod Minima
