@@ -32,3 +32,4 @@ pub mod Zones
 pub mod ZoneScan
 pub mod LeafNodes
 pub mod PatchesKept
+pub mod PatchSums
