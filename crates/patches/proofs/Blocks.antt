@@ -1,5 +1,5 @@
 -- Laws of blocks of cells.
-use mathlib.Core.Path.{_≡_, refl, ap, subst, _∙_}
+use mathlib.Core.Path.{_≡_, refl, sym, ap, subst, _∙_}
 use mathlib.Core.Logic.{_⊎_, inl, inr, ⊎-elim, _≢_, by-cases}
 use mathlib.Core.List.{List}
 use Prim.Native.Nat.{ℕ, _+_, _≤_, _<_}
@@ -46,3 +46,12 @@ filled-more b i v l m h f =
 -- the whole block
 pub filled-end : (b n i v : ℕ) (l m : List ℕ) → i ≤ n → n ≤ i → Filled b i v l m → Filled b n v l m
 filled-end b n i v l m h g f = let e : i ≡ n = omega arith in subst (λ (j : ℕ). Filled b j v l m) e f
+
+-- a list that agrees with f before x, and then at x too
+pub below-set :
+    (f : ℕ → ℕ) (l : List ℕ) (x v : ℕ) → x < length l → v ≡ f x → ((z : ℕ) → z < x → getD l z 0 ≡ f z) →
+    (z : ℕ) → z < x + 1 → getD (set l x v) z 0 ≡ f z
+below-set f l x v h e g z b =
+    by-cases (ℕ-discrete z x)
+    (λ d. ap (λ (i : ℕ). getD (set l x v) i 0) d ∙ (getD-set-same l x v 0 h ∙ (e ∙ ap f (sym d))))
+    (λ d. getD-set-other l x z v 0 d ∙ g z (omega arith))

@@ -1,2 +1,4 @@
 pub mod Blocks
 pub mod Floods
+pub mod Numbering
+pub mod Summing

@@ -1,3 +1,5 @@
 -- What the cores of the patches promise.
 pub mod Blocks
 pub mod Minima
+pub mod Numbers
+pub mod Sums

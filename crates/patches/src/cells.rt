@@ -11,6 +11,13 @@ pub fn wide(x: u16) -> usize
     x as usize
 }
 
+// A pixel's value as a cell.
+pub fn level(x: u8) -> u16
+    ensures { λ r. ⌜ r ≡ x ⌝ }
+{
+    x as u16
+}
+
 // The n entries from b on become v.
 pub fn fill(cells: &mut [u16], b: usize, n: usize, v: u16)
     requires { ⌜ b + n ≤ length (now cells) ⌝ }
