@@ -13,15 +13,18 @@ pub kept-refl : (b n : ℕ) (l : List ℕ) → Kept b n l l
 kept-refl b n l = record { size = refl; outside = λ j h. refl }
 
 -- a store inside the block
-pub kept-set : (b n i v : ℕ) (l m : List ℕ) → i < n → Kept b n l m → Kept b n l (set m (b + i) v)
-kept-set b n i v l m h k =
+pub kept-store : (b n j v : ℕ) (l m : List ℕ) → b ≤ j → j < b + n → Kept b n l m → Kept b n l (set m j v)
+kept-store b n j v l m h c k =
     record {
-      size = length-set m (b + i) v ∙ k .size;
+      size = length-set m j v ∙ k .size;
       outside =
-          λ j g.
-          let d : j ≢ b + i = λ e. absurd (⊎-elim (λ a. omega arith) (λ a. omega arith) g) in
-          getD-set-other m (b + i) j v 0 d ∙ k .outside j g;
+          λ i g.
+          let d : i ≢ j = λ e. absurd (⊎-elim (λ a. omega arith) (λ a. omega arith) g) in
+          getD-set-other m j i v 0 d ∙ k .outside i g;
     }
+
+pub kept-set : (b n i v : ℕ) (l m : List ℕ) → i < n → Kept b n l m → Kept b n l (set m (b + i) v)
+kept-set b n i v l m h k = kept-store b n (b + i) v l m (omega arith) (omega arith) k
 
 pub filled-none : (b v : ℕ) (l : List ℕ) → Filled b 0 v l l
 filled-none b v l = record { kept = kept-refl b 0 l; inside = λ i h. absurd (omega arith) }

@@ -25,6 +25,12 @@ use Rattle.patches.proofs.Blocks.{kept-refl, kept-set}
 pub kept-row : (b n o i : ℕ) {l m : List ℕ} → Kept b n l m → o + i < b → row m o i ≡ row l o i
 kept-row b n o i k h = k .outside (o + i) (inl h)
 
+pub cleared-mapped : (n : ℕ) (l m : List ℕ) → Kept (4 * n) n l m → Mapped n l → Mapped n m
+cleared-mapped n l m k a =
+    record {
+      map = λ x h. let e = kept-row (4 * n) n (2 * n) x k (omega arith) in let q = a .map x h in omega arith;
+    }
+
 module _ (n : ℕ) (work : List ℕ) where
   pub marks-start : (cells after : List ℕ) → length cells ≡ n → Filled 0 n 0 cells after → Marks n 0 work after
   marks-start cells after e f =
@@ -79,7 +85,7 @@ module _ (n : ℕ) (work : List ℕ) where
   marks-end count j l a b k = let e : j ≡ count = omega arith in subst (λ (i : ℕ). Marks n i work l) e k
 
 module _ (n : ℕ) (work marks : List ℕ) where
-  starts-true : (x : ℕ) → row work (3 * n) (row work (2 * n) x) ≡ x → getD marks (row work (2 * n) x) 0 ≡ 0 → starts n work marks x ≡ true
+  pub starts-true : (x : ℕ) → row work (3 * n) (row work (2 * n) x) ≡ x → getD marks (row work (2 * n) x) 0 ≡ 0 → starts n work marks x ≡ true
   unfolding starts
   starts-true x e z =
       and-both (eqb (row work (3 * n) (row work (2 * n) x)) x) _ (eq-eqb _ _ e) (eq-eqb _ _ z)

@@ -3,3 +3,4 @@ pub mod Blocks
 pub mod Minima
 pub mod Numbers
 pub mod Sums
+pub mod Figures

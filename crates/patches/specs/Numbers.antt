@@ -63,6 +63,14 @@ pub record Numbers (n : ℕ) (work marks : List ℕ) (x r : ℕ) (after : List �
       (m : ℕ) → m < n → ((z : ℕ) → z < x → starts n work marks z ≡ true → row work (2 * n) z ≢ m) →
       row after (4 * n) m ≡ 0
 
+-- the fifth block holds the numbers of the nodes that nobody's father is, by marks, and the other blocks are as they were
+pub record Leaves (n count : ℕ) (work : List ℕ) (r : ℕ) (after : List ℕ) : Type 0 where
+  pub marks : List ℕ
+  pub cleared : List ℕ
+  pub kept : Kept (4 * n) n work cleared
+  pub mark : Marks n count work marks
+  pub numbers : Numbers n cleared marks n r after
+
 -- the number of the node of x if x has its height, else 0
 unfoldable pub patchIn : ℕ → List ℕ → List ℕ → ℕ → ℕ
 patchIn n pixels work x =

@@ -7,7 +7,7 @@ ghost use Prim.Native.Nat.{ℕ, _+_, _*_, _≤_, _<_};
 ghost use lib.ListN.{length, getD};
 ghost use lib.Dec.{eqb};
 ghost use Rattle.picture.specs.Lists.{tally, range};
-ghost use Rattle.patches.specs.Numbers.{Sizes, Mapped, Cleared, Mark, Marks, Number, Numbers, patchIn};
+ghost use Rattle.patches.specs.Numbers.{Sizes, Mapped, Cleared, Mark, Marks, Number, Numbers, Leaves, patchIn};
 
 // Marks the father f of a node; a number that is no node's is the root's father.
 fn mark(cells: &mut [u16], f: usize)
@@ -59,6 +59,16 @@ fn number_leaves(n: usize, work: &mut [u16], marks: &[u16]) -> usize
         x += 1;
     }
     r
+}
+
+// Numbers the leaves of the tree in work, of count nodes, by first place, with the cells for marks; answers how many there are.
+pub fn number(n: usize, count: usize, work: &mut [u16], cells: &mut [u16]) -> usize
+    requires { ⌜ Sizes n (now work) (now cells) × Mapped n (now work) × (count ≤ n) ⌝ }
+    ensures { λ r. ⌜ Leaves n count (now (work .entry)) r (now (work .exit)) ⌝ }
+{
+    mark_fathers(n, count, work, cells);
+    fill(work, 4 * n, n, 0);
+    number_leaves(n, work, cells)
 }
 
 // The number of the patch of the place x, 0 on the line.
