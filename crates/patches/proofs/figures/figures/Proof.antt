@@ -1,54 +1,80 @@
+-- `patches::figures::figures` meets its contract: the numbers, the patch of each place, the depths and heights, the sums.
+use mathlib.Core.Path.{_≡_, sym, _∙_}
+use Prim.Native.Nat.{ℕ, _*_}
+use native.Mathlib.Omega.{arith}
+use lib.ListN.{length}
 use borrow.Author.Needs.{needs}
+use Rattle.patches.specs.Blocks.{picture}
+use Rattle.patches.proofs.Figuring.{tree-mapped, tree-few, tree-pixels, numbered-mapped, numbered-size, patched-frame, figures-all}
 use Rattle.patches.proofs.figures.figures.Statement.{statement}
 use Rattle.patches.proofs.figures.figures.Tie as tie
-use Rattle.patches.proofs.figures.figures.Reads as reads
-use Rattle.patches.proofs.figures.figures.Lts as lts
-use Rattle.patches.proofs.cells.level.Reads as level-reads
-use Rattle.patches.proofs.figures.largest.Reads as largest-reads
-use Rattle.patches.proofs.figures.put_patches.Reads as put-patches-reads
-use Rattle.patches.proofs.figures.put_sums.Reads as put-sums-reads
-use Rattle.patches.proofs.numbers.map_patches.Reads as map-patches-reads
-use Rattle.patches.proofs.numbers.number.Reads as number-reads
 
--- src/figures.rt:110:13
 mul-n : tie.Need-mul-n
 mul-n c = search needs
 
--- src/figures.rt:111:5
 number-requires : tie.Need-number-requires
-number-requires c κs = ?
+number-requires c κs =
+    let s = c .before .before .before .before .before in
+    let p = picture (s .args .a) (s .args .w) (s .args .h) (s .args .pixels .now) in
+    (s .pre .1, tree-mapped p _ _ (s .pre .0), tree-few p _ _ (s .pre .0))
 
--- src/figures.rt:112:5
 map-patches-requires : tie.Need-map-patches-requires
-map-patches-requires c κs = ?
+map-patches-requires c κs =
+    let s = c .before .before .before .before .before .before .before .before .before .before .before .before in
+    let p = picture (s .args .a) (s .args .w) (s .args .h) (s .args .pixels .now) in
+    let l = c .before .before .before .before .before .before .number .ensures in (
+      record {
+        few = s .pre .1 .few;
+        blocks = numbered-size p _ _ (s .pre .0) _ _ l ∙ s .pre .1 .blocks;
+        beside = tree-pixels p _ _ (s .pre .0);
+      },
+      numbered-mapped p _ _ (s .pre .0) _ _ l,
+      let z = s .pre .1 .beside in search needs,
+    )
 
--- src/figures.rt:113:22
 largest-requires : tie.Need-largest-requires
 largest-requires c κs = search needs
 
--- src/figures.rt:113:9
 level-requires : tie.Need-level-requires
 level-requires c κs = search needs
 
--- src/figures.rt:114:9
 put-patches-requires : tie.Need-put-patches-requires
-put-patches-requires c κs = ?
+put-patches-requires c κs =
+    let s = c .before .before .before .before .before .before .before .before .before .before .before .before .before .before .before .before .before .before .before in
+    let p = picture (s .args .a) (s .args .w) (s .args .h) (s .args .pixels .now) in
+    let l = c .before .before .before .before .before .before .before .before .before .before .before .before .before .number .ensures in (
+      record {
+        few = s .pre .1 .few;
+        blocks = numbered-size p _ _ (s .pre .0) _ _ l ∙ s .pre .1 .blocks;
+        beside = tree-pixels p _ _ (s .pre .0);
+      },
+      let z = s .pre .1 .beside in search needs,
+      numbered-mapped p _ _ (s .pre .0) _ _ l,
+    )
 
--- src/figures.rt:115:5
 put-sums-requires : tie.Need-put-sums-requires
-put-sums-requires c κs = ?
+put-sums-requires c κs =
+    let s = c .before .before .before .before .before .before .before .before .before .before .before .before .before .before .before .before .before .before .before .before .before .before .before .before in
+    let p = picture (s .args .a) (s .args .w) (s .args .h) (s .args .pixels .now) in
+    let l = c .before .before .before .before .before .before .before .before .before .before .before .before .before .before .before .before .before .before .number .ensures in
+    patched-frame p _ _ (s .pre .0) _ _ l _ (let z = s .pre .1 .beside in search needs) (c .before .before .before .before .before .before .before .before .before .before .before .map-patches .ensures) _
+    (c .before .before .before .before .put-patches .ensures .kept .size ∙ (numbered-size p _ _ (s .pre .0) _ _ l ∙ s .pre .1 .blocks))
 
--- src/figures.rt:105:1
 same-length : tie.Need-same-length
 same-length c = search needs
 
--- src/figures.rt:105:1
 same-length-2 : tie.Need-same-length-2
 same-length-2 c = search needs
 
--- src/figures.rt:105:1
 returns : tie.Need-returns
-returns c = ?
+returns c =
+    let s = c .before .before .before .before .before .before .before .before .before .before .before .before .before .before .before .before .before .before .before .before .before .before .before .before .before .before .before in
+    let p = picture (s .args .a) (s .args .w) (s .args .h) (s .args .pixels .now) in
+    let l = c .before .before .before .before .before .before .before .before .before .before .before .before .before .before .before .before .before .before .before .before .before .number .ensures in
+    figures-all p _ _ (s .pre .0) _ _ l _ (let z = s .pre .1 .beside in search needs) (c .before .before .before .before .before .before .before .before .before .before .before .before .before .before .map-patches .ensures) _ _ _ _
+    (c .before .before .before .before .before .before .before .before .before .before .level .ensures ∙ c .before .before .before .before .before .before .before .before .before .before .before .largest .ensures)
+    (c .before .before .before .before .before .before .before .put-patches .ensures)
+    (c .before .before .put-sums .ensures)
 
 pub figures-spec : {M : Type 1} → statement M
 figures-spec =
