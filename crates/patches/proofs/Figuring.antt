@@ -4,23 +4,26 @@ use mathlib.Core.Logic.{_⊎_, inl, inr, ⊎-elim}
 use mathlib.Core.List.{List}
 use Prim.Native.Nat.{ℕ, suc, _+_, _*_, _≤_, _<_}
 use native.Mathlib.Nat.{mul-le-mul-left}
+use native.Mathlib.Numerals.{add-one}
 use native.Mathlib.Omega.{arith}
+use lib.Dec.{eqb}
 use lib.ListN.{length, getD}
 use Rattle.picture.specs.Lists.{tally, range, highest}
 use Rattle.picture.specs.Pictures.{Picture, places}
-use Rattle.picture.specs.Patches.{patches, patchAt}
+use Rattle.picture.specs.Patches.{patches, patchAt, lineCount}
 use Rattle.tree.specs.Arrays.{row, TreeIn}
+use Rattle.topology.proofs.Lists.{tally-same, range-mem}
 use Rattle.topology.proofs.Accepted.{Accepted, accepted-is, places-bound}
 use Rattle.topology.proofs.Nodes.{nodes-few}
 use Rattle.topology.proofs.Leaves.{bottom}
 use Rattle.topology.proofs.PatchFigures.{patches-count}
-use Rattle.topology.proofs.PatchSums.{sumAt, count-few, patch-most, patch-size, patch-columns, patch-rows}
+use Rattle.topology.proofs.PatchSums.{sumAt, count-few, patch-most, patch-number, patch-size, patch-columns, patch-rows}
 use Rattle.patches.specs.Blocks.{Kept, Filled}
 use Rattle.patches.specs.Numbers.{Mapped, Leaves, patchIn}
 use Rattle.patches.specs.declared.sums.Figure.the-variants.{Size, Columns, Rows}
 use Rattle.patches.specs.Sums.{figureOf, Summing, Summed}
-use Rattle.patches.specs.Figures.{Tree, noPatch, Charted, Patched, Frame, Sums, Figures}
-use Rattle.patches.proofs.Numbering.{kept-row}
+use Rattle.patches.specs.Figures.{Tree, noPatch, Charted, Patched, Frame, Sums, Figures, PatchMap}
+use Rattle.patches.proofs.Numbering.{kept-row, onLine}
 use Rattle.patches.proofs.Charting.{arrays, map-in, leaves-patch}
 
 module _ (w n : ℕ) (numbers work : List ℕ) (f : Frame w n numbers work) where
@@ -146,6 +149,7 @@ module _ (p : Picture) (count : ℕ) (work : List ℕ) (t : Tree p count work) w
           let few = count-few p ok in
           record {
             count = n;
+            number = λ i h. add-one i ∙ sym (patch-number p ok i noPatch (omega arith));
             size = λ i h. s .sizes i (omega arith) ∙ sym (patch-size p ok i noPatch (omega arith) cells same);
             columns = λ i h. s .columns i (omega arith) ∙ sym (patch-columns p ok i noPatch (omega arith) cells same);
             rows = λ i h. s .rows i (omega arith) ∙ sym (patch-rows p ok i noPatch (omega arith) cells same);
@@ -153,3 +157,14 @@ module _ (p : Picture) (count : ℕ) (work : List ℕ) (t : Tree p count work) w
             height = λ i h. s .kept .outside (4 * places p + i) (inr (omega arith)) ∙ g .height i h;
             map = same;
           }
+
+-- the places with no patch are those on the line
+pub line-count : (p : Picture) (cells : List ℕ) (r : ℕ) → r ≡ onLine cells (length cells) → PatchMap p cells → r ≡ lineCount p
+unfolding lineCount
+line-count p cells r e m =
+    e ∙
+    (ap (onLine cells) (m .size) ∙
+    tally-same (λ x. eqb (getD cells x 0) 0) (λ x. eqb (patchAt p x) 0) (range 0 (places p))
+    (λ x k.
+    let b = range-mem 0 (places p) k in
+    ap (λ (v : ℕ). eqb v 0) (m .patch x (omega arith))))

@@ -79,9 +79,15 @@ pub record Sums (w n : ℕ) (numbers work after : List ℕ) : Type 0 where
 -- r patches; patch i + 1 has its size in the first block at i, its column sum in the second, its row sum in the third, its depth in the fourth, its height in the fifth; the cells hold the patch of each place
 pub record Figures (p : Picture) (r : ℕ) (work cells : List ℕ) : Type 0 where
   pub count : r ≡ length (patches p)
+  pub number : (i : ℕ) → i < r → i + 1 ≡ getD (patches p) i noPatch .number
   pub size : (i : ℕ) → i < r → row work 0 i ≡ getD (patches p) i noPatch .size
   pub columns : (i : ℕ) → i < r → row work (places p) i ≡ getD (patches p) i noPatch .columns
   pub rows : (i : ℕ) → i < r → row work (2 * places p) i ≡ getD (patches p) i noPatch .rows
   pub depth : (i : ℕ) → i < r → row work (3 * places p) i ≡ getD (patches p) i noPatch .depth
   pub height : (i : ℕ) → i < r → row work (4 * places p) i ≡ getD (patches p) i noPatch .height
   pub map : (x : ℕ) → x < places p → getD cells x 0 ≡ patchAt p x
+
+-- the cells hold the patch of each place
+pub record PatchMap (p : Picture) (cells : List ℕ) : Type 0 where
+  pub size : length cells ≡ places p
+  pub patch : (x : ℕ) → x < places p → getD cells x 0 ≡ patchAt p x

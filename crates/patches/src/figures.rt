@@ -10,8 +10,7 @@ ghost use mathlib.Core.Path.{_≡_};
 ghost use Prim.Native.Nat.{ℕ, _+_, _-_, _*_, _/_, _≤_, _<_};
 ghost use lib.ListN.{length};
 ghost use lib.Dec.{leb};
-ghost use Rattle.picture.specs.Lists.{pick};
-ghost use Rattle.picture.specs.Lists.{highest};
+ghost use Rattle.picture.specs.Lists.{pick, highest};
 ghost use Rattle.picture.specs.Patches.{centre};
 ghost use Rattle.patches.specs.Blocks.{picture};
 ghost use Rattle.patches.specs.Numbers.{Sizes, Mapped};
@@ -63,7 +62,15 @@ fn depth(n: usize, work: &[u16], most: u16, m: usize) -> u16
 }
 
 // Puts the depth and the height of the patch that begins at x behind those of the r patches before it, if one begins there.
-fn put_patch(n: usize, pixels: &[u8], map: &[u16], most: u16, x: usize, work: &mut [u16], r: usize) -> usize
+fn put_patch(
+    n: usize,
+    pixels: &[u8],
+    map: &[u16],
+    most: u16,
+    x: usize,
+    work: &mut [u16],
+    r: usize,
+) -> usize
     requires { ⌜ Sizes n (now work) (now pixels) × (length (now map) ≡ n) × Mapped n (now work) × (x < n) × (r ≤ x) ⌝ }
     ensures { λ q. ⌜ Put n (now (pixels .entry)) (now (map .entry)) most x (now (work .entry)) r (now (work .exit)) q ⌝ }
 {
@@ -102,7 +109,15 @@ fn put_sums(w: usize, n: usize, map: &[u16], work: &mut [u16])
 }
 
 // The figures of the patches of a picture whose tree of count nodes is in work, and in the cells the patch of each place.
-pub fn figures(a: u32, w: u32, h: u32, pixels: &[u8], count: usize, work: &mut [u16], cells: &mut [u16]) -> usize
+pub fn figures(
+    a: u32,
+    w: u32,
+    h: u32,
+    pixels: &[u8],
+    count: usize,
+    work: &mut [u16],
+    cells: &mut [u16],
+) -> usize
     requires { ⌜ Tree (picture a w h (now pixels)) count (now work) × Sizes (w * h) (now work) (now cells) ⌝ }
     ensures { λ r. ⌜ Figures (picture a w h (now (pixels .entry))) r (now (work .exit)) (now (cells .exit)) ⌝ }
 {
@@ -117,7 +132,7 @@ pub fn figures(a: u32, w: u32, h: u32, pixels: &[u8], count: usize, work: &mut [
 }
 
 // A centre in tenths, from a sum of columns or rows and the size.
-pub fn centre_of(sum: u32, size: u32) -> u32
+pub fn centre(sum: u32, size: u32) -> u32
     requires { ⌜ (1 ≤ size) × (sum ≤ 65535) ⌝ }
     ensures { λ r. ⌜ r ≡ centre sum size ⌝ }
 {

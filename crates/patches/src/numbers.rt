@@ -5,8 +5,10 @@ use crate::cells::wide;
 ghost use mathlib.Core.Path.{_≡_};
 ghost use Prim.Native.Nat.{ℕ, _+_, _*_, _≤_, _<_};
 ghost use lib.ListN.{length, getD};
-ghost use lib.Dec.{eqb};
-ghost use Rattle.picture.specs.Lists.{tally, range};
+ghost use Rattle.picture.specs.Pictures.{Picture};
+ghost use Rattle.picture.specs.Patches.{patchAt, lineCount};
+ghost use Rattle.patches.specs.Blocks.{picture};
+ghost use Rattle.patches.specs.Figures.{Tree, PatchMap};
 ghost use Rattle.patches.specs.Numbers.{Sizes, Mapped, Cleared, Mark, Marks, Number, Numbers, Leaves, patchIn};
 
 // Marks the father f of a node; a number that is no node's is the root's father.
@@ -83,6 +85,25 @@ pub fn patch_at(n: usize, pixels: &[u8], work: &[u16], x: usize) -> u16
     work[4 * n + m]
 }
 
+// The number of the patch of the place x of a picture whose tree of count nodes is in work, 0 on the line.
+pub fn patch_of(
+    a: u32,
+    w: u32,
+    h: u32,
+    pixels: &[u8],
+    count: usize,
+    x: usize,
+    work: &mut [u16],
+    cells: &mut [u16],
+) -> u16
+    requires { ⌜ Tree (picture a w h (now pixels)) count (now work) × Sizes (w * h) (now work) (now cells) × (x < w * h) ⌝ }
+    ensures { λ r. ⌜ r ≡ patchAt (picture a w h (now (pixels .entry))) x ⌝ }
+{
+    let n = w as usize * h as usize;
+    number(n, count, work, cells);
+    patch_at(n, pixels, work, x)
+}
+
 // Puts the number of the patch of each place into the cells.
 pub fn map_patches(n: usize, pixels: &[u8], work: &[u16], cells: &mut [u16])
     requires { ⌜ Sizes n (now work) (now pixels) × Mapped n (now work) × (length (now cells) ≡ n) ⌝ }
@@ -95,9 +116,9 @@ pub fn map_patches(n: usize, pixels: &[u8], work: &[u16], cells: &mut [u16])
     }
 }
 
-// How many places are on the line.
+// How many places of the map are on the line.
 pub fn count_line(map: &[u16]) -> usize
-    ensures { λ r. ⌜ r ≡ tally (λ x. eqb (getD (now (map .entry)) x 0) 0) (range 0 (length (now (map .entry)))) ⌝ }
+    ensures { λ r. ⌜ ((p : Picture) → PatchMap p (now (map .entry)) → r ≡ lineCount p) ⌝ }
 {
     let mut r = 0;
     let mut x = 0;

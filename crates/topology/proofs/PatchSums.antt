@@ -144,6 +144,10 @@ module _ (p : Picture) (ok : Accepted p) where
     unfolding patchOf
     patch-depth = ap (λ (q : Patch). q .depth) record-at ∙ ap (depthOf p) (sym (bottom-map p ok z b h))
 
+    number-at : getD (patches p) (tally (bottom p) (range 0 z)) d .number ≡ patchAt p z
+    unfolding patchOf
+    number-at = ap (λ (q : Patch). q .number) record-at
+
     module _ (numbers : List ℕ) (same : (x : ℕ) → x < places p → getD numbers x 0 ≡ patchAt p x) where
       members-sum : (g : ℕ → ℕ) → total (map g (componentOf p (leaf p z))) ≡ sumAt g numbers (patchAt p z) (places p)
       unfolding sumAt
@@ -172,6 +176,13 @@ module _ (p : Picture) (ok : Accepted p) where
       rows-at : getD (patches p) (tally (bottom p) (range 0 z)) d .rows ≡ sumAt (row p) numbers (patchAt p z) (places p)
       unfolding patchOf
       rows-at = ap (λ (q : Patch). q .rows) record-at ∙ members-sum (row p)
+
+  -- patches are numbered from 1
+  pub patch-number : (i : ℕ) (d : Patch) → i < length (patches p) → getD (patches p) i d .number ≡ suc i
+  patch-number i d h =
+      let (z, b, t, e) = patch-begins i h in
+      sym (ap (λ (j : ℕ). getD (patches p) j d .number) e) ∙
+      (number-at z d b t ∙ (bottom-number p ok z b t ∙ ap suc e))
 
   -- the sums of a patch by its number
   module _ (i : ℕ) (d : Patch) (h : i < length (patches p)) (numbers : List ℕ) (same : (x : ℕ) → x < places p → getD numbers x 0 ≡ patchAt p x) where

@@ -6,6 +6,7 @@ use native.Mathlib.Omega.{arith}
 use lib.ListN.{length}
 use borrow.Author.Needs.{needs}
 use Rattle.patches.proofs.Numbering.{onLine, line-few, line-in, line-out}
+use Rattle.patches.proofs.Figuring.{line-count}
 use Rattle.patches.proofs.numbers.count_line.Statement.{statement}
 use Rattle.patches.proofs.numbers.count_line.Tie as tie
 
@@ -49,7 +50,7 @@ returns : tie.Need-returns Inv-loop μ-loop
 returns c =
     let l = c .before .before .args .map .now in
     let e : c .before .loop .x ≡ length l = omega arith in
-    c .before .loop .inv .1 ∙ ap (onLine l) e
+    λ p m. line-count p l _ (c .before .loop .inv .1 ∙ ap (onLine l) e) m
 
 pub count-line-spec : {M : Type 1} → statement M
 count-line-spec =
