@@ -35,3 +35,4 @@ pub mod Naming
 pub mod Mapped
 pub mod Buckets
 pub mod Settling
+pub mod Checks
