@@ -38,7 +38,7 @@ pub record IsNode (p : Picture) (n : Node) : Type 0 where
   pub fork : isBranch p (n .height) (componentOf p n) ≡ false
 
 module _ (p : Picture) where
-  nodes-at : (k : ℕ) → nodesAt p k ≡ map (node k) (select (isNode p k) (range 0 (places p)))
+  pub nodes-at : (k : ℕ) → nodesAt p k ≡ map (node k) (select (isNode p k) (range 0 (places p)))
   unfolding nodesAt isNode firstAt
   nodes-at k =
       ap (λ (l : List (List ℕ)). map named (select free l)) (components-are p k) ∙

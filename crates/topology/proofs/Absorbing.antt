@@ -1,0 +1,296 @@
+-- The pixels of one height join the classes, a place and a neighbour at a time.
+use mathlib.Core.Path.{_≡_, refl, sym, ap, subst, _∙_}
+use mathlib.Core.Logic.{_⊎_, inl, inr, ⊎-elim, by-cases, _≢_}
+use mathlib.Core.List.{List}
+use Prim.Native.Nat.{ℕ, suc, _+_, _≤_, _<_}
+use native.Mathlib.Decide.{ℕ-discrete, decLt}
+use native.Mathlib.Omega.{arith}
+use lib.ListN.{length, getD, set, length-set}
+use Rattle.picture.specs.Pictures.{Picture, places, valueAt}
+use Rattle.picture.specs.Geometry.{neighboursIn}
+use Rattle.picture.specs.Trees.{nodes, nodeAt, fatherOf, mapOf}
+use Rattle.picture.proofs.Neighbours.{neighbour-at, neighbour-index}
+use Rattle.topology.proofs.Connected.{conn-source, conn-target, conn-trans, conn-edge}
+use Rattle.topology.proofs.Adjacency.{Adj, At, Joined, adj-sym, joined-sym}
+use Rattle.topology.proofs.Accepted.{Accepted, byte-at, places-bound}
+use Rattle.topology.proofs.Nodes.{nodes-few}
+use Rattle.topology.proofs.Beneath.{Low, beneath-number}
+use Rattle.topology.proofs.Levels.{put, relink, relink-moved, relink-kept, State, nothing, single, several, Level, Upto, Edges, edges-lower, Merged, met, met-number, linked}
+use Rattle.topology.proofs.Numbering.{soFar}
+use Rattle.topology.proofs.Forests.{Forest, Found, root-cell, forest-link}
+use Rattle.topology.proofs.Marks.{Names}
+
+-- the cells hold the classes at height k, with the neighbours up to x joined
+pub record Classes (p : Picture) (k x : ℕ) (l : List ℕ) (fa : ℕ → ℕ) : Type 0 where
+  pub root : ℕ → ℕ
+  pub st : ℕ → ℕ
+  pub size : length l ≡ places p
+  pub forest : Forest l root st
+  pub level : Level p k (soFar p k) root st fa
+  pub edges : Edges p k x root
+
+-- x, with the root r, is joined to the first j of its neighbours
+pub record Near (p : Picture) (k x j r : ℕ) (l : List ℕ) (fa : ℕ → ℕ) : Type 0 where
+  pub root : ℕ → ℕ
+  pub st : ℕ → ℕ
+  pub size : length l ≡ places p
+  pub low : k ≤ 255
+  pub forest : Forest l root st
+  pub level : Level p k (soFar p k) root st fa
+  pub edges : Edges p k x root
+  pub within : x < places p
+  pub value : valueAt p x ≡ k
+  pub is : root x ≡ r
+  pub seen : (i : ℕ) → i < j → Upto p k x (getD (neighboursIn p x) i 0) → root (getD (neighboursIn p x) i 0) ≡ root x
+
+-- y is the neighbour j of x
+pub record Edge (p : Picture) (x j y : ℕ) : Type 0 where
+  pub listed : j < length (neighboursIn p x)
+  pub is : y ≡ getD (neighboursIn p x) j 0
+
+module _ (p : Picture) (ok : Accepted p) (k x : ℕ) where
+  pub edge-touch : (j y : ℕ) → Edge p x j y → (y < places p) × Adj p x y
+  edge-touch j y e =
+      subst (λ (z : ℕ). (z < places p) × Adj p x z) (sym (e .is)) (neighbour-at p x j (e .listed))
+
+  pub near-start : (r : ℕ) (l m : List ℕ) (fa : ℕ → ℕ) → Classes p k x l fa → x < places p → valueAt p x ≡ k → Found l x r m → Near p k x 0 r m fa
+  near-start r l m fa c b v f =
+      record {
+        root = c .root;
+        st = c .st;
+        size = f .size ∙ c .size;
+        low = let h = byte-at (p .pixels) (ok .bytes) x in omega arith;
+        forest = f .keeps (c .root) (c .st) (c .forest);
+        level = c .level;
+        edges = c .edges;
+        within = b;
+        value = v;
+        is = f .is (c .root) (c .st) (c .forest);
+        seen = λ i h. absurd (omega arith);
+      }
+
+  -- all neighbours: the edges of x are done
+  pub near-end : (r : ℕ) (l : List ℕ) (fa : ℕ → ℕ) → Near p k x (length (neighboursIn p x)) r l fa → Classes p k (suc x) l fa
+  near-end r l fa n =
+      record {
+        root = n .root;
+        st = n .st;
+        size = n .size;
+        forest = n .forest;
+        level = n .level;
+        edges =
+            record {
+              same =
+                  λ y z a b t.
+                  by-cases (ℕ-discrete y x)
+                  (λ e.
+                  by-cases (ℕ-discrete z x)
+                  (λ g. ap (n .root) (e ∙ sym g))
+                  (λ g. ap (n .root) e ∙ sym (done z (before z g b) (subst (λ (u : ℕ). Adj p u z) e t))))
+                  (λ d.
+                  by-cases (ℕ-discrete z x)
+                  (λ g. done y (before y d a) (adj-sym p y x (subst (λ (u : ℕ). Adj p y u) g t)) ∙ ap (n .root) (sym g))
+                  (λ g. n .edges .same y z (before y d a) (before z g b) t));
+            };
+      }
+    where
+      before : (y : ℕ) → y ≢ x → Upto p k (suc x) y → Upto p k x y
+      before y d u =
+          record { within = u .within; passed = ⊎-elim (λ h. inl h) (λ h. let g = h .1 in inr (h .0, omega arith)) (u .passed) }
+
+      done : (y : ℕ) → Upto p k x y → Adj p x y → n .root y ≡ n .root x
+      done y u t =
+          let (i, b, e) = neighbour-index p x y (ok .wide) (u .within) t in
+          ap (n .root) (sym e) ∙ n .seen i b (subst (Upto p k x) (sym e) u)
+
+  module _ (j r : ℕ) (l : List ℕ) (fa : ℕ → ℕ) (n : Near p k x j r l fa) where
+    seen-next : (new : ℕ → ℕ) → ((y z : ℕ) → n .root y ≡ n .root z → new y ≡ new z) → (y : ℕ) → Edge p x j y → (Upto p k x y → new y ≡ new x) →
+        (i : ℕ) → i < suc j → Upto p k x (getD (neighboursIn p x) i 0) → new (getD (neighboursIn p x) i 0) ≡ new x
+    seen-next new same y e f i b u =
+        by-cases (ℕ-discrete i j)
+        (λ q.
+        let g : getD (neighboursIn p x) i 0 ≡ y = ap (λ (a : ℕ). getD (neighboursIn p x) a 0) q ∙ sym (e .is) in
+        ap new g ∙ f (subst (Upto p k x) g u))
+        (λ d. same (getD (neighboursIn p x) i 0) x (n .seen i (omega arith) u))
+
+    -- a neighbour that is still to come
+    pub near-skip : (y : ℕ) → Edge p x j y → (Upto p k x y → ⊥) → Near p k x (suc j) r l fa
+    near-skip y e d =
+        record {
+          root = n .root;
+          st = n .st;
+          size = n .size;
+          low = n .low;
+          forest = n .forest;
+          level = n .level;
+          edges = n .edges;
+          within = n .within;
+          value = n .value;
+          is = n .is;
+          seen = seen-next (n .root) (λ a b q. q) y e (λ u. absurd (d u));
+        }
+
+    -- a root's cell is a state
+    pub near-names : (y : ℕ) → At p k y → n .root y ≡ y → Names (length l) (getD l y 0)
+    near-names y s e =
+        let b : y < length l = let a = s .within in let g = n .size in omega arith in
+        let h = root-cell (n .forest) y b e in
+        let t = n .forest .state y b h in
+        record { root = h; node = λ q. by (n .level .state y s e) t q }
+      where
+        by : State p k (n .root) y (n .st y) → getD l y 0 ≡ n .st y → getD l y 0 < 65534 → getD l y 0 < 2048 + length l
+        by (nothing a f) t q = absurd (omega arith)
+        by (several z w a c d f g h) t q = absurd (omega arith)
+        by (single z c d a f) t q =
+            let g = beneath-number p k z (let h = n .low in omega arith) c in
+            let h = nodes-few p in
+            let i = n .size in
+            omega arith
+
+    at-x : At p k x
+    at-x = record { within = n .within; low = let v = n .value in omega arith }
+
+    module _ (y : ℕ) (u : Upto p k x y) (t : Adj p x y) where
+      at-y : At p k y
+      at-y = record { within = u .within; low = ⊎-elim (λ h. omega arith) (λ h. let g = h .0 in omega arith) (u .passed) }
+
+      pub root-x : (n .root (n .root x) ≡ n .root x) × At p k (n .root x)
+      root-x = (n .level .fixed x (n .within), conn-target (n .level .own x at-x))
+
+      pub root-y : (n .root (n .root y) ≡ n .root y) × At p k (n .root y)
+      root-y = (n .level .fixed y (u .within), conn-target (n .level .own y at-y))
+
+      joined-roots : Joined p k (n .root x) (n .root y)
+      joined-roots =
+          conn-trans (joined-sym p k (n .level .own x at-x))
+          (conn-trans (conn-edge at-x t at-y) (n .level .own y at-y))
+
+      -- the neighbour has the same root
+      pub near-same : (m : List ℕ) (q : ℕ) → Edge p x j y → Found l y q m → q ≡ r → Near p k x (suc j) r m fa
+      near-same m q e f g =
+          record {
+            root = n .root;
+            st = n .st;
+            size = f .size ∙ n .size;
+            low = n .low;
+            forest = f .keeps (n .root) (n .st) (n .forest);
+            level = n .level;
+            edges = n .edges;
+            within = n .within;
+            value = n .value;
+            is = n .is;
+            seen = seen-next (n .root) (λ a b h. h) y e (λ h. f .is (n .root) (n .st) (n .forest) ∙ (g ∙ sym (n .is)));
+          }
+
+      -- the two roots, the smaller first
+      module _ (lo hi : ℕ) (m : List ℕ) (ends : ((n .root x ≡ lo) × (n .root y ≡ hi)) ⊎ ((n .root x ≡ hi) × (n .root y ≡ lo))) (less : lo < hi)
+          (size : length m ≡ length l) (forest : Forest m (n .root) (n .st)) where
+        both : Joined p k lo hi × Joined p k x lo
+        both =
+            ⊎-elim
+            (λ h. (
+              subst (λ (b : ℕ). Joined p k lo b) (h .1) (subst (λ (a : ℕ). Joined p k a (n .root y)) (h .0) joined-roots),
+              subst (λ (a : ℕ). Joined p k x a) (h .0) (n .level .own x at-x),
+            ))
+            (λ h.
+            let c : Joined p k lo hi =
+            subst (λ (b : ℕ). Joined p k lo b) (h .0) (subst (λ (a : ℕ). Joined p k a (n .root x)) (h .1) (joined-sym p k joined-roots))
+            in
+            (c, conn-trans (subst (λ (a : ℕ). Joined p k x a) (h .0) (n .level .own x at-x)) (joined-sym p k c)))
+            ends
+
+        lo-root : n .root lo ≡ lo
+        lo-root =
+            ⊎-elim
+            (λ h. subst (λ (a : ℕ). n .root a ≡ a) (h .0) (root-x .0))
+            (λ h. subst (λ (a : ℕ). n .root a ≡ a) (h .1) (root-y .0))
+            ends
+
+        hi-root : n .root hi ≡ hi
+        hi-root =
+            ⊎-elim
+            (λ h. subst (λ (a : ℕ). n .root a ≡ a) (h .1) (root-y .0))
+            (λ h. subst (λ (a : ℕ). n .root a ≡ a) (h .0) (root-x .0))
+            ends
+
+        hi-in : hi < length m
+        hi-in = let b = conn-target (both .0) .within in let g = n .size in omega (arith, b, g, size)
+
+        small : lo < 2048
+        small = let b = conn-source (both .0) .within in let g = places-bound p ok in omega arith
+
+        lo-state : getD m lo 0 ≡ n .st lo
+        lo-state = forest .state lo (omega (arith, hi-in, less)) (root-cell forest lo (omega (arith, hi-in, less)) lo-root)
+
+        hi-state : getD m hi 0 ≡ n .st hi
+        hi-state = forest .state hi hi-in (root-cell forest hi hi-in hi-root)
+
+        same-class : (a b : ℕ) → n .root a ≡ n .root b → relink (n .root) lo hi a ≡ relink (n .root) lo hi b
+        same-class a b q =
+            by-cases (ℕ-discrete (n .root b) hi)
+            (λ g. relink-moved (n .root) lo hi a (q ∙ g) ∙ sym (relink-moved (n .root) lo hi b g))
+            (λ d. relink-kept (n .root) lo hi a (λ g. d (sym q ∙ g)) ∙ (q ∙ sym (relink-kept (n .root) lo hi b d)))
+
+        x-now : relink (n .root) lo hi x ≡ lo
+        x-now = ⊎-elim (λ h. relink-kept (n .root) lo hi x (λ q. let g = h .0 in omega arith) ∙ h .0) (λ h. relink-moved (n .root) lo hi x (h .0)) ends
+
+        y-now : relink (n .root) lo hi y ≡ lo
+        y-now = ⊎-elim (λ h. relink-moved (n .root) lo hi y (h .1)) (λ h. relink-kept (n .root) lo hi y (λ q. let g = h .1 in omega arith) ∙ h .1) ends
+
+        -- the father of a node that one of the two roots says
+        near-met :
+            (i : ℕ) → i < 1600 → getD m lo 0 ≢ 65535 → getD m hi 0 ≢ 65535 → (getD m lo 0 ≡ 2048 + i) ⊎ (getD m hi 0 ≡ 2048 + i) →
+            (i < length (nodes p)) × (fatherOf p (nodeAt p i) ≡ mapOf p x)
+        near-met i b da db e =
+            let g : (n .st lo ≡ 2048 + i) ⊎ (n .st hi ≡ 2048 + i) = ⊎-elim (λ q. inl (sym lo-state ∙ q)) (λ q. inr (sym hi-state ∙ q)) e in
+            let lower = edges-lower p k x (n .root) (let h = n .low in omega arith) (n .edges) in (
+              met-number p ok k (n .low) (soFar p k) x lo hi (n .root) (n .st) fa (n .level) lower less lo-root hi-root (both .0) (both .1) (n .value) i b g,
+              met p ok k (n .low) (soFar p k) x lo hi (n .root) (n .st) fa (n .level) lower less lo-root hi-root (both .0) (both .1) (n .value) i b
+                  (λ q. da (lo-state ∙ q)) (λ q. db (hi-state ∙ q)) g,
+            )
+
+        -- the two roots are linked
+        near-linked :
+            (s : ℕ) (fb : ℕ → ℕ) → 2048 ≤ s → Merged x (getD m lo 0) (getD m hi 0) s fa fb → Edge p x j y →
+            Near p k x (suc j) lo (set (set m hi lo) lo s) fb
+        near-linked s fb big merged e =
+            record {
+              root = relink (n .root) lo hi;
+              st = put (n .st) lo s;
+              size = length-set (set m hi lo) lo s ∙ (length-set m hi lo ∙ (size ∙ n .size));
+              low = n .low;
+              forest = forest-link m lo hi s (n .root) (n .st) forest less hi-in small lo-root hi-root big;
+              level =
+                  linked p ok k (n .low) (soFar p k) x lo hi (n .root) (n .st) fa (n .level)
+                  (edges-lower p k x (n .root) (let h = n .low in omega arith) (n .edges))
+                  less lo-root hi-root (both .0) (both .1) (n .value) s fb
+                  (subst (λ (a : ℕ). Merged x a (n .st hi) s fa fb) lo-state
+                  (subst (λ (a : ℕ). Merged x (getD m lo 0) a s fa fb) hi-state merged));
+              edges = record { same = λ a b c d g. same-class a b (n .edges .same a b c d g) };
+              within = n .within;
+              value = n .value;
+              is = x-now;
+              seen = seen-next (relink (n .root) lo hi) same-class y e (λ h. y-now ∙ sym x-now);
+            }
+
+      module _ (m : List ℕ) (q s : ℕ) (fb : ℕ → ℕ) (e : Edge p x j y) (f : Found l y q m) (big : 2048 ≤ s) where
+        pub near-below : q < r → Merged x (getD m q 0) (getD m r 0) s fa fb → Near p k x (suc j) q (set (set m r q) q s) fb
+        near-below h g =
+            near-linked q r m (inr (n .is, f .is (n .root) (n .st) (n .forest))) h (f .size) (f .keeps (n .root) (n .st) (n .forest)) s fb big g e
+
+        pub near-above : r < q → Merged x (getD m r 0) (getD m q 0) s fa fb → Near p k x (suc j) r (set (set m q r) r s) fb
+        near-above h g =
+            near-linked r q m (inl (n .is, f .is (n .root) (n .st) (n .forest))) h (f .size) (f .keeps (n .root) (n .st) (n .forest)) s fb big g e
+
+      module _ (m : List ℕ) (q : ℕ) (f : Found l y q m) where
+        pub met-below :
+            q < r → (i : ℕ) → i < 1600 → getD m q 0 ≢ 65535 → getD m r 0 ≢ 65535 → (getD m q 0 ≡ 2048 + i) ⊎ (getD m r 0 ≡ 2048 + i) →
+            (i < length (nodes p)) × (fatherOf p (nodeAt p i) ≡ mapOf p x)
+        met-below h =
+            near-met q r m (inr (n .is, f .is (n .root) (n .st) (n .forest))) h (f .size) (f .keeps (n .root) (n .st) (n .forest))
+
+        pub met-above :
+            r < q → (i : ℕ) → i < 1600 → getD m r 0 ≢ 65535 → getD m q 0 ≢ 65535 → (getD m r 0 ≡ 2048 + i) ⊎ (getD m q 0 ≡ 2048 + i) →
+            (i < length (nodes p)) × (fatherOf p (nodeAt p i) ≡ mapOf p x)
+        met-above h =
+            near-met r q m (inl (n .is, f .is (n .root) (n .st) (n .forest))) h (f .size) (f .keeps (n .root) (n .st) (n .forest))

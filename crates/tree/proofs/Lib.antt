@@ -1,0 +1,2 @@
+-- Laws of the tree's cells.
+pub mod Trees

@@ -1,0 +1,110 @@
+// The pixels of one height join the classes of the places below them.
+use crate::union_find::find;
+use crate::union_find::join;
+use crate::union_find::wide;
+ghost use mathlib.Core.Path.{_≡_};
+ghost use Prim.Native.Nat.{_<_, _≤_, _+_, _*_};
+ghost use lib.ListN.{length, getD};
+ghost use Rattle.picture.specs.Pictures.{places};
+ghost use Rattle.topology.proofs.Forests.{Block};
+ghost use Rattle.topology.proofs.Chains.{Comes, EdgeReady, EdgeDone};
+ghost use Rattle.topology.proofs.Walks.{Ready, Absorbed};
+ghost use Rattle.tree.specs.Frame.{pictureOf};
+
+// A pixel as a height.
+pub fn height(x: u8) -> usize
+    ensures { λ r. ⌜ r ≡ x ⌝ }
+{
+    x as usize
+}
+
+// The place y comes before the place x of value k: by value, then by place.
+pub fn comes_before(pixels: &[u8], k: usize, x: usize, y: usize) -> bool
+    requires { ⌜ y < length (now pixels) ⌝ }
+    ensures { λ r. ⌜ Comes k x y (getD (now (pixels .entry)) y 0) r ⌝ }
+{
+    let v = height(pixels[y]);
+    if v < k {
+        return true;
+    }
+    if k < v {
+        return false;
+    }
+    if y < x {
+        return true;
+    }
+    false
+}
+
+// Joins the place x, whose root is r, to its neighbour y if y comes before x, and answers the root then.
+fn absorb_edge(
+    pixels: &[u8],
+    work: &mut [u16],
+    cells: &mut [u16],
+    k: usize,
+    x: usize,
+    r: usize,
+    y: usize,
+) -> usize
+    requires { ⌜ EdgeReady (now pixels) k x r y (now cells) (now work) ⌝ }
+    ensures { λ q. ⌜ EdgeDone (now (pixels .entry)) k x r y (now (cells .entry)) (now (work .entry)) q (now (cells .exit)) (now (work .exit)) ⌝ }
+{
+    if !comes_before(pixels, k, x, y) {
+        return r;
+    }
+    let q = find(cells, y);
+    if q == r {
+        return r;
+    }
+    if q < r {
+        join(work, cells, q, r, x);
+        return q;
+    }
+    join(work, cells, r, q, x);
+    r
+}
+
+// Joins the place x of value k to its neighbours that come before it, and answers the next place of its value.
+fn absorb(
+    a: u32,
+    w: u32,
+    h: u32,
+    pixels: &[u8],
+    work: &mut [u16],
+    cells: &mut [u16],
+    k: usize,
+    x: usize,
+) -> usize
+    requires { ⌜ Ready (pictureOf a w h (now pixels)) k x (now cells) (now work) × (x < length (now cells)) ⌝ }
+    ensures { λ r. ⌜ Absorbed (pictureOf a w h (now (pixels .entry))) k x r (now (cells .exit)) (now (work .entry)) (now (work .exit)) ⌝ }
+{
+    let mut near = [0u16; 8];
+    let count = picture::geometry::neighbours(a, w, h, x, &mut near);
+    let mut root = find(cells, x);
+    let mut i = 0;
+    while i < count {
+        root = absorb_edge(pixels, work, cells, k, x, root, wide(near[i]));
+        i += 1;
+    }
+    wide(work[2 * cells.len() + x])
+}
+
+// The pixels of value k join the classes; their chain begins at head.
+pub fn absorb_level(
+    a: u32,
+    w: u32,
+    h: u32,
+    pixels: &[u8],
+    work: &mut [u16],
+    cells: &mut [u16],
+    k: usize,
+    head: usize,
+)
+    requires { ⌜ Ready (pictureOf a w h (now pixels)) k head (now cells) (now work) ⌝ }
+    ensures { λ _. ⌜ Ready (pictureOf a w h (now (pixels .entry))) k (w * h) (now (cells .exit)) (now (work .exit)) × Block (w * h) (w * h) (now (work .entry)) (now (work .exit)) ⌝ }
+{
+    let mut x = head;
+    while x < cells.len() {
+        x = absorb(a, w, h, pixels, work, cells, k, x);
+    }
+}
