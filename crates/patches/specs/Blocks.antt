@@ -1,14 +1,9 @@
--- The picture of a call's arguments, and blocks of cells.
+-- Blocks of cells.
 use mathlib.Core.Path.{_≡_}
 use mathlib.Core.Logic.{_⊎_}
 use mathlib.Core.List.{List}
 use Prim.Native.Nat.{ℕ, _+_, _≤_, _<_}
 use lib.ListN.{length, getD}
-use Rattle.picture.specs.Pictures.{Picture}
-
--- the picture of a call's arguments
-abbrev pub picture : ℕ → ℕ → ℕ → List ℕ → Picture
-picture a w h xs = record { adjacency = a; width = w; height = h; pixels = xs }
 
 -- nothing but the n entries from b on has changed
 pub record Kept (b n : ℕ) (cells after : List ℕ) : Type 0 where

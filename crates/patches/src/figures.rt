@@ -12,7 +12,7 @@ ghost use lib.ListN.{length};
 ghost use lib.Dec.{leb};
 ghost use Rattle.picture.specs.Lists.{pick, highest};
 ghost use Rattle.picture.specs.Patches.{centre};
-ghost use Rattle.patches.specs.Blocks.{picture};
+ghost use Rattle.tree.specs.Frame.{pictureOf};
 ghost use Rattle.patches.specs.Numbers.{Sizes, Mapped};
 ghost use Rattle.patches.specs.Figures.{Tree, depthIn, Put, Patched, Frame, Sums, Figures};
 
@@ -118,8 +118,8 @@ pub fn figures(
     work: &mut [u16],
     cells: &mut [u16],
 ) -> usize
-    requires { ⌜ Tree (picture a w h (now pixels)) count (now work) × Sizes (w * h) (now work) (now cells) ⌝ }
-    ensures { λ r. ⌜ Figures (picture a w h (now (pixels .entry))) r (now (work .exit)) (now (cells .exit)) ⌝ }
+    requires { ⌜ Tree (pictureOf a w h (now pixels)) count (now work) × Sizes (w * h) (now work) (now cells) ⌝ }
+    ensures { λ r. ⌜ Figures (pictureOf a w h (now (pixels .entry))) r (now (work .exit)) (now (cells .exit)) ⌝ }
 {
     let width = w as usize;
     let n = width * h as usize;

@@ -1,5 +1,6 @@
 // Patches: the minima of a picture, their number, their figures and the patch of a place.
 pub mod cells;
+pub mod cores;
 pub mod figures;
 pub mod minima;
 pub mod numbers;

@@ -12,7 +12,7 @@ ghost use Rattle.picture.specs.Geometry.{Placed};
 ghost use Rattle.picture.specs.Patches.{patches};
 ghost use Rattle.topology.proofs.Zones.{Flooded};
 ghost use Rattle.topology.proofs.ZoneScan.{Scanned};
-ghost use Rattle.patches.specs.Blocks.{picture};
+ghost use Rattle.tree.specs.Frame.{pictureOf};
 ghost use Rattle.patches.specs.Minima.{Sizes, Room, Visit, Turn, Seed, Counting};
 
 // The cell of a place that no flood has visited.
@@ -57,7 +57,7 @@ fn visit(pixels: &[u8], k: u8, y: usize, cells: &mut [u16], s: Stack) -> Stack
 // Takes the top off the stack and visits its neighbours.
 fn spread(a: u32, w: u32, h: u32, pixels: &[u8], k: u8, cells: &mut [u16], stack: Stack) -> Stack
     requires { ⌜ Placed w h (stack .top) × Room (now pixels) (now cells) stack × (length (now pixels) ≡ w * h) × (1 ≤ stack .height) × (getD (now cells) (stack .top) 0 ≢ 65535) ⌝ }
-    ensures { λ r. ⌜ Turn (picture a w h (now (pixels .entry))) k (now (cells .entry)) stack (now (cells .exit)) r ⌝ }
+    ensures { λ r. ⌜ Turn (pictureOf a w h (now (pixels .entry))) k (now (cells .entry)) stack (now (cells .exit)) r ⌝ }
 {
     let x = wide(stack.top);
     let mut near = [0u16; 8];
@@ -77,8 +77,8 @@ fn spread(a: u32, w: u32, h: u32, pixels: &[u8], k: u8, cells: &mut [u16], stack
 
 // Visits the flat zone of the place x; answers whether it has a lower neighbour.
 fn flood(a: u32, w: u32, h: u32, pixels: &[u8], x: usize, cells: &mut [u16]) -> bool
-    requires { ⌜ Placed w h x × Sizes (now pixels) (now cells) × (length (now pixels) ≡ w * h) × Seed (picture a w h (now pixels)) x (now cells) ⌝ }
-    ensures { λ r. ⌜ Flooded (picture a w h (now (pixels .entry))) (getD (now (pixels .entry)) x 0) x (now (cells .entry)) (now (cells .exit)) r ⌝ }
+    requires { ⌜ Placed w h x × Sizes (now pixels) (now cells) × (length (now pixels) ≡ w * h) × Seed (pictureOf a w h (now pixels)) x (now cells) ⌝ }
+    ensures { λ r. ⌜ Flooded (pictureOf a w h (now (pixels .entry))) (getD (now (pixels .entry)) x 0) x (now (cells .entry)) (now (cells .exit)) r ⌝ }
 {
     let k = pixels[x];
     cells[x] = BOTTOM;
@@ -95,8 +95,8 @@ fn flood(a: u32, w: u32, h: u32, pixels: &[u8], x: usize, cells: &mut [u16]) -> 
 
 // The number of minima that begin up to the place x, if r begin before it.
 fn count_zone(a: u32, w: u32, h: u32, pixels: &[u8], x: usize, cells: &mut [u16], r: usize) -> usize
-    requires { ⌜ Counting (picture a w h (now pixels)) x r (now cells) × (x < w * h) ⌝ }
-    ensures { λ q. ⌜ Counting (picture a w h (now (pixels .entry))) (x + 1) q (now (cells .exit)) ⌝ }
+    requires { ⌜ Counting (pictureOf a w h (now pixels)) x r (now cells) × (x < w * h) ⌝ }
+    ensures { λ q. ⌜ Counting (pictureOf a w h (now (pixels .entry))) (x + 1) q (now (cells .exit)) ⌝ }
 {
     if cells[x] != NEW {
         return r;
@@ -109,8 +109,8 @@ fn count_zone(a: u32, w: u32, h: u32, pixels: &[u8], x: usize, cells: &mut [u16]
 
 // The number of minima of a picture.
 pub fn count_minima(a: u32, w: u32, h: u32, pixels: &[u8], cells: &mut [u16]) -> usize
-    requires { ⌜ (isPicture (picture a w h (now pixels)) ≡ true) × (length (now cells) ≡ w * h) ⌝ }
-    ensures { λ r. ⌜ r ≡ length (patches (picture a w h (now (pixels .entry)))) ⌝ }
+    requires { ⌜ (isPicture (pictureOf a w h (now pixels)) ≡ true) × (length (now cells) ≡ w * h) ⌝ }
+    ensures { λ r. ⌜ r ≡ length (patches (pictureOf a w h (now (pixels .entry)))) ⌝ }
 {
     let n = pixels.len();
     fill(cells, 0, n, NEW);

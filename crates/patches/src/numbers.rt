@@ -7,7 +7,7 @@ ghost use Prim.Native.Nat.{ℕ, _+_, _*_, _≤_, _<_};
 ghost use lib.ListN.{length, getD};
 ghost use Rattle.picture.specs.Pictures.{Picture};
 ghost use Rattle.picture.specs.Patches.{patchAt, lineCount};
-ghost use Rattle.patches.specs.Blocks.{picture};
+ghost use Rattle.tree.specs.Frame.{pictureOf};
 ghost use Rattle.patches.specs.Figures.{Tree, PatchMap};
 ghost use Rattle.patches.specs.Numbers.{Sizes, Mapped, Cleared, Mark, Marks, Number, Numbers, Leaves, patchIn};
 
@@ -96,8 +96,8 @@ pub fn patch_of(
     work: &mut [u16],
     cells: &mut [u16],
 ) -> u16
-    requires { ⌜ Tree (picture a w h (now pixels)) count (now work) × Sizes (w * h) (now work) (now cells) × (x < w * h) ⌝ }
-    ensures { λ r. ⌜ r ≡ patchAt (picture a w h (now (pixels .entry))) x ⌝ }
+    requires { ⌜ Tree (pictureOf a w h (now pixels)) count (now work) × Sizes (w * h) (now work) (now cells) × (x < w * h) ⌝ }
+    ensures { λ r. ⌜ r ≡ patchAt (pictureOf a w h (now (pixels .entry))) x ⌝ }
 {
     let n = w as usize * h as usize;
     number(n, count, work, cells);

@@ -4,7 +4,7 @@ use Prim.Native.Nat.{ℕ, _*_}
 use native.Mathlib.Omega.{arith}
 use lib.ListN.{length}
 use borrow.Author.Needs.{needs}
-use Rattle.patches.specs.Blocks.{picture}
+use Rattle.tree.specs.Frame.{pictureOf}
 use Rattle.patches.proofs.Figuring.{tree-mapped, tree-few, tree-pixels, numbered-mapped, numbered-size, patched-frame, figures-all}
 use Rattle.patches.proofs.figures.figures.Statement.{statement}
 use Rattle.patches.proofs.figures.figures.Tie as tie
@@ -15,13 +15,13 @@ mul-n c = search needs
 number-requires : tie.Need-number-requires
 number-requires c κs =
     let s = c .before .before .before .before .before in
-    let p = picture (s .args .a) (s .args .w) (s .args .h) (s .args .pixels .now) in
+    let p = pictureOf (s .args .a) (s .args .w) (s .args .h) (s .args .pixels .now) in
     (s .pre .1, tree-mapped p _ _ (s .pre .0), tree-few p _ _ (s .pre .0))
 
 map-patches-requires : tie.Need-map-patches-requires
 map-patches-requires c κs =
     let s = c .before .before .before .before .before .before .before .before .before .before .before .before in
-    let p = picture (s .args .a) (s .args .w) (s .args .h) (s .args .pixels .now) in
+    let p = pictureOf (s .args .a) (s .args .w) (s .args .h) (s .args .pixels .now) in
     let l = c .before .before .before .before .before .before .number .ensures in (
       record {
         few = s .pre .1 .few;
@@ -41,7 +41,7 @@ level-requires c κs = search needs
 put-patches-requires : tie.Need-put-patches-requires
 put-patches-requires c κs =
     let s = c .before .before .before .before .before .before .before .before .before .before .before .before .before .before .before .before .before .before .before in
-    let p = picture (s .args .a) (s .args .w) (s .args .h) (s .args .pixels .now) in
+    let p = pictureOf (s .args .a) (s .args .w) (s .args .h) (s .args .pixels .now) in
     let l = c .before .before .before .before .before .before .before .before .before .before .before .before .before .number .ensures in (
       record {
         few = s .pre .1 .few;
@@ -55,7 +55,7 @@ put-patches-requires c κs =
 put-sums-requires : tie.Need-put-sums-requires
 put-sums-requires c κs =
     let s = c .before .before .before .before .before .before .before .before .before .before .before .before .before .before .before .before .before .before .before .before .before .before .before .before in
-    let p = picture (s .args .a) (s .args .w) (s .args .h) (s .args .pixels .now) in
+    let p = pictureOf (s .args .a) (s .args .w) (s .args .h) (s .args .pixels .now) in
     let l = c .before .before .before .before .before .before .before .before .before .before .before .before .before .before .before .before .before .before .number .ensures in
     patched-frame p _ _ (s .pre .0) _ _ l _ (let z = s .pre .1 .beside in search needs) (c .before .before .before .before .before .before .before .before .before .before .before .map-patches .ensures) _
     (c .before .before .before .before .put-patches .ensures .kept .size ∙ (numbered-size p _ _ (s .pre .0) _ _ l ∙ s .pre .1 .blocks))
@@ -69,7 +69,7 @@ same-length-2 c = search needs
 returns : tie.Need-returns
 returns c =
     let s = c .before .before .before .before .before .before .before .before .before .before .before .before .before .before .before .before .before .before .before .before .before .before .before .before .before .before .before in
-    let p = picture (s .args .a) (s .args .w) (s .args .h) (s .args .pixels .now) in
+    let p = pictureOf (s .args .a) (s .args .w) (s .args .h) (s .args .pixels .now) in
     let l = c .before .before .before .before .before .before .before .before .before .before .before .before .before .before .before .before .before .before .before .before .before .number .ensures in
     figures-all p _ _ (s .pre .0) _ _ l _ (let z = s .pre .1 .beside in search needs) (c .before .before .before .before .before .before .before .before .before .before .before .before .before .before .map-patches .ensures) _ _ _ _
     (c .before .before .before .before .before .before .before .before .before .before .level .ensures ∙ c .before .before .before .before .before .before .before .before .before .before .before .largest .ensures)

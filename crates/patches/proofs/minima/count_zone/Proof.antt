@@ -1,7 +1,7 @@
 -- `patches::minima::count_zone` meets its contract: each return is one law of the count.
 use native.Mathlib.Omega.{arith}
 use borrow.Author.Needs.{needs}
-use Rattle.patches.specs.Blocks.{picture}
+use Rattle.tree.specs.Frame.{pictureOf}
 use Rattle.patches.proofs.Floods.{counting-few, counting-pixels, counting-placed, counting-sizes, counting-seed, counting-seen, counting-lower, counting-minimum}
 use Rattle.patches.proofs.minima.count_zone.Statement.{statement}
 use Rattle.patches.proofs.minima.count_zone.Tie as tie
@@ -18,7 +18,7 @@ returns c = let s = c .before .before .before .before in counting-seen _ _ _ _ (
 flood-requires : tie.Need-flood-requires
 flood-requires c κs =
     let s = c .before .before .before .before .before in
-    let p = picture (s .args .a) (s .args .w) (s .args .h) (s .args .pixels .now) in (
+    let p = pictureOf (s .args .a) (s .args .w) (s .args .h) (s .args .pixels .now) in (
       counting-placed p _ _ _ (s .pre .0) (s .pre .1),
       counting-sizes p _ _ _ (s .pre .0) (s .pre .1),
       counting-pixels p _ _ _ (s .pre .0) (s .pre .1),
@@ -31,13 +31,13 @@ same-length c = search needs
 returns-2 : tie.Need-returns-2
 returns-2 c =
     let s = c .before .before .before .before .before .before .before .before .before in
-    let p = picture (s .args .a) (s .args .w) (s .args .h) (s .args .pixels .now) in
+    let p = pictureOf (s .args .a) (s .args .w) (s .args .h) (s .args .pixels .now) in
     counting-lower p _ _ _ (s .pre .0) (s .pre .1) (c .before .before .before .before .before .if1 .left) _ _ (c .before .before .before .flood .ensures) (search needs) (c .if2 .taken)
 
 add-result : tie.Need-add-result
 add-result c =
     let s = c .before .before .before .before .before .before .before .before .before in
-    let p = picture (s .args .a) (s .args .w) (s .args .h) (s .args .pixels .now) in
+    let p = pictureOf (s .args .a) (s .args .w) (s .args .h) (s .args .pixels .now) in
     omega (arith, counting-few p _ _ _ (s .pre .0) (s .pre .1))
 
 same-length-2 : tie.Need-same-length-2
@@ -46,7 +46,7 @@ same-length-2 c = search needs
 returns-3 : tie.Need-returns-3
 returns-3 c =
     let s = c .before .before .before .before .before .before .before .before .before in
-    let p = picture (s .args .a) (s .args .w) (s .args .h) (s .args .pixels .now) in
+    let p = pictureOf (s .args .a) (s .args .w) (s .args .h) (s .args .pixels .now) in
     counting-minimum p _ _ _ (s .pre .0) (s .pre .1) (c .before .before .before .before .before .if1 .left) _ _ (c .before .before .before .flood .ensures) (search needs) (c .if2 .left)
 
 pub count-zone-spec : {M : Type 1} → statement M

@@ -5,13 +5,13 @@ use native.Mathlib.Omega.{arith}
 use lib.ListN.{set}
 use borrow.Author.Needs.{needs}
 use Rattle.topology.proofs.ZoneScan.{unvisited}
-use Rattle.patches.specs.Blocks.{picture}
+use Rattle.tree.specs.Frame.{pictureOf}
 use Rattle.patches.proofs.Floods.{Running, running-start, running-top, running-turn, running-end}
 use Rattle.patches.proofs.minima.flood.Statement.{statement}
 use Rattle.patches.proofs.minima.flood.Tie as tie
 
 abbrev Inv-loop : tie.InvT-loop
-Inv-loop a w h pixels x cells₀ k s₀ cells s = Running (picture a w h pixels) k x (set cells₀ x 65535) cells s
+Inv-loop a w h pixels x cells₀ k s₀ cells s = Running (pictureOf a w h pixels) k x (set cells₀ x 65535) cells s
 
 abbrev μ-loop : tie.MeasureT-loop
 μ-loop a w h pixels x cells₀ k s₀ cells s = 2 * unvisited cells + s .height
@@ -39,13 +39,13 @@ cast-t13 c =
 loop-holds : tie.Need-loop-holds Inv-loop μ-loop
 loop-holds c =
     let s = c .before .before .before in
-    let p = picture (s .args .a) (s .args .w) (s .args .h) (s .args .pixels .now) in
+    let p = pictureOf (s .args .a) (s .args .w) (s .args .h) (s .args .pixels .now) in
     running-start p _ _ (s .pre .1) (s .pre .2) (s .pre .0 .inside) (s .pre .3)
 
 spread-requires : tie.Need-spread-requires Inv-loop μ-loop
 spread-requires c κs =
     let s = c .before .before .before .before .before .before .before in
-    let p = picture (s .args .a) (s .args .w) (s .args .h) (s .args .pixels .now) in
+    let p = pictureOf (s .args .a) (s .args .w) (s .args .h) (s .args .pixels .now) in
     let top = running-top p _ _ _ _ _ (c .before .before .before .loop .inv) (c .before .if1 .taken) in
     let a = s .pre .0 in (
       record { some = a .some; wide = a .wide; high = a .high; inside = top .0 },
@@ -65,7 +65,7 @@ loop-less c =
 loop-again : tie.Need-loop-again Inv-loop μ-loop
 loop-again c =
     let s = c .before .before .before .before .before .before .before .before .before .before in
-    let p = picture (s .args .a) (s .args .w) (s .args .h) (s .args .pixels .now) in
+    let p = pictureOf (s .args .a) (s .args .w) (s .args .h) (s .args .pixels .now) in
     running-turn p _ _ _ _ _ (c .before .before .before .before .before .before .loop .inv) _ _ (c .before .before .before .before .if1 .taken) (c .before .before .spread .ensures)
 
 same-length : tie.Need-same-length Inv-loop μ-loop
@@ -74,7 +74,7 @@ same-length c = search needs
 returns : tie.Need-returns Inv-loop μ-loop
 returns c =
     let s = c .before .before .before .before .before .before in
-    let p = picture (s .args .a) (s .args .w) (s .args .h) (s .args .pixels .now) in
+    let p = pictureOf (s .args .a) (s .args .w) (s .args .h) (s .args .pixels .now) in
     running-end p _ _ _ _ (s .pre .3) (s .pre .0 .inside) (omega arith) (c .before .before .loop .inv)
 
 pub flood-spec : {M : Type 1} → statement M

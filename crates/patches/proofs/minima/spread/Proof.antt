@@ -7,7 +7,7 @@ use borrow.Author.Needs.{needs}
 use Rattle.picture.specs.Pictures.{Picture, places}
 use Rattle.picture.specs.Geometry.{neighboursOf, Placed}
 use Rattle.picture.proofs.Neighbours.{neighbour-at}
-use Rattle.patches.specs.Blocks.{picture}
+use Rattle.tree.specs.Frame.{pictureOf}
 use Rattle.patches.specs.Minima.{Spread}
 use Rattle.patches.proofs.Floods.{listed-at, spread-none, spread-next, spread-room, spread-turn}
 use Rattle.patches.proofs.minima.spread.Statement.{statement}
@@ -16,7 +16,7 @@ use Rattle.patches.proofs.minima.spread.Tie as tie
 abbrev Inv-loop : tie.InvT-loop
 Inv-loop a w h pixels k cells₀ x near count s₀ i₀ cells s i =
     (i ≤ count) ×
-    Spread (picture a w h pixels) k x (neighboursOf a w h x) (drop i (neighboursOf a w h x)) cells₀ s₀ cells s
+    Spread (pictureOf a w h pixels) k x (neighboursOf a w h x) (drop i (neighboursOf a w h x)) cells₀ s₀ cells s
 
 abbrev μ-loop : tie.MeasureT-loop
 μ-loop a w h pixels k cells₀ x near count s₀ i₀ cells s i = count - i
@@ -74,7 +74,7 @@ wide-requires-2 c κs = search needs
 visit-requires : tie.Need-visit-requires Inv-loop μ-loop
 visit-requires c κs =
     let s = c .before .before .before .before .before .before .before .before .before .before .before .before in
-    let p = picture (s .args .a) (s .args .w) (s .args .h) (s .args .pixels .now) in
+    let p = pictureOf (s .args .a) (s .args .w) (s .args .h) (s .args .pixels .now) in
     let n = c .before .before .before .before .before .before .before .neighbours .ensures .count in
     let e = s .pre .2 in (
       spread-room p _ _ _ _ _ _ _ _ _ _ (s .pre .1) (c .before .before .before .loop .inv .1),
@@ -90,7 +90,7 @@ loop-less c = search needs
 loop-again : tie.Need-loop-again Inv-loop μ-loop
 loop-again c =
     let s = c .before .before .before .before .before .before .before .before .before .before .before .before .before .before .before in
-    let p = picture (s .args .a) (s .args .w) (s .args .h) (s .args .pixels .now) in
+    let p = pictureOf (s .args .a) (s .args .w) (s .args .h) (s .args .pixels .now) in
     let n = c .before .before .before .before .before .before .before .before .before .before .neighbours .ensures .count in (
       search needs,
       spread-next p _ _ (c .before .before .before .before .before .before .loop .i) _ _ _ _ _ _ _ (omega arith) (near-is (c .before .before .before .before)) (c .before .before .before .before .before .before .loop .inv .1) (c .before .before .visit .ensures),
@@ -102,7 +102,7 @@ same-length c = search needs
 returns : tie.Need-returns Inv-loop μ-loop
 returns c =
     let s = c .before .before .before .before .before .before .before .before .before .before in
-    let p = picture (s .args .a) (s .args .w) (s .args .h) (s .args .pixels .now) in
+    let p = pictureOf (s .args .a) (s .args .w) (s .args .h) (s .args .pixels .now) in
     let n = c .before .before .before .before .before .neighbours .ensures .count in
     spread-turn p _ _ _ (s .args .stack) _ _ (c .before .loop .i) (s .pre .0 .some) (c .before .before .before .before .before .before .before .wide .ensures) (s .pre .3) (omega arith) (c .before .loop .inv .1)
 
