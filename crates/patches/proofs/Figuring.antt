@@ -1,5 +1,6 @@
 -- The laws of the sums in three blocks, and of all figures together.
 use mathlib.Core.Path.{_≡_, refl, sym, ap, subst, _∙_}
+use mathlib.Core.Bool.{true}
 use mathlib.Core.Logic.{_⊎_, inl, inr, ⊎-elim}
 use mathlib.Core.List.{List}
 use Prim.Native.Nat.{ℕ, suc, _+_, _*_, _≤_, _<_}
@@ -9,9 +10,10 @@ use native.Mathlib.Omega.{arith}
 use lib.Dec.{eqb}
 use lib.ListN.{length, getD}
 use Rattle.picture.specs.Lists.{tally, range, highest}
-use Rattle.picture.specs.Pictures.{Picture, places}
+use Rattle.picture.specs.Pictures.{Picture, places, isPicture}
 use Rattle.picture.specs.Patches.{patches, patchAt, lineCount}
 use Rattle.tree.specs.Arrays.{row, TreeIn}
+use Rattle.tree.specs.Built.{Built}
 use Rattle.topology.proofs.Lists.{tally-same, range-mem}
 use Rattle.topology.proofs.Accepted.{Accepted, accepted-is, places-bound}
 use Rattle.topology.proofs.Nodes.{nodes-few}
@@ -19,7 +21,7 @@ use Rattle.topology.proofs.Leaves.{bottom}
 use Rattle.topology.proofs.PatchFigures.{patches-count}
 use Rattle.topology.proofs.PatchSums.{sumAt, count-few, patch-most, patch-number, patch-size, patch-columns, patch-rows}
 use Rattle.patches.specs.Blocks.{Kept, Filled}
-use Rattle.patches.specs.Numbers.{Mapped, Leaves, patchIn}
+use Rattle.patches.specs.Numbers.{Sizes, Mapped, Leaves, patchIn}
 use Rattle.patches.specs.declared.sums.Figure.the-variants.{Size, Columns, Rows}
 use Rattle.patches.specs.Sums.{figureOf, Summing, Summed}
 use Rattle.patches.specs.Figures.{Tree, noPatch, Charted, Patched, Frame, Sums, Figures, PatchMap}
@@ -157,6 +159,14 @@ module _ (p : Picture) (count : ℕ) (work : List ℕ) (t : Tree p count work) w
             height = λ i h. s .kept .outside (4 * places p + i) (inr (omega arith)) ∙ g .height i h;
             map = same;
           }
+
+-- what the builder leaves
+module _ (p : Picture) (r : ℕ) (work after cells left : List ℕ) (h : isPicture p ≡ true) (z : Sizes (places p) work cells) (b : Built p r work after cells left) where
+  pub built-tree : Tree p r after
+  built-tree = record { accepted = h; number = b .count; tree = b .tree }
+
+  pub built-sizes : Sizes (places p) after left
+  built-sizes = record { few = z .few; blocks = b .room ∙ z .blocks; beside = b .size ∙ z .beside }
 
 -- the places with no patch are those on the line
 pub line-count : (p : Picture) (cells : List ℕ) (r : ℕ) → r ≡ onLine cells (length cells) → PatchMap p cells → r ≡ lineCount p
