@@ -8,14 +8,14 @@ use native.Mathlib.Omega.{arith}
 use lib.ListN.{length, getD, set, length-set}
 use Rattle.picture.specs.Pictures.{Picture, places, valueAt}
 use Rattle.picture.specs.Geometry.{neighboursIn}
-use Rattle.picture.specs.Trees.{nodes}
+use Rattle.picture.specs.Trees.{nodes, nodeAt, fatherOf, mapOf}
 use Rattle.picture.proofs.Neighbours.{neighbour-at, neighbour-index}
 use Rattle.topology.proofs.Connected.{conn-source, conn-target, conn-trans, conn-edge}
 use Rattle.topology.proofs.Adjacency.{Adj, At, Joined, adj-sym, joined-sym}
 use Rattle.topology.proofs.Accepted.{Accepted, byte-at, places-bound}
 use Rattle.topology.proofs.Nodes.{nodes-few}
 use Rattle.topology.proofs.Beneath.{Low, beneath-number}
-use Rattle.topology.proofs.Levels.{put, relink, relink-moved, relink-kept, State, nothing, single, several, Level, Upto, Edges, edges-lower, Merged, linked}
+use Rattle.topology.proofs.Levels.{put, relink, relink-moved, relink-kept, State, nothing, single, several, Level, Upto, Edges, edges-lower, Merged, met, met-number, linked}
 use Rattle.topology.proofs.Numbering.{soFar}
 use Rattle.topology.proofs.Forests.{Forest, Found, root-cell, forest-link}
 use Rattle.topology.proofs.Marks.{Names}
@@ -182,88 +182,115 @@ module _ (p : Picture) (ok : Accepted p) (k x : ℕ) where
             seen = seen-next (n .root) (λ a b h. h) y e (λ h. f .is (n .root) (n .st) (n .forest) ∙ (g ∙ sym (n .is)));
           }
 
-      -- the two roots are linked
-      near-linked :
-          (lo hi s : ℕ) (m : List ℕ) (fb : ℕ → ℕ) → ((n .root x ≡ lo) × (n .root y ≡ hi)) ⊎ ((n .root x ≡ hi) × (n .root y ≡ lo)) → lo < hi → 2048 ≤ s →
-          length m ≡ length l → Forest m (n .root) (n .st) → Merged x (getD m lo 0) (getD m hi 0) s fa fb → Edge p x j y →
-          Near p k x (suc j) lo (set (set m hi lo) lo s) fb
-      near-linked lo hi s m fb ends less big size forest merged e =
-          record {
-            root = relink (n .root) lo hi;
-            st = put (n .st) lo s;
-            size = length-set (set m hi lo) lo s ∙ (length-set m hi lo ∙ (size ∙ n .size));
-            low = n .low;
-            forest = forest-link m lo hi s (n .root) (n .st) forest less hi-in small lo-root hi-root big;
-            level =
-                linked p ok k (n .low) (soFar p k) x lo hi s (n .root) (n .st) fa fb (n .level)
-                (edges-lower p k x (n .root) (let h = n .low in omega arith) (n .edges))
-                less lo-root hi-root (both .0) (both .1) (n .value)
-                (subst (λ (a : ℕ). Merged x a (n .st hi) s fa fb) (lo-state)
-                (subst (λ (a : ℕ). Merged x (getD m lo 0) a s fa fb) (hi-state) merged));
-            edges = record { same = λ a b c d g. same-class a b (n .edges .same a b c d g) };
-            within = n .within;
-            value = n .value;
-            is = x-now;
-            seen = seen-next (relink (n .root) lo hi) same-class y e (λ h. y-now ∙ sym x-now);
-          }
-        where
-          both : Joined p k lo hi × Joined p k x lo
-          both =
-              ⊎-elim
-              (λ h. (
-                subst (λ (b : ℕ). Joined p k lo b) (h .1) (subst (λ (a : ℕ). Joined p k a (n .root y)) (h .0) joined-roots),
-                subst (λ (a : ℕ). Joined p k x a) (h .0) (n .level .own x at-x),
-              ))
-              (λ h.
-              let c : Joined p k lo hi =
-              subst (λ (b : ℕ). Joined p k lo b) (h .0) (subst (λ (a : ℕ). Joined p k a (n .root x)) (h .1) (joined-sym p k joined-roots))
-              in
-              (c, conn-trans (subst (λ (a : ℕ). Joined p k x a) (h .0) (n .level .own x at-x)) (joined-sym p k c)))
-              ends
+      -- the two roots, the smaller first
+      module _ (lo hi : ℕ) (m : List ℕ) (ends : ((n .root x ≡ lo) × (n .root y ≡ hi)) ⊎ ((n .root x ≡ hi) × (n .root y ≡ lo))) (less : lo < hi)
+          (size : length m ≡ length l) (forest : Forest m (n .root) (n .st)) where
+        both : Joined p k lo hi × Joined p k x lo
+        both =
+            ⊎-elim
+            (λ h. (
+              subst (λ (b : ℕ). Joined p k lo b) (h .1) (subst (λ (a : ℕ). Joined p k a (n .root y)) (h .0) joined-roots),
+              subst (λ (a : ℕ). Joined p k x a) (h .0) (n .level .own x at-x),
+            ))
+            (λ h.
+            let c : Joined p k lo hi =
+            subst (λ (b : ℕ). Joined p k lo b) (h .0) (subst (λ (a : ℕ). Joined p k a (n .root x)) (h .1) (joined-sym p k joined-roots))
+            in
+            (c, conn-trans (subst (λ (a : ℕ). Joined p k x a) (h .0) (n .level .own x at-x)) (joined-sym p k c)))
+            ends
 
-          lo-root : n .root lo ≡ lo
-          lo-root =
-              ⊎-elim
-              (λ h. subst (λ (a : ℕ). n .root a ≡ a) (h .0) (root-x .0))
-              (λ h. subst (λ (a : ℕ). n .root a ≡ a) (h .1) (root-y .0))
-              ends
+        lo-root : n .root lo ≡ lo
+        lo-root =
+            ⊎-elim
+            (λ h. subst (λ (a : ℕ). n .root a ≡ a) (h .0) (root-x .0))
+            (λ h. subst (λ (a : ℕ). n .root a ≡ a) (h .1) (root-y .0))
+            ends
 
-          hi-root : n .root hi ≡ hi
-          hi-root =
-              ⊎-elim
-              (λ h. subst (λ (a : ℕ). n .root a ≡ a) (h .1) (root-y .0))
-              (λ h. subst (λ (a : ℕ). n .root a ≡ a) (h .0) (root-x .0))
-              ends
+        hi-root : n .root hi ≡ hi
+        hi-root =
+            ⊎-elim
+            (λ h. subst (λ (a : ℕ). n .root a ≡ a) (h .1) (root-y .0))
+            (λ h. subst (λ (a : ℕ). n .root a ≡ a) (h .0) (root-x .0))
+            ends
 
-          hi-in : hi < length m
-          hi-in = let b = conn-target (both .0) .within in let g = n .size in omega (arith, b, g, size)
+        hi-in : hi < length m
+        hi-in = let b = conn-target (both .0) .within in let g = n .size in omega (arith, b, g, size)
 
-          small : lo < 2048
-          small = let b = conn-source (both .0) .within in let g = places-bound p ok in omega arith
+        small : lo < 2048
+        small = let b = conn-source (both .0) .within in let g = places-bound p ok in omega arith
 
-          lo-state : getD m lo 0 ≡ n .st lo
-          lo-state = forest .state lo (omega (arith, hi-in, less)) (root-cell forest lo (omega (arith, hi-in, less)) lo-root)
+        lo-state : getD m lo 0 ≡ n .st lo
+        lo-state = forest .state lo (omega (arith, hi-in, less)) (root-cell forest lo (omega (arith, hi-in, less)) lo-root)
 
-          hi-state : getD m hi 0 ≡ n .st hi
-          hi-state = forest .state hi hi-in (root-cell forest hi hi-in hi-root)
+        hi-state : getD m hi 0 ≡ n .st hi
+        hi-state = forest .state hi hi-in (root-cell forest hi hi-in hi-root)
 
-          same-class : (a b : ℕ) → n .root a ≡ n .root b → relink (n .root) lo hi a ≡ relink (n .root) lo hi b
-          same-class a b q =
-              by-cases (ℕ-discrete (n .root b) hi)
-              (λ g. relink-moved (n .root) lo hi a (q ∙ g) ∙ sym (relink-moved (n .root) lo hi b g))
-              (λ d. relink-kept (n .root) lo hi a (λ g. d (sym q ∙ g)) ∙ (q ∙ sym (relink-kept (n .root) lo hi b d)))
+        same-class : (a b : ℕ) → n .root a ≡ n .root b → relink (n .root) lo hi a ≡ relink (n .root) lo hi b
+        same-class a b q =
+            by-cases (ℕ-discrete (n .root b) hi)
+            (λ g. relink-moved (n .root) lo hi a (q ∙ g) ∙ sym (relink-moved (n .root) lo hi b g))
+            (λ d. relink-kept (n .root) lo hi a (λ g. d (sym q ∙ g)) ∙ (q ∙ sym (relink-kept (n .root) lo hi b d)))
 
-          x-now : relink (n .root) lo hi x ≡ lo
-          x-now = ⊎-elim (λ h. relink-kept (n .root) lo hi x (λ q. let g = h .0 in omega arith) ∙ h .0) (λ h. relink-moved (n .root) lo hi x (h .0)) ends
+        x-now : relink (n .root) lo hi x ≡ lo
+        x-now = ⊎-elim (λ h. relink-kept (n .root) lo hi x (λ q. let g = h .0 in omega arith) ∙ h .0) (λ h. relink-moved (n .root) lo hi x (h .0)) ends
 
-          y-now : relink (n .root) lo hi y ≡ lo
-          y-now = ⊎-elim (λ h. relink-moved (n .root) lo hi y (h .1)) (λ h. relink-kept (n .root) lo hi y (λ q. let g = h .1 in omega arith) ∙ h .1) ends
+        y-now : relink (n .root) lo hi y ≡ lo
+        y-now = ⊎-elim (λ h. relink-moved (n .root) lo hi y (h .1)) (λ h. relink-kept (n .root) lo hi y (λ q. let g = h .1 in omega arith) ∙ h .1) ends
+
+        -- the father of a node that one of the two roots says
+        near-met :
+            (i : ℕ) → i < 1600 → getD m lo 0 ≢ 65535 → getD m hi 0 ≢ 65535 → (getD m lo 0 ≡ 2048 + i) ⊎ (getD m hi 0 ≡ 2048 + i) →
+            (i < length (nodes p)) × (fatherOf p (nodeAt p i) ≡ mapOf p x)
+        near-met i b da db e =
+            let g : (n .st lo ≡ 2048 + i) ⊎ (n .st hi ≡ 2048 + i) = ⊎-elim (λ q. inl (sym lo-state ∙ q)) (λ q. inr (sym hi-state ∙ q)) e in
+            let lower = edges-lower p k x (n .root) (let h = n .low in omega arith) (n .edges) in (
+              met-number p ok k (n .low) (soFar p k) x lo hi (n .root) (n .st) fa (n .level) lower less lo-root hi-root (both .0) (both .1) (n .value) i b g,
+              met p ok k (n .low) (soFar p k) x lo hi (n .root) (n .st) fa (n .level) lower less lo-root hi-root (both .0) (both .1) (n .value) i b
+                  (λ q. da (lo-state ∙ q)) (λ q. db (hi-state ∙ q)) g,
+            )
+
+        -- the two roots are linked
+        near-linked :
+            (s : ℕ) (fb : ℕ → ℕ) → 2048 ≤ s → Merged x (getD m lo 0) (getD m hi 0) s fa fb → Edge p x j y →
+            Near p k x (suc j) lo (set (set m hi lo) lo s) fb
+        near-linked s fb big merged e =
+            record {
+              root = relink (n .root) lo hi;
+              st = put (n .st) lo s;
+              size = length-set (set m hi lo) lo s ∙ (length-set m hi lo ∙ (size ∙ n .size));
+              low = n .low;
+              forest = forest-link m lo hi s (n .root) (n .st) forest less hi-in small lo-root hi-root big;
+              level =
+                  linked p ok k (n .low) (soFar p k) x lo hi (n .root) (n .st) fa (n .level)
+                  (edges-lower p k x (n .root) (let h = n .low in omega arith) (n .edges))
+                  less lo-root hi-root (both .0) (both .1) (n .value) s fb
+                  (subst (λ (a : ℕ). Merged x a (n .st hi) s fa fb) lo-state
+                  (subst (λ (a : ℕ). Merged x (getD m lo 0) a s fa fb) hi-state merged));
+              edges = record { same = λ a b c d g. same-class a b (n .edges .same a b c d g) };
+              within = n .within;
+              value = n .value;
+              is = x-now;
+              seen = seen-next (relink (n .root) lo hi) same-class y e (λ h. y-now ∙ sym x-now);
+            }
 
       module _ (m : List ℕ) (q s : ℕ) (fb : ℕ → ℕ) (e : Edge p x j y) (f : Found l y q m) (big : 2048 ≤ s) where
         pub near-below : q < r → Merged x (getD m q 0) (getD m r 0) s fa fb → Near p k x (suc j) q (set (set m r q) q s) fb
         near-below h g =
-            near-linked q r s m fb (inr (n .is, f .is (n .root) (n .st) (n .forest))) h big (f .size) (f .keeps (n .root) (n .st) (n .forest)) g e
+            near-linked q r m (inr (n .is, f .is (n .root) (n .st) (n .forest))) h (f .size) (f .keeps (n .root) (n .st) (n .forest)) s fb big g e
 
         pub near-above : r < q → Merged x (getD m r 0) (getD m q 0) s fa fb → Near p k x (suc j) r (set (set m q r) r s) fb
         near-above h g =
-            near-linked r q s m fb (inl (n .is, f .is (n .root) (n .st) (n .forest))) h big (f .size) (f .keeps (n .root) (n .st) (n .forest)) g e
+            near-linked r q m (inl (n .is, f .is (n .root) (n .st) (n .forest))) h (f .size) (f .keeps (n .root) (n .st) (n .forest)) s fb big g e
+
+      module _ (m : List ℕ) (q : ℕ) (f : Found l y q m) where
+        pub met-below :
+            q < r → (i : ℕ) → i < 1600 → getD m q 0 ≢ 65535 → getD m r 0 ≢ 65535 → (getD m q 0 ≡ 2048 + i) ⊎ (getD m r 0 ≡ 2048 + i) →
+            (i < length (nodes p)) × (fatherOf p (nodeAt p i) ≡ mapOf p x)
+        met-below h =
+            near-met q r m (inr (n .is, f .is (n .root) (n .st) (n .forest))) h (f .size) (f .keeps (n .root) (n .st) (n .forest))
+
+        pub met-above :
+            r < q → (i : ℕ) → i < 1600 → getD m r 0 ≢ 65535 → getD m q 0 ≢ 65535 → (getD m r 0 ≡ 2048 + i) ⊎ (getD m q 0 ≡ 2048 + i) →
+            (i < length (nodes p)) × (fatherOf p (nodeAt p i) ≡ mapOf p x)
+        met-above h =
+            near-met r q m (inl (n .is, f .is (n .root) (n .st) (n .forest))) h (f .size) (f .keeps (n .root) (n .st) (n .forest))

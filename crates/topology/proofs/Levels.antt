@@ -142,47 +142,9 @@ module _ (p : Picture) (ok : Accepted p) (k : ℕ) (low : k ≤ 255) where
   state-named b h (single z l r e f) = (z, l, r, omega arith)
   state-named b h (several z w e l m r q g) = absurd (omega arith)
 
-  module _ (c x lo hi s : ℕ) (root st fa fb : ℕ → ℕ) (v : Level p k c root st fa)
+  module _ (c x lo hi : ℕ) (root st fa : ℕ → ℕ) (v : Level p k c root st fa)
       (lower : (z w : ℕ) → Low p k z → Low p k w → beneath p k z ≡ beneath p k w → root z ≡ root w)
-      (less : lo < hi) (at-lo : root lo ≡ lo) (at-hi : root hi ≡ hi) (joins : Joined p k lo hi) (near : Joined p k x lo) (value : valueAt p x ≡ k)
-      (merged : Merged x (st lo) (st hi) s fa fb) where
-    new : ℕ → ℕ
-    new = relink root lo hi
-
-    kept : ℕ → ℕ
-    kept = put st lo s
-
-    new-lo : (z : ℕ) → root z ≡ lo → new z ≡ lo
-    unfolding new
-    new-lo z e = relink-kept root lo hi z (λ q. let h : lo ≡ hi = sym e ∙ q in omega arith) ∙ e
-
-    new-hi : (z : ℕ) → root z ≡ hi → new z ≡ lo
-    unfolding new
-    new-hi z e = relink-moved root lo hi z e
-
-    new-other : (z : ℕ) → root z ≢ hi → new z ≡ root z
-    unfolding new
-    new-other z d = relink-kept root lo hi z d
-
-    kept-other : (y : ℕ) → y ≢ lo → kept y ≡ st y
-    unfolding kept
-    kept-other y d = put-other st lo s y d
-
-    kept-lo : (y : ℕ) → y ≡ lo → kept y ≡ s
-    unfolding kept
-    kept-lo y e = put-same st lo s y e
-
-    -- whose root is lo now
-    came : (z : ℕ) → new z ≡ lo → (root z ≡ lo) ⊎ (root z ≡ hi)
-    came z e = by-cases (ℕ-discrete (root z) hi) (λ q. inr q) (λ d. inl (sym (new-other z d) ∙ e))
-
-    -- a root now was one before, and not hi
-    was-root : (y : ℕ) → new y ≡ y → (root y ≡ y) × (y ≢ hi)
-    was-root y e =
-        by-cases (ℕ-discrete (root y) hi)
-        (λ q. absurd (let h : y ≡ lo = sym e ∙ new-hi y q in let g : lo ≡ hi = sym at-lo ∙ (ap root (sym h) ∙ q) in omega arith))
-        (λ d. let r = sym (new-other y d) ∙ e in (r, λ q. d (r ∙ q)))
-
+      (less : lo < hi) (at-lo : root lo ≡ lo) (at-hi : root hi ≡ hi) (joins : Joined p k lo hi) (near : Joined p k x lo) (value : valueAt p x ≡ k) where
     -- a lower place of each class: they go down to different nodes
     apart : (z w : ℕ) → Low p k z → Low p k w → root z ≡ lo → root w ≡ hi → beneath p k z ≢ beneath p k w
     apart z w l m a b e = let h : lo ≡ hi = sym a ∙ (lower z w l m e ∙ b) in omega arith
@@ -199,20 +161,8 @@ module _ (p : Picture) (ok : Accepted p) (k : ℕ) (low : k ≤ 255) where
     state-hi : State p k root hi (st hi)
     state-hi = v .state hi (conn-target joins) at-hi
 
-    state-merged : Merged x (st lo) (st hi) s fa fb → State p k new lo s
-    state-merged (left e q f) =
-        subst (State p k new lo) (sym q)
-        (state-joined (λ z l r. ⊎-elim (λ g. absurd (state-empty e state-lo z l g)) (λ g. g) (came z r)) new-hi state-hi)
-    state-merged (right e q f) =
-        subst (State p k new lo) (sym q)
-        (state-joined (λ z l r. ⊎-elim (λ g. g) (λ g. absurd (state-empty e state-hi z l g)) (came z r)) new-lo state-lo)
-    state-merged (both da db q f g) =
-        let (z, l, r) = member state-lo da in
-        let (w, m, t) = member state-hi db in
-        several z w q l m (new-lo z r) (new-hi w t) (apart z w l m r t)
-
     -- the father of a node that one of the two classes says
-    met : (i : ℕ) → i < 1600 → st lo ≢ 65535 → st hi ≢ 65535 → (st lo ≡ 2048 + i) ⊎ (st hi ≡ 2048 + i) → fatherOf p (nodeAt p i) ≡ mapOf p x
+    pub met : (i : ℕ) → i < 1600 → st lo ≢ 65535 → st hi ≢ 65535 → (st lo ≡ 2048 + i) ⊎ (st hi ≡ 2048 + i) → fatherOf p (nodeAt p i) ≡ mapOf p x
     met i b da db (inl e) =
         let (z, l, r, q) = state-named b e state-lo in
         let (w, m, t) = member state-hi db in
@@ -224,89 +174,145 @@ module _ (p : Picture) (ok : Accepted p) (k : ℕ) (low : k ≤ 255) where
         ap (λ (j : ℕ). fatherOf p (nodeAt p j)) (sym q) ∙
         fork-father p k x z w low value l m (own-joined z l (inr r)) (own-joined w m (inl t)) (λ g. apart w z m l t r (sym g))
 
-    -- an entry that stays
-    stays : (i : ℕ) → i < 1600 → fb i ≡ fa i → (st lo ≡ 2048 + i → s ≡ 2048 + i) → (st hi ≡ 2048 + i → s ≡ 2048 + i) → Father p k root st (fa i) i → Father p k new kept (fb i) i
-    stays i b e f g (known n h) = known (subst (λ (j : ℕ). j < places p) (sym e) n) (h ∙ ap (mapOf p) (sym e))
-    stays i b e f g (unmet z n l q h) =
-        unmet z (e ∙ n) l q
-        (by-cases (ℕ-discrete (root z) hi)
-        (λ t. kept-lo (new z) (new-hi z t) ∙ g (sym (ap st t) ∙ h))
-        (λ d.
-        by-cases (ℕ-discrete (root z) lo)
-        (λ t. kept-lo (new z) (new-lo z t) ∙ f (sym (ap st t) ∙ h))
-        (λ t. ap kept (new-other z d) ∙ (kept-other (root z) t ∙ h))))
+    pub met-number : (i : ℕ) → i < 1600 → (st lo ≡ 2048 + i) ⊎ (st hi ≡ 2048 + i) → i < length (nodes p)
+    met-number i b (inl e) =
+        let (z, l, r, q) = state-named b e state-lo in let h = beneath-number p k z (omega arith) l in omega arith
+    met-number i b (inr e) =
+        let (z, l, r, q) = state-named b e state-hi in let h = beneath-number p k z (omega arith) l in omega arith
 
-    father-merged : Merged x (st lo) (st hi) s fa fb → (i : ℕ) → i < 1600 → Father p k root st (fa i) i → Father p k new kept (fb i) i
-    father-merged (left e q f) i b h = stays i b (f i b) (λ g. absurd (omega arith)) (λ g. q ∙ g) h
-    father-merged (right e q f) i b h = stays i b (f i b) (λ g. q ∙ g) (λ g. absurd (omega arith)) h
-    father-merged (both da db q f g) i b h =
-        by-cases (ℕ-discrete (st lo) (2048 + i))
-        (λ e. hit (inl e))
-        (λ d.
-        by-cases (ℕ-discrete (st hi) (2048 + i))
-        (λ e. hit (inr e))
-        (λ t. stays i b (g i b d t) (λ w. absurd (d w)) (λ w. absurd (t w)) h))
-      where
-        hit : (st lo ≡ 2048 + i) ⊎ (st hi ≡ 2048 + i) → Father p k new kept (fb i) i
-        hit w =
-            let e = f i b w in
-            known (subst (λ (j : ℕ). j < places p) (sym e) (conn-source near .within)) (met i b da db w ∙ ap (mapOf p) (sym e))
+    module _ (s : ℕ) (fb : ℕ → ℕ) (merged : Merged x (st lo) (st hi) s fa fb) where
+      new : ℕ → ℕ
+      new = relink root lo hi
 
-    linked-new : Level p k c new kept fb
-    linked-new =
-        record {
-          own =
-              λ y t.
-              by-cases (ℕ-discrete (root y) hi)
-              (λ e.
-              subst (λ (z : ℕ). Joined p k y z) (sym (new-hi y e))
-              (conn-trans (subst (λ (z : ℕ). Joined p k y z) e (v .own y t)) (joined-sym p k joins)))
-              (λ d. subst (λ (z : ℕ). Joined p k y z) (sym (new-other y d)) (v .own y t));
-          fixed =
-              λ y b.
-              by-cases (ℕ-discrete (root y) hi)
-              (λ e. ap new (new-hi y e) ∙ (new-lo lo at-lo ∙ sym (new-hi y e)))
-              (λ d.
-              let r = v .fixed y b in
-              ap new (new-other y d) ∙ (new-other (root y) (λ e. d (sym r ∙ e)) ∙ (r ∙ sym (new-other y d))));
-          first =
-              λ y b.
-              let f = v .first y b in
-              by-cases (ℕ-discrete (root y) hi)
-              (λ e. let g = new-hi y e in omega arith)
-              (λ d. let g = new-other y d in omega arith);
-          later =
-              λ y b h.
-              let (r, q) = v .later y b h in
-              let dl : y ≢ lo = λ e. let g = conn-source joins .low in let i = ap (valueAt p) e in omega arith in
-              let dh : y ≢ hi = λ e. let g = conn-target joins .low in let i = ap (valueAt p) e in omega arith in
-              (new-other y (λ e. dh (sym r ∙ e)) ∙ r, kept-other y dl ∙ q);
-          state =
-              λ y t e.
-              let (r, d) = was-root y e in
-              by-cases (ℕ-discrete y lo)
-              (λ q.
-              subst (λ (z : ℕ). State p k new z (kept z)) (sym q)
-              (subst (State p k new lo) (sym (kept-lo lo refl)) (state-merged merged)))
-              (λ n.
-              subst (State p k new y) (sym (kept-other y n))
-              (state-same
-              (λ z g.
-              by-cases (ℕ-discrete (root z) hi)
-              (λ h. absurd (n (sym g ∙ new-hi z h)))
-              (λ h. sym (new-other z h) ∙ g))
-              (λ z g. new-other z (λ h. d (sym g ∙ h)) ∙ g)
-              (v .state y t r)));
-          fathers =
-              λ i b.
-              let few = v .few in
-              let a = nodes-few p in
-              let n = places-bound p ok in
-              father-merged merged i (omega arith) (v .fathers i b);
-          few = v .few;
-        }
+      kept : ℕ → ℕ
+      kept = put st lo s
 
-    -- linking two roots whose classes are joined keeps what the classes say
-    pub linked : Level p k c (relink root lo hi) (put st lo s) fb
-    unfolding new kept
-    linked = linked-new
+      new-lo : (z : ℕ) → root z ≡ lo → new z ≡ lo
+      unfolding new
+      new-lo z e = relink-kept root lo hi z (λ q. let h : lo ≡ hi = sym e ∙ q in omega arith) ∙ e
+
+      new-hi : (z : ℕ) → root z ≡ hi → new z ≡ lo
+      unfolding new
+      new-hi z e = relink-moved root lo hi z e
+
+      new-other : (z : ℕ) → root z ≢ hi → new z ≡ root z
+      unfolding new
+      new-other z d = relink-kept root lo hi z d
+
+      kept-other : (y : ℕ) → y ≢ lo → kept y ≡ st y
+      unfolding kept
+      kept-other y d = put-other st lo s y d
+
+      kept-lo : (y : ℕ) → y ≡ lo → kept y ≡ s
+      unfolding kept
+      kept-lo y e = put-same st lo s y e
+
+      -- whose root is lo now
+      came : (z : ℕ) → new z ≡ lo → (root z ≡ lo) ⊎ (root z ≡ hi)
+      came z e = by-cases (ℕ-discrete (root z) hi) (λ q. inr q) (λ d. inl (sym (new-other z d) ∙ e))
+
+      -- a root now was one before, and not hi
+      was-root : (y : ℕ) → new y ≡ y → (root y ≡ y) × (y ≢ hi)
+      was-root y e =
+          by-cases (ℕ-discrete (root y) hi)
+          (λ q. absurd (let h : y ≡ lo = sym e ∙ new-hi y q in let g : lo ≡ hi = sym at-lo ∙ (ap root (sym h) ∙ q) in omega arith))
+          (λ d. let r = sym (new-other y d) ∙ e in (r, λ q. d (r ∙ q)))
+
+      state-merged : Merged x (st lo) (st hi) s fa fb → State p k new lo s
+      state-merged (left e q f) =
+          subst (State p k new lo) (sym q)
+          (state-joined (λ z l r. ⊎-elim (λ g. absurd (state-empty e state-lo z l g)) (λ g. g) (came z r)) new-hi state-hi)
+      state-merged (right e q f) =
+          subst (State p k new lo) (sym q)
+          (state-joined (λ z l r. ⊎-elim (λ g. g) (λ g. absurd (state-empty e state-hi z l g)) (came z r)) new-lo state-lo)
+      state-merged (both da db q f g) =
+          let (z, l, r) = member state-lo da in
+          let (w, m, t) = member state-hi db in
+          several z w q l m (new-lo z r) (new-hi w t) (apart z w l m r t)
+
+      -- an entry that stays
+      stays : (i : ℕ) → i < 1600 → fb i ≡ fa i → (st lo ≡ 2048 + i → s ≡ 2048 + i) → (st hi ≡ 2048 + i → s ≡ 2048 + i) → Father p k root st (fa i) i → Father p k new kept (fb i) i
+      stays i b e f g (known n h) = known (subst (λ (j : ℕ). j < places p) (sym e) n) (h ∙ ap (mapOf p) (sym e))
+      stays i b e f g (unmet z n l q h) =
+          unmet z (e ∙ n) l q
+          (by-cases (ℕ-discrete (root z) hi)
+          (λ t. kept-lo (new z) (new-hi z t) ∙ g (sym (ap st t) ∙ h))
+          (λ d.
+          by-cases (ℕ-discrete (root z) lo)
+          (λ t. kept-lo (new z) (new-lo z t) ∙ f (sym (ap st t) ∙ h))
+          (λ t. ap kept (new-other z d) ∙ (kept-other (root z) t ∙ h))))
+
+      father-merged : Merged x (st lo) (st hi) s fa fb → (i : ℕ) → i < 1600 → Father p k root st (fa i) i → Father p k new kept (fb i) i
+      father-merged (left e q f) i b h = stays i b (f i b) (λ g. absurd (omega arith)) (λ g. q ∙ g) h
+      father-merged (right e q f) i b h = stays i b (f i b) (λ g. q ∙ g) (λ g. absurd (omega arith)) h
+      father-merged (both da db q f g) i b h =
+          by-cases (ℕ-discrete (st lo) (2048 + i))
+          (λ e. hit (inl e))
+          (λ d.
+          by-cases (ℕ-discrete (st hi) (2048 + i))
+          (λ e. hit (inr e))
+          (λ t. stays i b (g i b d t) (λ w. absurd (d w)) (λ w. absurd (t w)) h))
+        where
+          hit : (st lo ≡ 2048 + i) ⊎ (st hi ≡ 2048 + i) → Father p k new kept (fb i) i
+          hit w =
+              let e = f i b w in
+              known (subst (λ (j : ℕ). j < places p) (sym e) (conn-source near .within)) (met i b da db w ∙ ap (mapOf p) (sym e))
+
+      linked-new : Level p k c new kept fb
+      linked-new =
+          record {
+            own =
+                λ y t.
+                by-cases (ℕ-discrete (root y) hi)
+                (λ e.
+                subst (λ (z : ℕ). Joined p k y z) (sym (new-hi y e))
+                (conn-trans (subst (λ (z : ℕ). Joined p k y z) e (v .own y t)) (joined-sym p k joins)))
+                (λ d. subst (λ (z : ℕ). Joined p k y z) (sym (new-other y d)) (v .own y t));
+            fixed =
+                λ y b.
+                by-cases (ℕ-discrete (root y) hi)
+                (λ e. ap new (new-hi y e) ∙ (new-lo lo at-lo ∙ sym (new-hi y e)))
+                (λ d.
+                let r = v .fixed y b in
+                ap new (new-other y d) ∙ (new-other (root y) (λ e. d (sym r ∙ e)) ∙ (r ∙ sym (new-other y d))));
+            first =
+                λ y b.
+                let f = v .first y b in
+                by-cases (ℕ-discrete (root y) hi)
+                (λ e. let g = new-hi y e in omega arith)
+                (λ d. let g = new-other y d in omega arith);
+            later =
+                λ y b h.
+                let (r, q) = v .later y b h in
+                let dl : y ≢ lo = λ e. let g = conn-source joins .low in let i = ap (valueAt p) e in omega arith in
+                let dh : y ≢ hi = λ e. let g = conn-target joins .low in let i = ap (valueAt p) e in omega arith in
+                (new-other y (λ e. dh (sym r ∙ e)) ∙ r, kept-other y dl ∙ q);
+            state =
+                λ y t e.
+                let (r, d) = was-root y e in
+                by-cases (ℕ-discrete y lo)
+                (λ q.
+                subst (λ (z : ℕ). State p k new z (kept z)) (sym q)
+                (subst (State p k new lo) (sym (kept-lo lo refl)) (state-merged merged)))
+                (λ n.
+                subst (State p k new y) (sym (kept-other y n))
+                (state-same
+                (λ z g.
+                by-cases (ℕ-discrete (root z) hi)
+                (λ h. absurd (n (sym g ∙ new-hi z h)))
+                (λ h. sym (new-other z h) ∙ g))
+                (λ z g. new-other z (λ h. d (sym g ∙ h)) ∙ g)
+                (v .state y t r)));
+            fathers =
+                λ i b.
+                let few = v .few in
+                let a = nodes-few p in
+                let n = places-bound p ok in
+                father-merged merged i (omega arith) (v .fathers i b);
+            few = v .few;
+          }
+
+      -- linking two roots whose classes are joined keeps what the classes say
+      pub linked : Level p k c (relink root lo hi) (put st lo s) fb
+      unfolding new kept
+      linked = linked-new

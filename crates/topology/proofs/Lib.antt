@@ -38,6 +38,11 @@ pub mod Stopping
 pub mod Running
 pub mod Turns
 pub mod Lending
+pub mod Zones
+pub mod ZoneScan
+pub mod LeafNodes
+pub mod PatchesKept
+pub mod PatchSums
 pub mod Beneath
 pub mod Levels
 pub mod Numbering
@@ -52,3 +57,4 @@ pub mod Naming
 pub mod Mapped
 pub mod Buckets
 pub mod Settling
+pub mod Checks

@@ -1,0 +1,202 @@
+-- The laws of the figures in their blocks: depths and heights by first place, sums by number, and all of them together.
+use mathlib.Core.Path.{_≡_, refl, sym, ap, subst, _∙_}
+use mathlib.Core.Bool.{Bool, true, false}
+use mathlib.Core.Logic.{_⊎_, inl, inr, ⊎-elim, _≢_, by-cases}
+use mathlib.Core.List.{List, [], _∷_}
+use Prim.Native.Nat.{ℕ, suc, _+_, _-_, _*_, _≤_, _<_}
+use native.Mathlib.Decide.{ℕ-discrete}
+use native.Mathlib.Numerals.{add-one}
+use native.Mathlib.Omega.{arith}
+use lib.Dec.{leb}
+use lib.ListN.{length, getD, set, drop, length-set}
+use lib.Seq.{getD-set-same, getD-set-other, drop-cons}
+use borrow.Author.Tests.{le-leb, lt-leb}
+use Rattle.picture.specs.Lists.{pick, tally, range, highest}
+use Rattle.picture.specs.Pictures.{Picture, places, valueAt, isPicture}
+use Rattle.picture.specs.Trees.{nodes, mapOf}
+use Rattle.picture.specs.Patches.{patches, patchAt}
+use Rattle.tree.specs.Arrays.{row, TreeIn}
+use Rattle.topology.proofs.Tests.{test-false}
+use Rattle.topology.proofs.Accepted.{Accepted, accepted-is, places-bound}
+use Rattle.topology.proofs.Fathers.{map-found}
+use Rattle.topology.proofs.Nodes.{nodes-few}
+use Rattle.topology.proofs.Positions.{tally-next-in, tally-next-out}
+use Rattle.topology.proofs.Leaves.{bottom}
+use Rattle.topology.proofs.PatchFigures.{patches-count, bottom-number}
+use Rattle.topology.proofs.PatchSums.{next-bottom, count-few, patch-most, patch-height, patch-depth, patch-size, patch-columns, patch-rows}
+use Rattle.patches.specs.Blocks.{Kept, Filled}
+use Rattle.patches.specs.Numbers.{Mapped, Leaves, patchIn}
+use Rattle.patches.specs.declared.sums.Figure.the-variants.{Size, Columns, Rows}
+use Rattle.patches.specs.Sums.{figureOf, Summing, Summed}
+use Rattle.patches.specs.Figures.{Tree, depthIn, Put, passed, begun, noPatch, Begun, Charted, Patched, Frame, Sums, Figures}
+use Rattle.patches.proofs.Blocks.{kept-refl, kept-store}
+use Rattle.patches.proofs.Numbering.{kept-row}
+use Rattle.patches.proofs.Charting.{arrays, map-in, depth-is, depth-kept, leaves-count, leaves-patch}
+
+-- the largest of one pixel more
+pub highest-next :
+    (l : List ℕ) (i most r : ℕ) → 1 ≤ i → i ≤ length l → most ≡ highest (drop i l) →
+    r ≡ pick (leb most (getD l (i - 1) 0)) (getD l (i - 1) 0) most → r ≡ highest (drop (i - 1) l)
+highest-next l i most r some h e q =
+    let up : suc (i - 1) ≡ i = omega arith in
+    let v = getD l (i - 1) 0 in
+    let b : i - 1 < length l = omega arith in
+    q ∙
+    (ap (λ (m : ℕ). pick (leb m v) v m) (e ∙ ap (λ (k : ℕ). highest (drop k l)) (sym up)) ∙
+    sym (ap highest (drop-cons l (i - 1) 0 b)))
+
+module _ (n : ℕ) (pixels numbers : List ℕ) (most : ℕ) (work : List ℕ) where
+  pub patched-start : Patched n pixels numbers most 0 work 0 work
+  patched-start =
+      record {
+        kept = kept-refl (3 * n) (2 * n) work;
+        few = omega arith;
+        begun =
+            λ p c.
+            record { count = refl; depth = λ i h. absurd (omega arith); height = λ i h. absurd (omega arith) };
+      }
+
+  module _ (x r : ℕ) (l : List ℕ) (h : x < n) (f : Patched n pixels numbers most x work r l) where
+    pub patched-mapped : Mapped n work → Mapped n l
+    patched-mapped m =
+        record {
+          map =
+              λ y b.
+              let e = kept-row (3 * n) (2 * n) (2 * n) y (f .kept) (omega arith) in
+              let q = m .map y b in
+              omega arith;
+        }
+
+    module _ (p : Picture) (c : Charted p n pixels numbers most work) where
+      ok : Accepted p
+      ok = accepted-is p (c .accepted)
+
+      before : Begun p n x r l
+      before = f .begun p c
+
+      place : x < places p
+      place = let e = c .size in omega arith
+
+      more : (b : bottom p x ≡ true) → r + 1 ≡ tally (bottom p) (range 0 (x + 1))
+      more b =
+          add-one r ∙
+          (ap suc (before .count) ∙
+          (sym (tally-next-in (bottom p) x b) ∙ ap (λ (y : ℕ). tally (bottom p) (range 0 y)) (sym (add-one x))))
+
+      -- no patch begins at x
+      begun-none : getD numbers x 0 ≢ r + 1 → Begun p n (x + 1) r l
+      begun-none d =
+          let b =
+          test-false (bottom p x)
+          (λ b.
+          let a = bottom-number p ok x place b in
+          let q = c .patch x h in
+          let e = before .count in
+          d (omega arith))
+          in
+          record {
+            count =
+                before .count ∙
+                (sym (tally-next-out (bottom p) x b) ∙ ap (λ (y : ℕ). tally (bottom p) (range 0 y)) (sym (add-one x)));
+            depth = before .depth;
+            height = before .height;
+          }
+
+      -- the next patch begins at x
+      begins : getD numbers x 0 ≡ r + 1 → bottom p x ≡ true
+      begins e =
+          let q = c .patch x h in
+          let a = before .count in
+          next-bottom p ok x place (omega arith)
+
+      module _ (e : getD numbers x 0 ≡ r + 1) (long : 5 * n ≤ length work) where
+        value : ℕ
+        value = depthIn n l most (row l (2 * n) x)
+
+        after : List ℕ
+        after = set (set l (3 * n + r) value) (4 * n + r) (getD pixels x 0)
+
+        r-few : r < n
+        r-few = let a = f .few in omega arith
+
+        long-l : 5 * n ≤ length l
+        long-l = let a = f .kept .size in omega arith
+
+        value-is : value ≡ getD (patches p) r noPatch .depth
+        unfolding value
+        value-is =
+            let m = mapOf p x in
+            let t = arrays p n work (c .size) (c .tree) in
+            let i = map-found p ok x place in
+            let few = nodes-few p in
+            let big = c .size in
+            let mb : m < n = omega arith in
+            let at : row l (2 * n) x ≡ m = kept-row (3 * n) (2 * n) (2 * n) x (f .kept) (omega arith) ∙ t .map x h in
+            ap (depthIn n l most) at ∙
+            (depth-kept n most m work l (f .kept) mb ∙
+            (depth-is p ok n (c .size) work t most m i (c .largest ∙ ap highest (sym (c .same))) ∙
+            (sym (patch-depth p ok x noPatch place (begins e)) ∙
+            ap (λ (j : ℕ). getD (patches p) j noPatch .depth) (sym (before .count)))))
+
+        height-is : getD pixels x 0 ≡ getD (patches p) r noPatch .height
+        height-is =
+            ap (λ (q : List ℕ). getD q x 0) (sym (c .same)) ∙
+            (sym (patch-height p ok x noPatch place (begins e)) ∙
+            ap (λ (j : ℕ). getD (patches p) j noPatch .height) (sym (before .count)))
+
+        begun-next : Begun p n (x + 1) (r + 1) after
+        unfolding after
+        begun-next =
+            let rb = r-few in
+            let ll = long-l in
+            record {
+              count = more (begins e);
+              depth =
+                  λ i b.
+                  let d : 3 * n + i ≢ 4 * n + r = λ q. absurd (omega arith) in
+                  getD-set-other (set l (3 * n + r) value) (4 * n + r) (3 * n + i) (getD pixels x 0) 0 d ∙
+                  by-cases (ℕ-discrete i r)
+                  (λ q.
+                  ap (λ (j : ℕ). getD (set l (3 * n + r) value) (3 * n + j) 0) q ∙
+                  (getD-set-same l (3 * n + r) value 0 (omega arith) ∙
+                  (value-is ∙ ap (λ (j : ℕ). getD (patches p) j noPatch .depth) (sym q))))
+                  (λ q.
+                  let g : 3 * n + i ≢ 3 * n + r = λ v. q (omega arith) in
+                  getD-set-other l (3 * n + r) (3 * n + i) value 0 g ∙ before .depth i (omega arith));
+              height =
+                  λ i b.
+                  by-cases (ℕ-discrete i r)
+                  (λ q.
+                  ap (λ (j : ℕ). getD after (4 * n + j) 0) q ∙
+                  (getD-set-same (set l (3 * n + r) value) (4 * n + r) (getD pixels x 0) 0 (simp length-set (omega arith)) ∙
+                  (height-is ∙ ap (λ (j : ℕ). getD (patches p) j noPatch .height) (sym q))))
+                  (λ q.
+                  let g : 4 * n + i ≢ 4 * n + r = λ v. q (omega arith) in
+                  let d : 4 * n + i ≢ 3 * n + r = λ v. absurd (omega arith) in
+                  getD-set-other (set l (3 * n + r) value) (4 * n + r) (4 * n + i) (getD pixels x 0) 0 g ∙
+                  (getD-set-other l (3 * n + r) (4 * n + i) value 0 d ∙ before .height i (omega arith)));
+            }
+
+    -- one place more
+    pub patched-more :
+        (m : List ℕ) (q : ℕ) → 5 * n ≤ length work → Put n pixels numbers most x l r m q →
+        Patched n pixels numbers most (x + 1) work q m
+    unfolding after value
+    patched-more m q long (passed d e g) =
+        let few = f .few in
+        rw (e, g)
+        (record { kept = f .kept; few = omega arith; begun = λ p c. begun-none p c d })
+    patched-more m q long (begun d e g) =
+        let few = f .few in
+        rw (e, g)
+        (record {
+          kept =
+              kept-store (3 * n) (2 * n) (4 * n + r) (getD pixels x 0) work (set l (3 * n + r) (depthIn n l most (row l (2 * n) x)))
+              (omega arith) (omega arith)
+              (kept-store (3 * n) (2 * n) (3 * n + r) (depthIn n l most (row l (2 * n) x)) work l (omega arith) (omega arith) (f .kept));
+          few = omega arith;
+          begun = λ p c. begun-next p c d long;
+        })
+
+  pub patched-end : (x r : ℕ) (l : List ℕ) → x ≤ n → n ≤ x → Patched n pixels numbers most x work r l → Patched n pixels numbers most n work r l
+  patched-end x r l a b f = let e : x ≡ n = omega arith in subst (λ (y : ℕ). Patched n pixels numbers most y work r l) e f

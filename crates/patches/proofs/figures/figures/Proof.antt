@@ -1,0 +1,92 @@
+-- `patches::figures::figures` meets its contract: the numbers, the patch of each place, the depths and heights, the sums.
+use mathlib.Core.Path.{_≡_, sym, _∙_}
+use Prim.Native.Nat.{ℕ, _*_}
+use native.Mathlib.Omega.{arith}
+use lib.ListN.{length}
+use borrow.Author.Needs.{needs}
+use Rattle.tree.specs.Frame.{pictureOf}
+use Rattle.patches.proofs.Figuring.{tree-mapped, tree-few, tree-pixels, numbered-mapped, numbered-size, patched-frame, figures-all}
+use Rattle.patches.proofs.figures.figures.Statement.{statement}
+use Rattle.patches.proofs.figures.figures.Tie as tie
+
+mul-n : tie.Need-mul-n
+mul-n c = search needs
+
+number-requires : tie.Need-number-requires
+number-requires c κs =
+    let s = c .before .before .before .before .before in
+    let p = pictureOf (s .args .a) (s .args .w) (s .args .h) (s .args .pixels .now) in
+    (s .pre .1, tree-mapped p _ _ (s .pre .0), tree-few p _ _ (s .pre .0))
+
+map-patches-requires : tie.Need-map-patches-requires
+map-patches-requires c κs =
+    let s = c .before .before .before .before .before .before .before .before .before .before .before .before in
+    let p = pictureOf (s .args .a) (s .args .w) (s .args .h) (s .args .pixels .now) in
+    let l = c .before .before .before .before .before .before .number .ensures in (
+      record {
+        few = s .pre .1 .few;
+        blocks = numbered-size p _ _ (s .pre .0) _ _ l ∙ s .pre .1 .blocks;
+        beside = tree-pixels p _ _ (s .pre .0);
+      },
+      numbered-mapped p _ _ (s .pre .0) _ _ l,
+      let z = s .pre .1 .beside in search needs,
+    )
+
+largest-requires : tie.Need-largest-requires
+largest-requires c κs = search needs
+
+level-requires : tie.Need-level-requires
+level-requires c κs = search needs
+
+put-patches-requires : tie.Need-put-patches-requires
+put-patches-requires c κs =
+    let s = c .before .before .before .before .before .before .before .before .before .before .before .before .before .before .before .before .before .before .before in
+    let p = pictureOf (s .args .a) (s .args .w) (s .args .h) (s .args .pixels .now) in
+    let l = c .before .before .before .before .before .before .before .before .before .before .before .before .before .number .ensures in (
+      record {
+        few = s .pre .1 .few;
+        blocks = numbered-size p _ _ (s .pre .0) _ _ l ∙ s .pre .1 .blocks;
+        beside = tree-pixels p _ _ (s .pre .0);
+      },
+      let z = s .pre .1 .beside in search needs,
+      numbered-mapped p _ _ (s .pre .0) _ _ l,
+    )
+
+put-sums-requires : tie.Need-put-sums-requires
+put-sums-requires c κs =
+    let s = c .before .before .before .before .before .before .before .before .before .before .before .before .before .before .before .before .before .before .before .before .before .before .before .before in
+    let p = pictureOf (s .args .a) (s .args .w) (s .args .h) (s .args .pixels .now) in
+    let l = c .before .before .before .before .before .before .before .before .before .before .before .before .before .before .before .before .before .before .number .ensures in
+    patched-frame p _ _ (s .pre .0) _ _ l _ (let z = s .pre .1 .beside in search needs) (c .before .before .before .before .before .before .before .before .before .before .before .map-patches .ensures) _
+    (c .before .before .before .before .put-patches .ensures .kept .size ∙ (numbered-size p _ _ (s .pre .0) _ _ l ∙ s .pre .1 .blocks))
+
+same-length : tie.Need-same-length
+same-length c = search needs
+
+same-length-2 : tie.Need-same-length-2
+same-length-2 c = search needs
+
+returns : tie.Need-returns
+returns c =
+    let s = c .before .before .before .before .before .before .before .before .before .before .before .before .before .before .before .before .before .before .before .before .before .before .before .before .before .before .before in
+    let p = pictureOf (s .args .a) (s .args .w) (s .args .h) (s .args .pixels .now) in
+    let l = c .before .before .before .before .before .before .before .before .before .before .before .before .before .before .before .before .before .before .before .before .before .number .ensures in
+    figures-all p _ _ (s .pre .0) _ _ l _ (let z = s .pre .1 .beside in search needs) (c .before .before .before .before .before .before .before .before .before .before .before .before .before .before .map-patches .ensures) _ _ _ _
+    (c .before .before .before .before .before .before .before .before .before .before .level .ensures ∙ c .before .before .before .before .before .before .before .before .before .before .before .largest .ensures)
+    (c .before .before .before .before .before .before .before .put-patches .ensures)
+    (c .before .before .put-sums .ensures)
+
+pub figures-spec : {M : Type 1} → statement M
+figures-spec =
+    tie.close
+    (tie.spec
+    mul-n
+    number-requires
+    map-patches-requires
+    largest-requires
+    level-requires
+    put-patches-requires
+    put-sums-requires
+    same-length
+    same-length-2
+    returns)

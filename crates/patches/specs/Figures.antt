@@ -1,0 +1,93 @@
+-- The figures of the patches in blocks of cells.
+use mathlib.Core.Path.{_≡_}
+use mathlib.Core.Bool.{true}
+use mathlib.Core.Logic.{_≢_}
+use mathlib.Core.List.{List}
+use Prim.Native.Nat.{ℕ, suc, _+_, _-_, _*_, _≤_, _<_}
+use lib.Dec.{ltb}
+use lib.ListN.{length, getD, set}
+use Rattle.picture.specs.Lists.{pick, tally, range, highest}
+use Rattle.picture.specs.Pictures.{Picture, places, isPicture}
+use Rattle.picture.specs.Trees.{nodes}
+use Rattle.picture.specs.Patches.{Patch, patches, patchAt}
+use Rattle.tree.specs.Arrays.{row, TreeIn}
+use Rattle.topology.proofs.Leaves.{bottom}
+use Rattle.topology.proofs.PatchSums.{sumAt}
+use Rattle.patches.specs.declared.sums.Figure.the-variants.{Size, Columns, Rows}
+use Rattle.patches.specs.Blocks.{Kept}
+use Rattle.patches.specs.Sums.{figureOf}
+
+-- the cells hold the tree of an accepted picture, of count nodes
+pub record Tree (p : Picture) (count : ℕ) (work : List ℕ) : Type 0 where
+  pub accepted : isPicture p ≡ true
+  pub number : count ≡ length (nodes p)
+  pub tree : TreeIn p work
+
+-- the depth of the node m by the arrays: its father's height, or if it has none the largest pixel, less its own
+unfoldable pub depthIn : ℕ → List ℕ → ℕ → ℕ → ℕ
+depthIn n work most m = pick (ltb (row work n m) n) (getD work (row work n m) 0) most - getD work m 0
+
+-- the patch that begins at x, the next after r, gets its depth and its height
+pub data Put (n : ℕ) (pixels numbers : List ℕ) (most x : ℕ) (work : List ℕ) (r : ℕ) (after : List ℕ) (q : ℕ) : Type 0 where
+  passed : getD numbers x 0 ≢ r + 1 → after ≡ work → q ≡ r → Put n pixels numbers most x work r after q
+  begun :
+      getD numbers x 0 ≡ r + 1 →
+      after ≡ set (set work (3 * n + r) (depthIn n work most (row work (2 * n) x))) (4 * n + r) (getD pixels x 0) → q ≡ r + 1 →
+      Put n pixels numbers most x work r after q
+
+-- no patch, for an index past the end
+abbrev pub noPatch : Patch
+noPatch = record { number = 0; size = 0; height = 0; depth = 0; columns = 0; rows = 0 }
+
+-- the r patches that begin before x have their depths in the fourth block and their heights in the fifth
+pub record Begun (p : Picture) (n x r : ℕ) (after : List ℕ) : Type 0 where
+  pub count : r ≡ tally (bottom p) (range 0 x)
+  pub depth : (i : ℕ) → i < r → row after (3 * n) i ≡ getD (patches p) i noPatch .depth
+  pub height : (i : ℕ) → i < r → row after (4 * n) i ≡ getD (patches p) i noPatch .height
+
+-- the work holds the tree of p, and the numbers are those of its patches
+pub record Charted (p : Picture) (n : ℕ) (pixels numbers : List ℕ) (most : ℕ) (work : List ℕ) : Type 0 where
+  pub accepted : isPicture p ≡ true
+  pub size : n ≡ places p
+  pub same : p .pixels ≡ pixels
+  pub tree : TreeIn p work
+  pub patch : (x : ℕ) → x < n → getD numbers x 0 ≡ patchAt p x
+  pub largest : most ≡ highest pixels
+
+-- the depths and the heights are those of every picture with that tree and those numbers
+pub record Patched (n : ℕ) (pixels numbers : List ℕ) (most x : ℕ) (work : List ℕ) (r : ℕ) (after : List ℕ) : Type 0 where
+  pub kept : Kept (3 * n) (2 * n) work after
+  pub few : r ≤ x
+  pub begun : (p : Picture) → Charted p n pixels numbers most work → Begun p n x r after
+
+-- the numbers of n places, each at most n, and five blocks
+pub record Frame (w n : ℕ) (numbers work : List ℕ) : Type 0 where
+  pub some : 1 ≤ w
+  pub wide : w ≤ 40
+  pub high : n ≤ w * 40
+  pub size : length numbers ≡ n
+  pub most : (x : ℕ) → x < n → getD numbers x 0 ≤ n
+  pub blocks : length work ≡ 5 * n
+
+-- the first three blocks hold the sizes, the sums of columns and the sums of rows by number, from 1 on
+pub record Sums (w n : ℕ) (numbers work after : List ℕ) : Type 0 where
+  pub kept : Kept 0 (3 * n) work after
+  pub sizes : (i : ℕ) → i < n → row after 0 i ≡ sumAt (figureOf Size w) numbers (suc i) n
+  pub columns : (i : ℕ) → i < n → row after n i ≡ sumAt (figureOf Columns w) numbers (suc i) n
+  pub rows : (i : ℕ) → i < n → row after (2 * n) i ≡ sumAt (figureOf Rows w) numbers (suc i) n
+
+-- r patches; patch i + 1 has its size in the first block at i, its column sum in the second, its row sum in the third, its depth in the fourth, its height in the fifth; the cells hold the patch of each place
+pub record Figures (p : Picture) (r : ℕ) (work cells : List ℕ) : Type 0 where
+  pub count : r ≡ length (patches p)
+  pub number : (i : ℕ) → i < r → i + 1 ≡ getD (patches p) i noPatch .number
+  pub size : (i : ℕ) → i < r → row work 0 i ≡ getD (patches p) i noPatch .size
+  pub columns : (i : ℕ) → i < r → row work (places p) i ≡ getD (patches p) i noPatch .columns
+  pub rows : (i : ℕ) → i < r → row work (2 * places p) i ≡ getD (patches p) i noPatch .rows
+  pub depth : (i : ℕ) → i < r → row work (3 * places p) i ≡ getD (patches p) i noPatch .depth
+  pub height : (i : ℕ) → i < r → row work (4 * places p) i ≡ getD (patches p) i noPatch .height
+  pub map : (x : ℕ) → x < places p → getD cells x 0 ≡ patchAt p x
+
+-- the cells hold the patch of each place
+pub record PatchMap (p : Picture) (cells : List ℕ) : Type 0 where
+  pub size : length cells ≡ places p
+  pub patch : (x : ℕ) → x < places p → getD cells x 0 ≡ patchAt p x

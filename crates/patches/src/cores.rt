@@ -1,0 +1,30 @@
+// The whole cores: the tree of a picture, and its patches from it.
+use crate::figures::figures;
+use crate::numbers::patch_of;
+use tree::build::build;
+ghost use mathlib.Core.Path.{_≡_};
+ghost use mathlib.Core.Bool.{true};
+ghost use Prim.Native.Nat.{_*_, _<_};
+ghost use Rattle.picture.specs.Pictures.{isPicture};
+ghost use Rattle.picture.specs.Patches.{patchAt};
+ghost use Rattle.tree.specs.Frame.{pictureOf};
+ghost use Rattle.patches.specs.Numbers.{Sizes};
+ghost use Rattle.patches.specs.Figures.{Figures};
+
+// The figures of the patches of a picture, by number, and in the cells the patch of each place; answers how many patches there are.
+pub fn patch_figures(a: u32, w: u32, h: u32, pixels: &[u8], work: &mut [u16], cells: &mut [u16]) -> usize
+    requires { ⌜ (isPicture (pictureOf a w h (now pixels)) ≡ true) × Sizes (w * h) (now work) (now cells) ⌝ }
+    ensures { λ r. ⌜ Figures (pictureOf a w h (now (pixels .entry))) r (now (work .exit)) (now (cells .exit)) ⌝ }
+{
+    let count = build(a, w, h, pixels, work, cells);
+    figures(a, w, h, pixels, count, work, cells)
+}
+
+// The number of the patch of a place of a picture, 0 on the line.
+pub fn query(a: u32, w: u32, h: u32, pixels: &[u8], place: usize, work: &mut [u16], cells: &mut [u16]) -> u16
+    requires { ⌜ (isPicture (pictureOf a w h (now pixels)) ≡ true) × Sizes (w * h) (now work) (now cells) × (place < w * h) ⌝ }
+    ensures { λ r. ⌜ r ≡ patchAt (pictureOf a w h (now (pixels .entry))) place ⌝ }
+{
+    let count = build(a, w, h, pixels, work, cells);
+    patch_of(a, w, h, pixels, count, place, work, cells)
+}

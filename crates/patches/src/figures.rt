@@ -1,0 +1,140 @@
+// The figures of the patches, each in a block of cells by number: sizes, columns, rows, depths, heights.
+use crate::cells::fill;
+use crate::cells::level;
+use crate::cells::wide;
+use crate::numbers::map_patches;
+use crate::numbers::number;
+use crate::sums::Figure;
+use crate::sums::sum_block;
+ghost use mathlib.Core.Path.{_≡_};
+ghost use Prim.Native.Nat.{ℕ, _+_, _-_, _*_, _/_, _≤_, _<_};
+ghost use lib.ListN.{length};
+ghost use lib.Dec.{leb};
+ghost use Rattle.picture.specs.Lists.{pick, highest};
+ghost use Rattle.picture.specs.Patches.{centre};
+ghost use Rattle.tree.specs.Frame.{pictureOf};
+ghost use Rattle.patches.specs.Numbers.{Sizes, Mapped};
+ghost use Rattle.patches.specs.Figures.{Tree, depthIn, Put, Patched, Frame, Sums, Figures};
+
+// The larger of a pixel and the largest so far.
+fn larger(pixel: u8, most: u8) -> u8
+    ensures { λ r. ⌜ r ≡ pick (leb most pixel) pixel most ⌝ }
+{
+    if most <= pixel {
+        return pixel;
+    }
+    most
+}
+
+// The largest pixel value.
+fn largest(pixels: &[u8]) -> u8
+    ensures { λ r. ⌜ r ≡ highest (now (pixels .entry)) ⌝ }
+{
+    let mut most = 0;
+    let mut i = pixels.len();
+    while 0 < i {
+        i -= 1;
+        most = larger(pixels[i], most);
+    }
+    most
+}
+
+// How far a lies above b, 0 if it lies below.
+fn above(a: u16, b: u16) -> u16
+    ensures { λ r. ⌜ r ≡ a - b ⌝ }
+{
+    if a < b {
+        return 0;
+    }
+    a - b
+}
+
+// The depth of the node m: how far its father, or for the root the largest pixel, lies above it.
+fn depth(n: usize, work: &[u16], most: u16, m: usize) -> u16
+    requires { ⌜ (n ≤ 1600) × (length (now work) ≡ 5 * n) × (m < n) ⌝ }
+    ensures { λ r. ⌜ r ≡ depthIn n (now (work .entry)) most m ⌝ }
+{
+    let f = wide(work[n + m]);
+    if f < n {
+        return above(work[f], work[m]);
+    }
+    above(most, work[m])
+}
+
+// Puts the depth and the height of the patch that begins at x behind those of the r patches before it, if one begins there.
+fn put_patch(
+    n: usize,
+    pixels: &[u8],
+    map: &[u16],
+    most: u16,
+    x: usize,
+    work: &mut [u16],
+    r: usize,
+) -> usize
+    requires { ⌜ Sizes n (now work) (now pixels) × (length (now map) ≡ n) × Mapped n (now work) × (x < n) × (r ≤ x) ⌝ }
+    ensures { λ q. ⌜ Put n (now (pixels .entry)) (now (map .entry)) most x (now (work .entry)) r (now (work .exit)) q ⌝ }
+{
+    if wide(map[x]) != r + 1 {
+        return r;
+    }
+    let m = wide(work[2 * n + x]);
+    work[3 * n + r] = depth(n, work, most, m);
+    work[4 * n + r] = level(pixels[x]);
+    r + 1
+}
+
+// Puts the depths and the heights of the patches into the fourth and the fifth block, and answers how many there are.
+fn put_patches(n: usize, pixels: &[u8], map: &[u16], most: u16, work: &mut [u16]) -> usize
+    requires { ⌜ Sizes n (now work) (now pixels) × (length (now map) ≡ n) × Mapped n (now work) ⌝ }
+    ensures { λ r. ⌜ Patched n (now (pixels .entry)) (now (map .entry)) most n (now (work .entry)) r (now (work .exit)) ⌝ }
+{
+    let mut r = 0;
+    let mut x = 0;
+    while x < n {
+        r = put_patch(n, pixels, map, most, x, work, r);
+        x += 1;
+    }
+    r
+}
+
+// Puts the sizes, the sums of columns and the sums of rows into the first three blocks.
+fn put_sums(w: usize, n: usize, map: &[u16], work: &mut [u16])
+    requires { ⌜ Frame w n (now map) (now work) ⌝ }
+    ensures { λ _. ⌜ Sums w n (now (map .entry)) (now (work .entry)) (now (work .exit)) ⌝ }
+{
+    fill(work, 0, 3 * n, 0);
+    sum_block(Figure::Size, w, n, map, work, 0);
+    sum_block(Figure::Columns, w, n, map, work, n);
+    sum_block(Figure::Rows, w, n, map, work, 2 * n);
+}
+
+// The figures of the patches of a picture whose tree of count nodes is in work, and in the cells the patch of each place.
+pub fn figures(
+    a: u32,
+    w: u32,
+    h: u32,
+    pixels: &[u8],
+    count: usize,
+    work: &mut [u16],
+    cells: &mut [u16],
+) -> usize
+    requires { ⌜ Tree (pictureOf a w h (now pixels)) count (now work) × Sizes (w * h) (now work) (now cells) ⌝ }
+    ensures { λ r. ⌜ Figures (pictureOf a w h (now (pixels .entry))) r (now (work .exit)) (now (cells .exit)) ⌝ }
+{
+    let width = w as usize;
+    let n = width * h as usize;
+    number(n, count, work, cells);
+    map_patches(n, pixels, work, cells);
+    let most = level(largest(pixels));
+    let r = put_patches(n, pixels, cells, most, work);
+    put_sums(width, n, cells, work);
+    r
+}
+
+// A centre in tenths, from a sum of columns or rows and the size.
+pub fn centre(sum: u32, size: u32) -> u32
+    requires { ⌜ (1 ≤ size) × (sum ≤ 65535) ⌝ }
+    ensures { λ r. ⌜ r ≡ centre sum size ⌝ }
+{
+    10 * sum / size
+}

@@ -1,0 +1,205 @@
+-- The figures of the patches as sums over the places by their patch numbers, and the first place of each patch by its number.
+use mathlib.Core.Path.{_≡_, refl, sym, ap, ap₂, subst, _∙_}
+use mathlib.Core.Bool.{Bool, true, false}
+use mathlib.Core.Logic.{by-cases}
+use mathlib.Core.List.{List, [], _∷_, map}
+use Prim.Native.Nat.{ℕ, zero, suc, _+_, _-_, _*_, _≤_, _<_}
+use native.Mathlib.Decide.{ℕ-discrete}
+use native.Mathlib.Omega.{arith}
+use lib.Dec.{eqb}
+use lib.ListN.{length, getD}
+use borrow.Author.Tests.{eq-eqb, ne-eqb}
+use Rattle.picture.specs.Lists.{pick, tally, select, range, total}
+use Rattle.picture.specs.Pictures.{Picture, places, valueAt, column, row}
+use Rattle.picture.specs.Trees.{Node, nodeAt, componentOf, mapOf}
+use Rattle.picture.specs.Patches.{Patch, patchOf, patches, patchAt, depthOf}
+use Rattle.topology.proofs.Tests.{on-test, on-pick}
+use Rattle.topology.proofs.Lists.{range-mem, tally-length, length-range}
+use Rattle.topology.proofs.Connected.{start}
+use Rattle.topology.proofs.Adjacency.{At}
+use Rattle.topology.proofs.Accepted.{Accepted}
+use Rattle.topology.proofs.Reached.{firstAt, first-least, first-at}
+use Rattle.topology.proofs.Numbers.{map-same}
+use Rattle.topology.proofs.Leaves.{leafAt, bottom, leaf, is-bottom}
+use Rattle.topology.proofs.Positions.{tally-range}
+use Rattle.topology.proofs.PatchNumbers.{patch-in, patch-out}
+use Rattle.topology.proofs.PatchFigures.{total-select, bottom-number, patch-members, patches-count, patch-record}
+use Rattle.topology.proofs.LeafNodes.{bottom-map}
+use Rattle.topology.proofs.PatchesKept.{tally-reach}
+
+-- the sum of g over the first m places with the number c
+unfoldable pub sumAt : (ℕ → ℕ) → List ℕ → ℕ → ℕ → ℕ
+sumAt g numbers c m = total (map (λ x. pick (eqb (getD numbers x 0) c) (g x) 0) (range 0 m))
+
+total-next : (f : ℕ → ℕ) (y l : ℕ) → total (map f (range y (suc l))) ≡ total (map f (range y l)) + f (y + l)
+total-next f y zero = let e : y + 0 ≡ y = omega arith in let q = ap f e in omega arith
+total-next f y (suc l) =
+    let e : suc y + l ≡ y + suc l = omega arith in
+    let q = ap f e in
+    let r = total-next f (suc y) l in
+    omega arith
+
+total-most : (f : ℕ → ℕ) (d y l : ℕ) → ((x : ℕ) → x < y + l → f x ≤ d) → total (map f (range y l)) ≤ d * l
+total-most f d y zero h = omega arith
+total-most f d y (suc l) h =
+    let a = total-most f d y l (λ x b. h x (omega arith)) in
+    let b = total-next f y l in
+    let c = h (y + l) (omega arith) in
+    let e = mul-suc d l in
+    omega arith
+  where
+    mul-suc : (d l : ℕ) → d * suc l ≡ d * l + d
+    mul-suc d l = omega arith
+
+module _ (g : ℕ → ℕ) (numbers : List ℕ) (c : ℕ) where
+  pub sum-none : sumAt g numbers c 0 ≡ 0
+  unfolding sumAt
+  sum-none = refl
+
+  pub sum-in : (m : ℕ) → getD numbers m 0 ≡ c → sumAt g numbers c (suc m) ≡ sumAt g numbers c m + g m
+  unfolding sumAt
+  sum-in m e =
+      let z : 0 + m ≡ m = omega arith in
+      total-next term 0 m ∙
+      ap (λ (v : ℕ). total (map term (range 0 m)) + v)
+      (ap term z ∙ ap (λ (b : Bool). pick b (g m) 0) (eq-eqb (getD numbers m 0) c e))
+    where
+      term : ℕ → ℕ
+      term x = pick (eqb (getD numbers x 0) c) (g x) 0
+
+  pub sum-out : (m : ℕ) → ¬ (getD numbers m 0 ≡ c) → sumAt g numbers c (suc m) ≡ sumAt g numbers c m
+  unfolding sumAt
+  sum-out m d =
+      let z : 0 + m ≡ m = omega arith in
+      let q = ap term z ∙ ap (λ (b : Bool). pick b (g m) 0) (ne-eqb (getD numbers m 0) c d) in
+      let r = total-next term 0 m in
+      omega arith
+    where
+      term : ℕ → ℕ
+      term x = pick (eqb (getD numbers x 0) c) (g x) 0
+
+  pub sum-most : (d m : ℕ) → ((x : ℕ) → x < m → g x ≤ d) → sumAt g numbers c m ≤ d * m
+  unfolding sumAt
+  sum-most d m h =
+      total-most (λ x. pick (eqb (getD numbers x 0) c) (g x) 0) d 0 m
+      (λ x b.
+      on-pick (λ (v : ℕ). v ≤ d) (eqb (getD numbers x 0) c) (λ e. h x (omega arith)) (λ e. omega arith))
+
+module _ (p : Picture) (ok : Accepted p) where
+  -- the first place of the patch with a number
+  pub patch-begins : (i : ℕ) → i < length (patches p) → (z : ℕ) × (z < places p) × (bottom p z ≡ true) × (tally (bottom p) (range 0 z) ≡ i)
+  patch-begins i h = tally-reach (bottom p) (places p) i (subst (λ (m : ℕ). i < m) (patches-count p ok) h)
+
+  -- a place with the number after those that begin before it begins a patch
+  pub next-bottom : (x : ℕ) → x < places p → patchAt p x ≡ suc (tally (bottom p) (range 0 x)) → bottom p x ≡ true
+  next-bottom x b e =
+      on-test (leafAt p (valueAt p x) x)
+      (λ l.
+      let k = valueAt p x in
+      let z = firstAt p k x in
+      let s : At p k x = record { within = b; low = omega arith } in
+      let least = first-least p k (start s) in
+      by-cases (ℕ-discrete z x)
+      (λ q. is-bottom p x s q l)
+      (λ q.
+      let n = patch-in p ok x b l in
+      let d : suc z + (x - suc z) ≡ x = omega arith in
+      let t = tally-range (bottom p) 0 (suc z) (x - suc z) in
+      let u = ap (λ (m : ℕ). tally (bottom p) (range 0 m)) d in
+      absurd (omega arith)))
+      (λ l. absurd (let o = patch-out p ok x b l in omega arith))
+
+  -- numbers of patches are at most their count, which is at most the number of places
+  pub count-few : length (patches p) ≤ places p
+  count-few =
+      let a = patches-count p ok in
+      let b = tally-length (bottom p) (range 0 (places p)) in
+      let c = length-range 0 (places p) in
+      omega arith
+
+  pub patch-most : (x : ℕ) → x < places p → patchAt p x ≤ places p
+  patch-most x b =
+      on-test (leafAt p (valueAt p x) x)
+      (λ l.
+      let k = valueAt p x in
+      let s : At p k x = record { within = b; low = omega arith } in
+      let z = firstAt p k x in
+      let w = first-at p k x s .within in
+      let t = tally-length (bottom p) (range 0 (suc z)) in
+      let c = length-range 0 (suc z) in
+      let n = patch-in p ok x b l in
+      omega arith)
+      (λ l. let o = patch-out p ok x b l in omega arith)
+
+  module _ (z : ℕ) (d : Patch) (b : z < places p) (h : bottom p z ≡ true) where
+    -- the record of the patch that begins at z
+    record-at : getD (patches p) (tally (bottom p) (range 0 z)) d ≡ patchOf p (patchAt p z) (leaf p z)
+    record-at = patch-record p ok z d b h
+
+    pub patch-height : getD (patches p) (tally (bottom p) (range 0 z)) d .height ≡ valueAt p z
+    unfolding patchOf
+    patch-height = ap (λ (q : Patch). q .height) record-at
+
+    pub patch-depth : getD (patches p) (tally (bottom p) (range 0 z)) d .depth ≡ depthOf p (nodeAt p (mapOf p z))
+    unfolding patchOf
+    patch-depth = ap (λ (q : Patch). q .depth) record-at ∙ ap (depthOf p) (sym (bottom-map p ok z b h))
+
+    number-at : getD (patches p) (tally (bottom p) (range 0 z)) d .number ≡ patchAt p z
+    unfolding patchOf
+    number-at = ap (λ (q : Patch). q .number) record-at
+
+    module _ (numbers : List ℕ) (same : (x : ℕ) → x < places p → getD numbers x 0 ≡ patchAt p x) where
+      members-sum : (g : ℕ → ℕ) → total (map g (componentOf p (leaf p z))) ≡ sumAt g numbers (patchAt p z) (places p)
+      unfolding sumAt
+      members-sum g =
+          ap (λ (l : List ℕ). total (map g l)) (patch-members p ok z b h) ∙
+          (total-select g (λ x. eqb (patchAt p x) (patchAt p z)) (range 0 (places p)) ∙
+          ap total
+          (map-same (λ x. pick (eqb (patchAt p x) (patchAt p z)) (g x) 0) (λ x. pick (eqb (getD numbers x 0) (patchAt p z)) (g x) 0)
+          (range 0 (places p))
+          (λ x m.
+          let r = range-mem 0 (places p) m in
+          ap (λ (v : ℕ). pick (eqb v (patchAt p z)) (g x) 0) (sym (same x (omega arith))))))
+
+      counts : (l : List ℕ) → length l ≡ total (map (λ x. 1) l)
+      counts [] = refl
+      counts (x ∷ xs) = let r = counts xs in omega arith
+
+      size-at : getD (patches p) (tally (bottom p) (range 0 z)) d .size ≡ sumAt (λ x. 1) numbers (patchAt p z) (places p)
+      unfolding patchOf
+      size-at = ap (λ (q : Patch). q .size) record-at ∙ (counts (componentOf p (leaf p z)) ∙ members-sum (λ x. 1))
+
+      columns-at : getD (patches p) (tally (bottom p) (range 0 z)) d .columns ≡ sumAt (column p) numbers (patchAt p z) (places p)
+      unfolding patchOf
+      columns-at = ap (λ (q : Patch). q .columns) record-at ∙ members-sum (column p)
+
+      rows-at : getD (patches p) (tally (bottom p) (range 0 z)) d .rows ≡ sumAt (row p) numbers (patchAt p z) (places p)
+      unfolding patchOf
+      rows-at = ap (λ (q : Patch). q .rows) record-at ∙ members-sum (row p)
+
+  -- patches are numbered from 1
+  pub patch-number : (i : ℕ) (d : Patch) → i < length (patches p) → getD (patches p) i d .number ≡ suc i
+  patch-number i d h =
+      let (z, b, t, e) = patch-begins i h in
+      sym (ap (λ (j : ℕ). getD (patches p) j d .number) e) ∙
+      (number-at z d b t ∙ (bottom-number p ok z b t ∙ ap suc e))
+
+  -- the sums of a patch by its number
+  module _ (i : ℕ) (d : Patch) (h : i < length (patches p)) (numbers : List ℕ) (same : (x : ℕ) → x < places p → getD numbers x 0 ≡ patchAt p x) where
+    at-number :
+        (f : Patch → ℕ) (g : ℕ → ℕ) →
+        ((z : ℕ) → z < places p → bottom p z ≡ true → f (getD (patches p) (tally (bottom p) (range 0 z)) d) ≡ sumAt g numbers (patchAt p z) (places p)) →
+        f (getD (patches p) i d) ≡ sumAt g numbers (suc i) (places p)
+    at-number f g k =
+        let (z, b, t, e) = patch-begins i h in
+        let n : patchAt p z ≡ suc i = bottom-number p ok z b t ∙ ap suc e in
+        sym (ap (λ (j : ℕ). f (getD (patches p) j d)) e) ∙ (k z b t ∙ ap (λ (c : ℕ). sumAt g numbers c (places p)) n)
+
+    pub patch-size : getD (patches p) i d .size ≡ sumAt (λ x. 1) numbers (suc i) (places p)
+    patch-size = at-number (λ q. q .size) (λ x. 1) (λ z b t. size-at z d b t numbers same)
+
+    pub patch-columns : getD (patches p) i d .columns ≡ sumAt (column p) numbers (suc i) (places p)
+    patch-columns = at-number (λ q. q .columns) (column p) (λ z b t. columns-at z d b t numbers same)
+
+    pub patch-rows : getD (patches p) i d .rows ≡ sumAt (row p) numbers (suc i) (places p)
+    patch-rows = at-number (λ q. q .rows) (row p) (λ z b t. rows-at z d b t numbers same)

@@ -1,0 +1,235 @@
+-- A picture and its watershed have equally many patches, and partners are leaves together, of one height.
+use mathlib.Core.Path.{_≡_, refl, sym, ap, subst, _∙_}
+use mathlib.Core.Bool.{Bool, true, false, _&&_}
+use mathlib.Core.Logic.{by-cases}
+use mathlib.Core.List.{List}
+use Prim.Native.Nat.{ℕ, zero, suc, _+_, _-_, _≤_, _<_}
+use native.Mathlib.Decide.{decLt, ℕ-discrete}
+use native.Mathlib.Omega.{arith}
+use lib.Dec.{eqb}
+use lib.ListN.{length}
+use borrow.Author.Tests.{eqb-true}
+use Rattle.picture.specs.Lists.{tally, range, allWithin}
+use Rattle.picture.specs.Pictures.{Picture, places, valueAt, withPixels, isPicture}
+use Rattle.picture.specs.Components.{componentAt}
+use Rattle.picture.specs.Trees.{Node, nodes, nodeAt, componentOf}
+use Rattle.picture.specs.Watersheds.{watershed}
+use Rattle.picture.specs.Patches.{patches}
+use Rattle.picture.specs.Kept.{partners}
+use Rattle.topology.proofs.Tests.{and-left, and-right, same-test, on-test}
+use Rattle.topology.proofs.Connected.{start, conn-source, conn-target, conn-trans}
+use Rattle.topology.proofs.Keeping.{Keeps, sec-mono}
+use Rattle.topology.proofs.Adjacency.{Adj, At, Joined, joined-sym}
+use Rattle.topology.proofs.Reached.{firstAt, first-joined, first-same, first-at}
+use Rattle.topology.proofs.Bridge.{within-joined}
+use Rattle.topology.proofs.Accepted.{Accepted, accepted-is}
+use Rattle.topology.proofs.Water.{Watered, watershed-shape, watershed-watered}
+use Rattle.topology.proofs.Branches.{joined-mono, joined-kept}
+use Rattle.topology.proofs.Numbers.{pigeonhole}
+use Rattle.topology.proofs.Nodes.{node-is}
+use Rattle.topology.proofs.Positions.{tally-range, tally-next-in, tally-next-out}
+use Rattle.topology.proofs.Leaves.{leafAt, bottom, leaf-sound, leaf-complete, leaf-same, bottom-is, first-bottom}
+use Rattle.topology.proofs.PatchFigures.{patches-count}
+use Rattle.topology.proofs.LeafNodes.{leafNode}
+use Rattle.topology.proofs.Demand.{demand-3}
+
+-- each number below a tally is the number of members before one that passes the test
+pub tally-reach : (t : ℕ → Bool) (m i : ℕ) → i < tally t (range 0 m) → (z : ℕ) × (z < m) × (t z ≡ true) × (tally t (range 0 z) ≡ i)
+tally-reach t zero i h = absurd (omega arith)
+tally-reach t (suc m) i h =
+    on-test (t m)
+    (λ e.
+    let q = tally-next-in t m e in
+    by-cases (decLt i (tally t (range 0 m)))
+    (λ l. let (z, b, p, r) = tally-reach t m i l in (z, omega arith, p, r))
+    (λ l. (m, omega arith, e, omega arith)))
+    (λ e.
+    let q = tally-next-out t m e in
+    let (z, b, p, r) = tally-reach t m i (omega arith) in
+    (z, omega arith, p, r))
+
+-- a tally rises at a member that passes the test
+pub tally-below : (t : ℕ → Bool) (y z : ℕ) → y < z → t y ≡ true → tally t (range 0 y) < tally t (range 0 z)
+tally-below t y z b e =
+    let g : suc y + (z - suc y) ≡ z = omega arith in
+    let a = tally-range t 0 (suc y) (z - suc y) in
+    let c = tally-next-in t y e in
+    let d = ap (λ (m : ℕ). tally t (range 0 m)) g in
+    omega arith
+
+-- so two members that pass the test have different numbers
+pub tally-inject : (t : ℕ → Bool) (y z : ℕ) → t y ≡ true → t z ≡ true → tally t (range 0 y) ≡ tally t (range 0 z) → y ≡ z
+tally-inject t y z p q e =
+    by-cases (decLt y z) (λ l. absurd (let r = tally-below t y z l p in omega arith))
+    (λ l. by-cases (decLt z y) (λ m. absurd (let r = tally-below t z y m q in omega arith)) (λ m. omega arith))
+
+module _ (f : Picture) (xs : List ℕ) (keeps : (k : ℕ) → Keeps (places f) (Adj f) (valueAt f) (valueAt (withPixels f xs)) k) where
+  abbrev a : Picture
+  a = withPixels f xs
+
+  leaf-forth : (k x : ℕ) → At f k x → leafAt f k x ≡ true → leafAt a k x ≡ true
+  leaf-forth k x s l = leaf-complete a k x (keeps k .subset x s) (λ u c. level k refl u c)
+    where
+      level : (j : ℕ) → j ≡ k → (u : ℕ) → Joined a k x u → valueAt a u ≡ k
+      level zero e u c = let b = conn-target c .low in omega arith
+      level (suc j) e u c =
+          let b = conn-target c .low in
+          by-cases (decLt (valueAt a u) k)
+          (λ h.
+          let (z, sz, d) = keeps j .reaches u (record { within = conn-target c .within; low = omega arith }) in
+          let up : j ≤ k = omega arith in
+          let g = keeps k .separates x z s (sec-mono up z sz) (conn-trans c (joined-mono a up d)) in
+          absurd (let q = leaf-sound f k x s l z g in let r = sz .low in omega arith))
+          (λ h. omega arith)
+
+  leaf-back : (k x : ℕ) → At f k x → leafAt a k x ≡ true → leafAt f k x ≡ true
+  leaf-back k x s l =
+      leaf-complete f k x s
+      (λ u c.
+      let v = leaf-sound a k x (keeps k .subset x s) l u (joined-kept f xs keeps c) in
+      let b = conn-target c .low in
+      let q = keeps (valueAt f u) .subset u (record { within = conn-target c .within; low = omega arith }) .low in
+      omega arith)
+
+  -- components that are joined in a are leaves together
+  pub leaf-kept : (k x y : ℕ) → At f k x → Joined a k x y → leafAt f k x ≡ leafAt a k y
+  leaf-kept k x y s c = same-test (leafAt f k x) (leafAt a k x) (leaf-forth k x s) (leaf-back k x s) ∙ leaf-same a c
+
+  -- partners have one height and are leaves together
+  pub leaf-partners :
+      (i j : ℕ) → i < length (nodes f) → j < length (nodes a) → partners f a (nodeAt f i) (nodeAt a j) ≡ true →
+      (nodeAt f i .height ≡ nodeAt a j .height) × (leafNode f i ≡ leafNode a j)
+  unfolding partners leafNode
+  leaf-partners i j bi bj h = (e, together (m .height) (sym e) t w)
+    where
+      n : Node
+      n = nodeAt f i
+
+      m : Node
+      m = nodeAt a j
+
+      e : n .height ≡ m .height
+      e = eqb-true (n .height) (m .height) (and-left (eqb (n .height) (m .height)) (allWithin (componentOf f n) (componentOf a m)) h)
+
+      w : allWithin (componentOf f n) (componentOf a m) ≡ true
+      w = and-right (eqb (n .height) (m .height)) (allWithin (componentOf f n) (componentOf a m)) h
+
+      s : At f (n .height) (n .first)
+      s = node-is f i bi .place
+
+      t : At a (m .height) (m .first)
+      t = node-is a j bj .place
+
+      together :
+          (k : ℕ) → k ≡ n .height → At a k (m .first) → allWithin (componentOf f n) (componentAt a k (m .first)) ≡ true →
+          leafAt f (n .height) (n .first) ≡ leafAt a k (m .first)
+      together k g u v =
+          let u′ = subst (λ (l : ℕ). At a l (m .first)) g u in
+          let v′ = subst (λ (l : ℕ). allWithin (componentOf f n) (componentAt a l (m .first)) ≡ true) g v in
+          let c = joined-sym a (n .height) (within-joined f a (n .height) (n .first) (m .first) s u′ v′ (n .first) (start s)) in
+          leaf-kept (n .height) (n .first) (m .first) s c ∙ ap (λ (l : ℕ). leafAt a l (m .first)) (sym g)
+
+  -- the patches number i of f and j of a begin at places of one height that are joined in a
+  data Partner (i j : ℕ) : Type 0 where
+    partner :
+        (z w k : ℕ) → z < places f → w < places f → bottom f z ≡ true → bottom a w ≡ true → tally (bottom f) (range 0 z) ≡ i →
+        tally (bottom a) (range 0 w) ≡ j → valueAt f z ≡ k → valueAt a w ≡ k → Joined a k z w → Partner i j
+
+  -- the first place of a minimum by its height
+  begins : (p : Picture) (x k : ℕ) → x < places p → bottom p x ≡ true → valueAt p x ≡ k → At p k x × (firstAt p k x ≡ x) × (leafAt p k x ≡ true)
+  begins p x k b h v = subst (λ (l : ℕ). At p l x × (firstAt p l x ≡ x) × (leafAt p l x ≡ true)) v (bottom-is p x b h)
+
+  first-begins : (p : Picture) (x k : ℕ) → At p k x → leafAt p k x ≡ true → (bottom p (firstAt p k x) ≡ true) × (valueAt p (firstAt p k x) ≡ k)
+  first-begins p x k s l =
+      let v = leaf-sound p k x s l x (start s) in
+      subst (λ (j : ℕ). At p j x → leafAt p j x ≡ true → (bottom p (firstAt p j x) ≡ true) × (valueAt p (firstAt p j x) ≡ j)) v
+      (first-bottom p x) s l
+
+  -- each patch of f has a partner
+  forth : Accepted f → (i : ℕ) → i < length (patches f) → (j : ℕ) × (j < tally (bottom a) (range 0 (places f))) × Partner i j
+  forth ok i h =
+      let (z, b, q, r) = tally-reach (bottom f) (places f) i (subst (λ (m : ℕ). i < m) (patches-count f ok) h) in
+      let k = valueAt f z in
+      let (s, e, l) = bottom-is f z b q in
+      let t = keeps k .subset z s in
+      let w = firstAt a k z in
+      let wb = first-at a k z t .within in
+      let (g, v) = first-begins a z k t (leaf-forth k z s l) in (
+        tally (bottom a) (range 0 w),
+        tally-below (bottom a) w (places f) wb g,
+        partner z w k b wb q g r refl refl v (first-joined a k z t),
+      )
+
+  -- and is the partner of one
+  back : Accepted f → Accepted a → (j : ℕ) → j < length (patches a) → (i : ℕ) × (i < tally (bottom f) (range 0 (places f))) × Partner i j
+  back ok good j h =
+      let (w, b, q, r) = tally-reach (bottom a) (places f) j (subst (λ (m : ℕ). j < m) (patches-count a good) h) in
+      let k = valueAt a w in
+      let (s, e, l) = bottom-is a w b q in
+      let (u, su, c) = keeps k .reaches w s in
+      let lu = leaf-back k u su (sym (leaf-same a c) ∙ l) in
+      let z = firstAt f k u in
+      let d = first-joined f k u su in
+      let zb = conn-target d .within in
+      let (g, v) = first-begins f u k su lu in (
+        tally (bottom f) (range 0 z),
+        tally-below (bottom f) z (places f) zb g,
+        partner z w k zb b g q refl r v refl (joined-sym a k (conn-trans c (joined-kept f xs keeps d))),
+      )
+
+  one-left : (i j n : ℕ) → Partner i n → Partner j n → i ≡ j
+  one-left i j n (partner z w k zb wb bz bw ti tn vz vw c) (partner y u l yb ub by bu tj tm vy vu d) =
+      let e = tally-inject (bottom a) w u bw bu (tn ∙ sym tm) in
+      let g : l ≡ k = sym vu ∙ (ap (valueAt a) (sym e) ∙ vw) in
+      let (sz, fz, lz) = begins f z k zb bz vz in
+      let (sy, fy, ly) = begins f y k yb by (vy ∙ g) in
+      let d′ = subst (λ (h : ℕ). Joined a k y h) (sym e) (subst (λ (h : ℕ). Joined a h y u) g d) in
+      let o = keeps k .separates z y sz sy (conn-trans c (joined-sym a k d′)) in
+      let q : z ≡ y = sym fz ∙ (first-same f k o ∙ fy) in
+      sym ti ∙ (ap (λ (h : ℕ). tally (bottom f) (range 0 h)) q ∙ tj)
+
+  one-right : (i j n : ℕ) → Partner n i → Partner n j → i ≡ j
+  one-right i j n (partner z w k zb wb bz bw tn ti vz vw c) (partner y u l yb ub by bu tm tj vy vu d) =
+      let e = tally-inject (bottom f) z y bz by (tn ∙ sym tm) in
+      let g : l ≡ k = sym vy ∙ (ap (valueAt f) (sym e) ∙ vz) in
+      let (sw, fw, lw) = begins a w k wb bw vw in
+      let (su, fu, lu) = begins a u k ub bu (vu ∙ g) in
+      let d′ = subst (λ (h : ℕ). Joined a k h u) (sym e) (subst (λ (h : ℕ). Joined a h y u) g d) in
+      let o = conn-trans (joined-sym a k c) d′ in
+      let q : w ≡ u = sym fw ∙ (first-same a k o ∙ fu) in
+      sym ti ∙ (ap (λ (h : ℕ). tally (bottom a) (range 0 h)) q ∙ tj)
+
+  pub as-many : Accepted f → Accepted a → length (patches f) ≡ length (patches a)
+  as-many ok good =
+      let cf = patches-count f ok in
+      let ca = patches-count a good in
+      let x = pigeonhole (tally (bottom a) (range 0 (places f))) (length (patches f)) Partner (forth ok) (λ i j n bi bj. one-left i j n) in
+      let y =
+      pigeonhole (tally (bottom f) (range 0 (places f))) (length (patches a)) (λ i j. Partner j i) (back ok good)
+      (λ i j n bi bj. one-right i j n)
+      in
+      omega arith
+
+-- a picture and its watershed have equally many patches
+pub patches-kept : (f : Picture) → isPicture f ≡ true → length (patches f) ≡ length (patches (watershed f))
+patches-kept f h =
+    let ok = accepted-is f h in
+    let shape = watershed-shape f (ok .size) in
+    let good = accepted-is (watershed f) (demand-3 f h .accepted) in
+    as-many f (watershed f .pixels) (watershed-watered f (ok .size) .keeps) ok (subst Accepted shape good) ∙
+    ap (λ (p : Picture). length (patches p)) (sym shape)
+
+-- a node and its partner in the watershed are leaves together, of one height
+pub watershed-leaves :
+    (f : Picture) → isPicture f ≡ true → (i j : ℕ) → i < length (nodes f) → j < length (nodes (watershed f)) →
+    partners f (watershed f) (nodeAt f i) (nodeAt (watershed f) j) ≡ true →
+    (nodeAt f i .height ≡ nodeAt (watershed f) j .height) × (leafNode f i ≡ leafNode (watershed f) j)
+watershed-leaves f h i j bi =
+    let ok = accepted-is f h in
+    let shape = watershed-shape f (ok .size) in
+    subst Says (sym shape) (leaf-partners f (watershed f .pixels) (watershed-watered f (ok .size) .keeps) i j bi)
+  where
+    Says : Picture → Type 0
+    Says p =
+        j < length (nodes p) → partners f p (nodeAt f i) (nodeAt p j) ≡ true →
+        (nodeAt f i .height ≡ nodeAt p j .height) × (leafNode f i ≡ leafNode p j)
