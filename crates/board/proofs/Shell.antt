@@ -14,15 +14,18 @@ use lib.ListN.{length, getD, take, drop, replicate, length-replicate, length-app
 use lib.Seq.{length-take-le, length-front, drop-append-add, drop-drop}
 use borrow.Author.Tests.{eqb-true, eq-eqb, ne-eqb, ltb-false, leb-false, lt-ltb, le-ltb, le-leb, lt-leb}
 use Rattle.picture.specs.Lists.{pick}
-use Rattle.picture.specs.Pictures.{Picture, places, sideFits, isPicture}
+use Rattle.picture.specs.Pictures.{Picture, places, valueAt, sideFits, isPicture}
 use Rattle.picture.specs.Faults.{firstOf, when, faultOf, pictureFault}
 use Rattle.picture.proofs.Lists.{and-left, and-right}
 use Rattle.picture.proofs.Sides.{side-most, area-most}
 use Rattle.picture.proofs.Accepted.{Sound, no-fault, accepted}
 use Rattle.topology.proofs.Accepted.{at-byte}
 use Rattle.board.specs.Faults.{workFault, outputFault, placeFault}
+use Rattle.picture.specs.Patches.{patchAt}
 use Rattle.board.specs.declared.Answer.{Answer}
-use Rattle.board.specs.Calls.{over, afterCall, workAfter, Answered, Refused, Accepted}
+use Rattle.board.specs.declared.Ground.the-variants as G
+use Rattle.board.specs.declared.Queried.{Queried}
+use Rattle.board.specs.Calls.{over, afterCall, workAfter, Answered, Refused, Accepted, placeFaultOf, groundOf, QueryIs, cleared, Admits, QuerySays}
 
 -- the first of two numbers
 first-some : (f g r : ℕ) → r ≡ f → r ≢ 0 → r ≡ firstOf f g
@@ -229,3 +232,41 @@ cleared-left f n p q lent q′ z e d c =
     (ap (λ (o : List ℕ). replicate (5 * n) 0 ++ o) d ∙
     (ap (λ (i : ℕ). replicate (5 * i) 0 ++ drop (5 * i) q) e ∙
     written-over f (5 * places p) (replicate (5 * places p) 0) q _ z (length-replicate (5 * places p) 0) refl))
+
+-- the ground of a patch number that is not 0
+pub ground-patch : (n : ℕ) → n ≢ 0 → G.Patch n ≡ groundOf n
+ground-patch zero d = absurd (d refl)
+ground-patch (suc n) d = refl
+
+-- a place query without a fault, and with one
+pub admits : (p : Picture) (q : List ℕ) (x : ℕ) → placeFaultOf p q x ≡ 0 → ((i : ℕ) → getD (p .pixels) i 0 ≤ 255) → Admits p q x
+admits p q x e f =
+    let z = place-enough (p .adjacency) (p .width) (p .height) (length (p .pixels)) (length q) x e in
+    let a = admitted p (length q) (z .0) f in
+    record { accepted = a .picture; size = a .size; few = a .few; room = a .room; place = z .1 }
+
+pub refused-query : (p : Picture) (q : List ℕ) (x g : ℕ) (r : Queried) → g ≡ placeFaultOf p q x → g ≢ 0 → QueryIs g 0 0 r → QuerySays p x q q r
+refused-query p q x g r e d w =
+    let f = placeFaultOf p q x in
+    let n : eqb f 0 ≡ false = ne-eqb f 0 (λ z. d (e ∙ z)) in
+    record {
+      answer =
+          w ∙
+          (ap (λ (m : ℕ). record { number = m; value = 0; ground = groundOf 0 }) e ∙
+          sym (ap (λ (t : Bool). record { number = f; value = pick t (valueAt p x) 0; ground = groundOf (pick t (patchAt p x) 0) }) n));
+      work = refused-left f g e d _ q;
+    }
+
+pub answered-query :
+    (p : Picture) (q q′ : List ℕ) (x v m : ℕ) (r : Queried) → placeFaultOf p q x ≡ 0 → length (p .pixels) ≡ places p →
+    v ≡ valueAt p x → m ≡ patchAt p x → q′ ≡ cleared (length (p .pixels)) q → QueryIs 0 v m r → QuerySays p x q q′ r
+answered-query p q q′ x v m r z n ev em c w =
+    let f = placeFaultOf p q x in
+    record {
+      answer =
+          w ∙
+          (ap₂ (λ (a b : ℕ). record { number = 0; value = a; ground = groundOf b }) ev em ∙
+          (ap (λ (k : ℕ). record { number = k; value = valueAt p x; ground = groundOf (patchAt p x) }) (sym z) ∙
+          sym (ap (λ (t : Bool). record { number = f; value = pick t (valueAt p x) 0; ground = groundOf (pick t (patchAt p x) 0) }) (eq-eqb f 0 z))));
+      work = cleared-left f (length (p .pixels)) p q q q′ z n refl c;
+    }

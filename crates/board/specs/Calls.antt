@@ -1,16 +1,20 @@
 -- What the public calls promise: the answer, and what they leave in each lent slice.
 use mathlib.Core.Path.{_≡_}
-use mathlib.Core.Bool.{Bool}
+use mathlib.Core.Bool.{Bool, true}
 use mathlib.Core.List.{List, _++_}
-use Prim.Native.Nat.{ℕ, _*_}
+use Prim.Native.Nat.{ℕ, zero, suc, _*_, _≤_, _<_}
 use lib.Dec.{eqb}
 use lib.ListN.{length, drop, replicate}
 use Rattle.picture.specs.Lists.{pick}
-use Rattle.picture.specs.Pictures.{Picture, places}
+use Rattle.picture.specs.Pictures.{Picture, places, valueAt, isPicture}
 use Rattle.picture.specs.Components.{components, labels}
 use Rattle.picture.specs.Watersheds.{lowerable, watershed}
 use Rattle.board.specs.Faults.{outputFault, placeFault}
+use Rattle.picture.specs.Patches.{patchAt}
 use Rattle.board.specs.declared.Answer.{Answer}
+use Rattle.board.specs.declared.Ground.{Ground}
+use Rattle.board.specs.declared.Ground.the-variants as G
+use Rattle.board.specs.declared.Queried.{Queried}
 
 -- a list in front of what follows in another
 abbrev pub over : List ℕ → List ℕ → List ℕ
@@ -65,3 +69,30 @@ pub record WaterSays (p : Picture) (o o′ q q′ : List ℕ) (r : Answer) : Typ
   pub answer : Answered (outputFaultOf p o q) 0 r
   pub output : o′ ≡ afterCall (outputFaultOf p o q) (over (watershed p .pixels) o) o
   pub work : q′ ≡ workAfter (outputFaultOf p o q) p q
+
+-- where a place lies by its patch number: 0 is the line
+abbrev pub groundOf : ℕ → Ground
+groundOf zero = G.Line
+groundOf (suc n) = G.Patch (suc n)
+
+-- the record of a place query: number, value, and the line or the patch
+abbrev pub QueryIs : ℕ → ℕ → ℕ → Queried → Type 0
+QueryIs f v n r = r ≡ record { number = f; value = v; ground = groundOf n }
+
+-- work with its first 5 n entries cleared
+abbrev pub cleared : ℕ → List ℕ → List ℕ
+cleared n q = replicate {A = ℕ} (5 * n) 0 ++ drop (5 * n) q
+
+-- an accepted picture, a place of it, and work of 5 n entries at least
+pub record Admits (p : Picture) (q : List ℕ) (x : ℕ) : Type 0 where
+  pub accepted : isPicture p ≡ true
+  pub size : length (p .pixels) ≡ places p
+  pub few : places p ≤ 1600
+  pub room : 5 * length (p .pixels) ≤ length q
+  pub place : x < places p
+
+-- the pixel's value and the line or the patch's number; on a refusal the value is 0 and the ground the line
+pub record QuerySays (p : Picture) (x : ℕ) (q q′ : List ℕ) (r : Queried) : Type 0 where
+  pub answer :
+      QueryIs (placeFaultOf p q x) (pick (eqb (placeFaultOf p q x) 0) (valueAt p x) 0) (pick (eqb (placeFaultOf p q x) 0) (patchAt p x) 0) r
+  pub work : q′ ≡ workAfter (placeFaultOf p q x) p q

@@ -3,6 +3,7 @@ use faults::output_fault;
 use faults::place_fault;
 use labels::lowerable::lowerable;
 use labels::scan::label;
+use patches::cores::query;
 use picture::clearing::clear;
 use watershed::whole::watershed_core;
 
@@ -15,7 +16,8 @@ ghost use lib.ListN.{length};
 ghost use Rattle.picture.specs.Lists.{pick};
 ghost use Rattle.labels.specs.Labels.{picture};
 ghost use Rattle.board.specs.Reads.{ReadSays, PixelsSay};
-ghost use Rattle.board.specs.Calls.{Refused, Accepted, Finished, LabelsSay, LowerSays, WaterSays};
+ghost use Rattle.board.specs.Calls.{Refused, Accepted, Finished, LabelsSay, LowerSays, WaterSays, cleared, groundOf, Admits, QueryIs, QuerySays};
+ghost use Rattle.picture.specs.Patches.{patchAt};
 
 // The number of a refusal, or 0, with the refusal's place; of an accepted file the sides, the largest sample and the offset of the pixels.
 pub struct Read {
@@ -143,4 +145,62 @@ pub fn watershed_of(
     let whole = 5 * n;
     watershed_core(a, w, h, pixels, &mut out[..n], &mut work[..whole]);
     finish(work, n, 0)
+}
+
+// Where a place lies: on the line, or in the patch of a number.
+pub enum Ground {
+    Line,
+    Patch(u16),
+}
+
+// The number of a refusal, or 0 with the pixel's value and where it lies.
+pub struct Queried {
+    pub number: u8,
+    pub value: u8,
+    pub ground: Ground,
+}
+
+// Where a place of a patch number lies.
+fn ground_of(number: u16) -> Ground
+    ensures { λ r. ⌜ r ≡ groundOf number ⌝ }
+{
+    if number == 0 {
+        return Ground::Line;
+    }
+    Ground::Patch(number)
+}
+
+fn answer_query(number: u8, value: u8, patch: u16) -> Queried
+    ensures { λ r. ⌜ QueryIs number value patch r ⌝ }
+{
+    Queried {
+        number: number,
+        value: value,
+        ground: ground_of(patch),
+    }
+}
+
+// The patch number of a place, from work of 5 n entries that is cleared after it.
+fn query_cleared(a: u32, w: u32, h: u32, pixels: &[u8], place: usize, work: &mut [u16]) -> u16
+    requires { ⌜ Admits (picture a w h (now pixels)) (now work) place ⌝ }
+    ensures { λ r. ⌜ (r ≡ patchAt (picture a w h (now (pixels .entry))) place) × (now (work .exit) ≡ cleared (length (now (pixels .entry))) (now (work .entry))) ⌝ }
+{
+    let n = pixels.len();
+    let whole = 5 * n;
+    let mut cells = [0u16; 1600];
+    let number = query(a, w, h, pixels, place, &mut work[..whole], &mut cells[..n]);
+    clear(work, whole);
+    number
+}
+
+// The value of the pixel at a place, and the line or the number of its patch.
+pub fn query_place(a: u32, w: u32, h: u32, pixels: &[u8], place: u32, work: &mut [u16]) -> Queried
+    ensures { λ r. ⌜ QuerySays (picture a w h (now (pixels .entry))) place (now (work .entry)) (now (work .exit)) r ⌝ }
+{
+    let fault = place_fault(a, w, h, pixels.len(), work.len(), place);
+    if fault != 0 {
+        return answer_query(fault, 0, 0);
+    }
+    let number = query_cleared(a, w, h, pixels, place as usize, work);
+    answer_query(0, pixels[place as usize], number)
 }

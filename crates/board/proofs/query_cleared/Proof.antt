@@ -1,0 +1,68 @@
+-- `board::query_cleared` meets its contract.
+use mathlib.Core.Path.{_≡_, sym, ap, _∙_}
+use mathlib.Core.List.{List, _++_}
+use Prim.Native.Nat.{ℕ, _*_}
+use native.Mathlib.Omega.{arith}
+use lib.ListN.{length, replicate, length-replicate}
+use Rattle.patches.specs.Numbers.{Sizes}
+use Rattle.board.proofs.Shell.{lent-length, behind-lent}
+use borrow.Author.Needs.{needs}
+use Rattle.board.proofs.query_cleared.Statement.{statement}
+use Rattle.board.proofs.query_cleared.Tie as tie
+
+mul-whole : tie.Need-mul-whole
+mul-whole c = search needs
+
+slice-relend-prefix-query : tie.Need-slice-relend-prefix-query
+slice-relend-prefix-query c = search needs
+
+slice-aggregate-query : tie.Need-slice-aggregate-query
+slice-aggregate-query c = lent-length _ _ (c .before .before .before .pre .room)
+
+array-borrow-prefix-cells : tie.Need-array-borrow-prefix-cells
+array-borrow-prefix-cells c = search needs
+
+slice-aggregate-query-2 : tie.Need-slice-aggregate-query-2
+slice-aggregate-query-2 c =
+    let p = c .before .before .before .before .pre in
+    lent-length _ (replicate {A = ℕ} 1600 0) (omega (arith, p .size, p .few, length-replicate {A = ℕ} 1600 0))
+
+query-requires : tie.Need-query-requires
+query-requires c κs =
+    let s = c .before .before .before .before in
+    let p = s .pre in
+    let n = length (s .args .pixels .now) in
+    let a = lent-length (5 * n) (s .args .work .now) (p .room) in
+    let b = lent-length n (replicate {A = ℕ} 1600 0) (omega (arith, p .size, p .few, length-replicate {A = ℕ} 1600 0)) in
+    (p .accepted, record { few = p .few; blocks = omega (arith, p .size, a); beside = sym b ∙ p .size }, p .place)
+
+clear-requires : tie.Need-clear-requires
+clear-requires c κs = search needs
+
+same-length : tie.Need-same-length
+same-length c = search needs
+
+returns : tie.Need-returns
+returns c =
+    let s = c .before .before .before .before .before .before .before .before .before .before .before .before in
+    let q = c .before .before .before .before .before .before .before .query in
+    let n = length (s .args .pixels .now) in (
+      q .ensures,
+      c .before .before .clear .ensures ∙
+          ap (λ (l : List ℕ). replicate {A = ℕ} (5 * n) 0 ++ l)
+          (behind-lent (5 * n) (5 * n) (q .last .1 .1 .1 .1 .1 .0) (s .args .work .now) (q .kept .1 .1 .1 .1 .1 .0) (omega arith) (s .pre .room)),
+    )
+
+pub query-cleared-spec : {M : Type 1} → statement M
+query-cleared-spec =
+    tie.close
+    (tie.spec
+    mul-whole
+    slice-relend-prefix-query
+    slice-aggregate-query
+    array-borrow-prefix-cells
+    slice-aggregate-query-2
+    query-requires
+    clear-requires
+    same-length
+    returns)
