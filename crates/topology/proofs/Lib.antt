@@ -36,3 +36,4 @@ pub mod Mapped
 pub mod Buckets
 pub mod Settling
 pub mod Checks
+pub mod Looks

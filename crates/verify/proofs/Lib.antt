@@ -1,0 +1,3 @@
+-- Laws of the check of a lent tree.
+pub mod Answers
+pub mod Places

@@ -1,0 +1,2 @@
+-- What the check of a lent tree promises.
+pub mod Lent

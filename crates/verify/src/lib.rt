@@ -1,0 +1,2 @@
+// The check of a lent component tree.
+pub mod look;
