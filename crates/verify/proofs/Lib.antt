@@ -1,3 +1,5 @@
 -- Laws of the check of a lent tree.
 pub mod Answers
 pub mod Places
+pub mod Counted
+pub mod Matched

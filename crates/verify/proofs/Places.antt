@@ -93,6 +93,14 @@ module _ (p : Picture) where
       omega arith))
       (λ g. omega arith)
 
+  -- before the first number of height k, heights are below k
+  pub before-is : (k i : ℕ) → i < soFar p k → i < length (nodes p) → nodeAt p i .height < k
+  before-is k i h b =
+      let s = node-stands i b in
+      by-cases (decLt (nodeAt p i .height) k)
+      (λ g. g)
+      (λ g. absurd (let a = so-mono k (nodeAt p i .height) (omega arith) in let e = s .is in omega arith))
+
   -- first places rise within a height
   pub firsts-rise :
       (k i j : ℕ) → i < j → j < length (nodes p) → nodeAt p i .height ≡ k → nodeAt p j .height ≡ k → nodeAt p i .first < nodeAt p j .first
