@@ -24,36 +24,8 @@ use Rattle.topology.proofs.Numbering.{soFar, so-few, Member, Listed, Numbered, 
 use Rattle.topology.proofs.Forests.{Forest, Found, Parents, forest-parents, root-cell, forest-state}
 use Rattle.topology.proofs.Checks.{Agree, Checking}
 use Rattle.verify.specs.Lent.{IsTree}
+use Rattle.verify.specs.Steps.{Run, Counted, Fits}
 use Rattle.verify.proofs.Places.{height-least, firsts-rise}
-
--- the lent heights from c on, before d, are k, and d is the count or has another
-pub record Run (k c d count : ℕ) (hs : List ℕ) : Type 0 where
-  pub order : c ≤ d
-  pub most : d ≤ count
-  pub same : (i : ℕ) → c ≤ i → i < d → getD hs i 0 ≡ k
-  pub ends : d < count → getD hs d 0 ≢ k
-
--- the lent first places from c on, before i, are new roots, rising, and have their numbers
-pub record Counted (p : Picture) (k c i : ℕ) (l fs ss m : List ℕ) : Type 0 where
-  pub ok : Accepted p
-  pub low : k ≤ 255
-  pub count : c ≡ soFar p k
-  pub fa : ℕ → ℕ
-  pub agree : Agree fa fs m
-  pub root : ℕ → ℕ
-  pub st : ℕ → ℕ
-  pub new : ℕ → ℕ
-  pub size : length l ≡ places p
-  pub forest : Forest l root new
-  pub level : Level p k c root st fa
-  pub edges : Edges p k (places p) root
-  pub order : c ≤ i
-  pub rising : (a b : ℕ) → c ≤ a → a < b → b < i → getD ss a 0 < getD ss b 0
-  pub place : (j : ℕ) → c ≤ j → j < i → At p k (getD ss j 0)
-  pub fixed : (j : ℕ) → c ≤ j → j < i → root (getD ss j 0) ≡ getD ss j 0
-  pub free : (j : ℕ) → c ≤ j → j < i → 65534 ≤ st (getD ss j 0)
-  pub named : (j : ℕ) → c ≤ j → j < i → new (getD ss j 0) ≡ 2048 + j
-  pub either : (y : ℕ) → y < places p → root y ≡ y → Member (λ j. getD ss j 0) c i y ⊎ (new y ≡ st y)
 
 pub counted-start : (p : Picture) (k c : ℕ) (l fs ss m : List ℕ) → k ≤ 255 → c ≡ soFar p k → Checking p k (places p) l fs m → Counted p k c c l fs ss m
 counted-start p k c l fs ss m low e s =
@@ -78,13 +50,6 @@ counted-start p k c l fs ss m low e s =
       named = λ j h g. absurd (omega arith);
       either = λ y b r. inr refl;
     }
-
--- the tests that the lent first place f of the node i passes; before is the one in front of it
-pub record Fits (p : Picture) (k c i : ℕ) (l ss : List ℕ) : Type 0 where
-  pub within : getD ss i 0 < places p
-  pub low : valueAt p (getD ss i 0) ≤ k
-  pub above : c < i → getD ss (i - 1) 0 < getD ss i 0
-  pub free : 65534 ≤ getD l (getD ss i 0) 0
 
 module _ (p : Picture) (k c i : ℕ) (l fs ss m : List ℕ) (s : Counted p k c i l fs ss m) where
   pub counted-turn : i < 1600 → Fits p k c i l ss → Counted p k c (i + 1) (set l (getD ss i 0) (2048 + i)) fs ss m

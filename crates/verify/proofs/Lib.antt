@@ -3,3 +3,5 @@ pub mod Answers
 pub mod Places
 pub mod Counted
 pub mod Matched
+pub mod Steps
+pub mod Verified

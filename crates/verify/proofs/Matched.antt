@@ -21,20 +21,14 @@ use Rattle.topology.proofs.Reached.{firstAt}
 use Rattle.topology.proofs.Branches.{own-pixel}
 use Rattle.topology.proofs.Nodes.{node, number-found, nodes-few, heights-rise}
 use Rattle.topology.proofs.Descent.{under, map-under, under-is}
-use Rattle.topology.proofs.Climb.{root-is, last-root}
+use Rattle.topology.proofs.Fathers.{map-found}
 use Rattle.topology.proofs.Levels.{Level, Upto, Edges}
 use Rattle.topology.proofs.Numbering.{soFar, so-all, so-few, so-none, Member, Listed, Numbered, joined-root, root-first, free-fork, number-new, count-next, next-level, named-all, edges-next, level-start, edges-start, LastFather, missing, pixel, last-father}
 use Rattle.topology.proofs.Forests.{Forest, Found, Parents, forest-parents}
 use Rattle.topology.proofs.Checks.{Differs, Agree, Checking}
 use Rattle.verify.specs.Lent.{IsTree}
+use Rattle.verify.specs.Steps.{Run, Counted, Matched}
 use Rattle.verify.proofs.Places.{height-least, before-is}
-use Rattle.verify.proofs.Counted.{Run, Counted}
-
--- the lent map of the pixels of height k before x agrees with the numbers
-pub record Matched (p : Picture) (k c d x : ℕ) (l fs ss m : List ℕ) : Type 0 where
-  pub counted : Counted p k c d l fs ss m
-  pub few : (y : ℕ) → y < places p → valueAt p y ≡ k → y < x → counted .new (counted .root y) < 65534
-  pub same : (y : ℕ) → y < places p → valueAt p y ≡ k → y < x → counted .new (counted .root y) ≡ 2048 + getD m y 0
 
 pub matched-start : (p : Picture) (k c d : ℕ) (l fs ss m : List ℕ) → Counted p k c d l fs ss m → Matched p k c d 0 l fs ss m
 matched-start p k c d l fs ss m s =
@@ -208,3 +202,18 @@ tree-complete p k c d count l hs fs ss m s run tree y at r h =
         let b = heights-rise p d i (omega arith) num in
         let z = tree .heights d dn in
         run .ends (omega arith) (omega arith)))
+
+-- under the tree a pixel's root says its lent node
+pub matched-cell :
+    (p : Picture) (k c d x r : ℕ) (l o fs ss m : List ℕ) (s : Matched p k c d x l fs ss m) (f : Found l x r o) (b : x < places p) (value : valueAt p x ≡ k) →
+    (count : ℕ) (hs : List ℕ) → Run k c d count hs → IsTree p count hs fs ss m → (getD o r 0 ≡ 2048 + getD m x 0) × (getD m x 0 < 1600)
+matched-cell p k c d x r l o fs ss m s f b value count hs run tree =
+    let g = s .counted in
+    let e = says p k c d l fs ss m g (tree-complete p k c d count l hs fs ss m g run tree) x (record { within = b; low = omega arith }) in
+    let q = cell p k c d x r l o fs ss m s f b value in
+    let h : mapOf p x ≡ under p k x = map-under p x ∙ ap (λ (j : ℕ). under p j x) value in
+    let t = tree .map x b in
+    let n = map-found p (g .ok) x b in
+    let few = nodes-few p in
+    let most = places-bound p (g .ok) in
+    (omega arith, omega arith)

@@ -1,2 +1,3 @@
 -- What the check of a lent tree promises.
 pub mod Lent
+pub mod Steps
