@@ -5,3 +5,4 @@ pub mod Counted
 pub mod Matched
 pub mod Steps
 pub mod Verified
+pub mod Heights

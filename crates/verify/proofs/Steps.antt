@@ -179,3 +179,51 @@ module _ (pixels : List ℕ) (k x v : ℕ) (l m : List ℕ) (b : x < length l) (
           yes = λ z. absurd (clash z refl);
           never = λ z p c d′ fs ss g s count hs run tree. let a = tree-cell p c d′ fs ss g s count hs run tree .0 in d (omega arith);
         }
+
+-- the lent map of the pixels before x is checked
+pub record Mapping (pixels : List ℕ) (k x : ℕ) (o m l : List ℕ) : Type 0 where
+  pub size : length l ≡ length o
+  pub most : x ≤ length o
+  pub from :
+      (p : Picture) (c d : ℕ) (fs ss : List ℕ) → p .pixels ≡ pixels → Matched p k c d 0 o fs ss m → Matched p k c d x l fs ss m
+
+pub mapping-start : (pixels : List ℕ) (k : ℕ) (l m : List ℕ) → Mapping pixels k 0 l m l
+mapping-start pixels k l m = record { size = refl; most = omega arith; from = λ p c d fs ss e s. s }
+
+pub mapping-ready : (pixels : List ℕ) (k x : ℕ) (o m l : List ℕ) → MapReady pixels k 0 o m → Mapping pixels k x o m l → Parents l
+mapping-ready pixels k x o m l r s =
+    forest-parents (s .from (r .p) (r .c) (r .d) (r .fs) (r .ss) (r .is) (r .matched) .counted .forest)
+
+pub mapping-turn :
+    (pixels : List ℕ) (k x : ℕ) (o m l u : List ℕ) (b : Bool) → Mapping pixels k x o m l → x < length l → MapChecked pixels k x (x + 1) l m u b → b ≡ true →
+    length u ≡ length l → Mapping pixels k (x + 1) o m u
+mapping-turn pixels k x o m l u b s h t e z =
+    let a = s .size in
+    record {
+      size = z ∙ s .size;
+      most = omega arith;
+      from = λ p c d fs ss g q. t .yes e p c d fs ss g (s .from p c d fs ss g q);
+    }
+
+pub mapping-fails :
+    (pixels : List ℕ) (k x : ℕ) (o m l u : List ℕ) (b : Bool) → Mapping pixels k x o m l → MapChecked pixels k x (x + 1) l m u b → b ≡ false →
+    MapChecked pixels k 0 (length o) o m u false
+mapping-fails pixels k x o m l u b s t e =
+    record {
+      yes = λ q. absurd (clash q refl);
+      never = λ q p c d fs ss g i. t .never e p c d fs ss g (s .from p c d fs ss g i);
+    }
+
+pub mapping-end : (pixels : List ℕ) (k x : ℕ) (o m l : List ℕ) → Mapping pixels k x o m l → length l ≤ x → MapChecked pixels k 0 (length o) o m l true
+mapping-end pixels k x o m l s h =
+    let a = s .size in
+    let b = s .most in
+    record {
+      yes =
+          λ q p c d fs ss g i.
+          subst (λ (z : ℕ). Matched p k c d z l fs ss m) (let e : x ≡ length o = omega arith in e) (s .from p c d fs ss g i);
+      never = λ q. absurd (clash refl q);
+    }
+
+pub fit-is : {pixels : List ℕ} {k c i : ℕ} {l ss : List ℕ} {a b : Bool} → a ≡ b → Fit pixels k c i l ss a → Fit pixels k c i l ss b
+fit-is {pixels} {k} {c} {i} {l} {ss} e h = subst (Fit pixels k c i l ss) e h

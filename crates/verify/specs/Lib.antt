@@ -1,3 +1,4 @@
 -- What the check of a lent tree promises.
 pub mod Lent
 pub mod Steps
+pub mod Heights

@@ -1,3 +1,6 @@
+use Rattle.verify.proofs.Steps.{Running, running-start, running-turn, running-stop, running-end}
+use native.Mathlib.Omega.{arith}
+use Prim.Native.Nat.{ℕ, _-_, _+_, _*_, _≤_}
 use borrow.Author.Needs.{needs}
 use Rattle.verify.proofs.nodes.run_end.Statement.{statement}
 use Rattle.verify.proofs.nodes.run_end.Tie as tie
@@ -6,14 +9,14 @@ use Rattle.verify.proofs.nodes.run_end.Lts as lts
 use Rattle.tree.proofs.absorb.height.Reads as height-reads
 
 abbrev Inv-loop : tie.InvT-loop
-Inv-loop heights k c count i₀ i = ?
+Inv-loop heights k c count i₀ i = Running k c i heights × (i ≤ count)
 
 abbrev μ-loop : tie.MeasureT-loop
-μ-loop heights k c count i₀ i = ?
+μ-loop heights k c count i₀ i = count - i
 
 -- src/nodes.rt:17:5
 loop-holds : tie.Need-loop-holds Inv-loop μ-loop
-loop-holds c = search needs
+loop-holds c = (running-start _ _ _, c .before .pre .0)
 
 -- src/nodes.rt:18:19
 shared-slice-read-height : tie.Need-shared-slice-read-height Inv-loop μ-loop
@@ -25,7 +28,7 @@ height-requires c κs = search needs
 
 -- src/nodes.rt:19:13
 returns : tie.Need-returns Inv-loop μ-loop
-returns c = search needs
+returns c = running-stop _ _ _ _ _ _ (c .before .before .before .before .loop .inv .0) (c .before .before .before .loop-test .taken) (c .before .height .ensures) (c .if1 .taken)
 
 -- src/nodes.rt:21:9
 add-i : tie.Need-add-i Inv-loop μ-loop
@@ -37,11 +40,11 @@ loop-less c = search needs
 
 -- src/nodes.rt:17:5
 loop-again : tie.Need-loop-again Inv-loop μ-loop
-loop-again c = search needs
+loop-again c = (running-turn _ _ _ _ _ (c .before .before .before .before .loop .inv .0) (c .before .height .ensures) (c .if1 .left), search needs)
 
 -- src/nodes.rt:12:1
 returns-2 : tie.Need-returns-2 Inv-loop μ-loop
-returns-2 c = search needs
+returns-2 c = running-end _ _ _ _ _ (c .before .loop .inv .0) (c .before .loop .inv .1) (c .loop-test .left)
 
 pub run-end-spec : {M : Type 1} → statement M
 run-end-spec =
