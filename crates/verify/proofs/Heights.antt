@@ -169,3 +169,42 @@ module _ (p : Picture) (count : ℕ) (hs fs ss m : List ℕ) where
       pub says-tree : getD fs (count - 1) 0 ≡ 65535 → Says p count hs fs ss m true
       says-tree q =
           record { yes = λ z. verified-tree p count l hs fs ss m verified q; never = λ z. absurd (clash refl z) }
+
+pub sizes-at : (n : ℕ) (xs hs fs ss m o l : List ℕ) → length l ≡ length o → Sizes n xs hs fs ss m o → Sizes n xs hs fs ss m l
+sizes-at n xs hs fs ss m o l e s =
+    record {
+      count = let a = s .count in omega arith;
+      few = let a = s .few in omega arith;
+      pixels = let a = s .pixels in omega arith;
+      heights = let a = s .heights in omega arith;
+      fathers = let a = s .fathers in omega arith;
+      firsts = let a = s .firsts in omega arith;
+      map = let a = s .map in omega arith;
+    }
+
+pub sizes-of :
+    (p : Picture) (n : ℕ) (hs fs ss m l : List ℕ) → isPicture p ≡ true → length l ≡ places p → n ≤ length l → places p ≤ length hs → places p ≤ length fs →
+    places p ≤ length ss → places p ≤ length m → Sizes n (p .pixels) hs fs ss m l
+sizes-of p n hs fs ss m l ok e h a b c d =
+    let k = accepted-is p ok in
+    let few = places-bound p k in
+    let size = k .size in
+    record {
+      count = h;
+      few = omega arith;
+      pixels = omega arith;
+      heights = omega arith;
+      fathers = omega arith;
+      firsts = omega arith;
+      map = omega arith;
+    }
+
+pub level-stop : (p : Picture) (k count : ℕ) (l hs fs ss m : List ℕ) (d : ℕ) → LevelChecked p k count l hs fs ss m d → count < d → LevelChecked p 255 count l hs fs ss m d
+level-stop p k count l hs fs ss m d s h = record { yes = λ g. absurd (omega arith); never = s .never }
+
+pub level-all : (p : Picture) (k c count : ℕ) (l hs fs ss m : List ℕ) → Verified p k c count l hs fs ss m → k ≡ 256 → LevelChecked p 255 count l hs fs ss m c
+level-all p k c count l hs fs ss m v e =
+    record {
+      yes = λ g. subst (λ (j : ℕ). Verified p j c count l hs fs ss m) e v;
+      never = λ g. absurd (let a = v .most in omega arith);
+    }

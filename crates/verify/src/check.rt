@@ -25,7 +25,20 @@ fn fresh(cells: &mut [u16])
 }
 
 // The height k: answers the number of nodes up to it, or more than the count if the lists are not the tree.
-fn check_level(a: u32, w: u32, h: u32, pixels: &[u8], count: usize, heights: &[u8], fathers: &[u16], firsts: &[u16], map: &[u16], cells: &mut [u16], k: usize, c: usize) -> usize
+fn check_level(
+    a: u32,
+    w: u32,
+    h: u32,
+    pixels: &[u8],
+    count: usize,
+    heights: &[u8],
+    fathers: &[u16],
+    firsts: &[u16],
+    map: &[u16],
+    cells: &mut [u16],
+    k: usize,
+    c: usize,
+) -> usize
     requires { ⌜ Verified (pictureOf a w h (now pixels)) k c count (now cells) (now heights) (now fathers) (now firsts) (now map) × (k < 256) ⌝ }
     requires { ⌜ Sizes count (now pixels) (now heights) (now fathers) (now firsts) (now map) (now cells) ⌝ }
     ensures { λ d. ⌜ LevelChecked (pictureOf a w h (now (pixels .entry))) k count (now (cells .exit)) (now (heights .entry)) (now (fathers .entry)) (now (firsts .entry)) (now (map .entry)) d ⌝ }
@@ -44,7 +57,18 @@ fn check_level(a: u32, w: u32, h: u32, pixels: &[u8], count: usize, heights: &[u
 }
 
 // All heights: answers the number of nodes, or more than the count if the lists are not the tree.
-fn check_levels(a: u32, w: u32, h: u32, pixels: &[u8], count: usize, heights: &[u8], fathers: &[u16], firsts: &[u16], map: &[u16], cells: &mut [u16]) -> usize
+fn check_levels(
+    a: u32,
+    w: u32,
+    h: u32,
+    pixels: &[u8],
+    count: usize,
+    heights: &[u8],
+    fathers: &[u16],
+    firsts: &[u16],
+    map: &[u16],
+    cells: &mut [u16],
+) -> usize
     requires { ⌜ Verified (pictureOf a w h (now pixels)) 0 0 count (now cells) (now heights) (now fathers) (now firsts) (now map) ⌝ }
     requires { ⌜ Sizes count (now pixels) (now heights) (now fathers) (now firsts) (now map) (now cells) ⌝ }
     ensures { λ d. ⌜ LevelChecked (pictureOf a w h (now (pixels .entry))) 255 count (now (cells .exit)) (now (heights .entry)) (now (fathers .entry)) (now (firsts .entry)) (now (map .entry)) d ⌝ }
@@ -52,7 +76,20 @@ fn check_levels(a: u32, w: u32, h: u32, pixels: &[u8], count: usize, heights: &[
     let mut c = 0;
     let mut k = 0;
     while k < 256 {
-        c = check_level(a, w, h, pixels, count, heights, fathers, firsts, map, cells, k, c);
+        c = check_level(
+            a,
+            w,
+            h,
+            pixels,
+            count,
+            heights,
+            fathers,
+            firsts,
+            map,
+            cells,
+            k,
+            c,
+        );
         if count < c {
             return c;
         }
@@ -62,7 +99,18 @@ fn check_levels(a: u32, w: u32, h: u32, pixels: &[u8], count: usize, heights: &[
 }
 
 // The lent lists are the tree of an accepted picture of n places; exactly n cells serve the union-find.
-fn is_tree_exactly(a: u32, w: u32, h: u32, pixels: &[u8], count: usize, heights: &[u8], fathers: &[u16], firsts: &[u16], map: &[u16], cells: &mut [u16]) -> bool
+fn is_tree_exactly(
+    a: u32,
+    w: u32,
+    h: u32,
+    pixels: &[u8],
+    count: usize,
+    heights: &[u8],
+    fathers: &[u16],
+    firsts: &[u16],
+    map: &[u16],
+    cells: &mut [u16],
+) -> bool
     requires { ⌜ isPicture (pictureOf a w h (now pixels)) ≡ true ⌝ }
     requires { ⌜ (length (now cells) ≡ w * h) × (w * h ≤ length (now heights)) × (w * h ≤ length (now fathers)) × (w * h ≤ length (now firsts)) × (w * h ≤ length (now map)) ⌝ }
     ensures { λ r. ⌜ Says (pictureOf a w h (now (pixels .entry))) count (now (heights .entry)) (now (fathers .entry)) (now (firsts .entry)) (now (map .entry)) r ⌝ }

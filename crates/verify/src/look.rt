@@ -37,7 +37,14 @@ fn hang(cells: &mut [u16], lo: usize, hi: usize, state: u16)
 }
 
 // Links two roots at the pixel x, unless a lent father differs.
-fn check_join(fathers: &[u16], map: &[u16], cells: &mut [u16], lo: usize, hi: usize, x: usize) -> bool
+fn check_join(
+    fathers: &[u16],
+    map: &[u16],
+    cells: &mut [u16],
+    lo: usize,
+    hi: usize,
+    x: usize,
+) -> bool
     requires { ⌜ (lo < hi) × (hi < length (now cells)) × (length (now cells) ≤ 1600) × (x < length (now cells)) ⌝ }
     requires { ⌜ Names (length (now cells)) (getD (now cells) lo 0) × Names (length (now cells)) (getD (now cells) hi 0) ⌝ }
     requires { ⌜ (length (now cells) ≤ length (now fathers)) × (length (now cells) ≤ length (now map)) ⌝ }
@@ -64,7 +71,16 @@ fn check_join(fathers: &[u16], map: &[u16], cells: &mut [u16], lo: usize, hi: us
 }
 
 // Joins the place x, whose root is r, to its neighbour y if y comes before x: answers the root, or the number of cells if a lent father differs.
-fn check_edge(pixels: &[u8], fathers: &[u16], map: &[u16], cells: &mut [u16], k: usize, x: usize, r: usize, y: usize) -> usize
+fn check_edge(
+    pixels: &[u8],
+    fathers: &[u16],
+    map: &[u16],
+    cells: &mut [u16],
+    k: usize,
+    x: usize,
+    r: usize,
+    y: usize,
+) -> usize
     requires { ⌜ LookReady (now pixels) k x r y (now cells) (now fathers) (now map) ⌝ }
     requires { ⌜ (length (now cells) ≤ length (now fathers)) × (length (now cells) ≤ length (now map)) ⌝ }
     ensures { λ q. ⌜ Looked (now (pixels .entry)) k x r y (now (cells .entry)) (now (fathers .entry)) (now (map .entry)) q (now (cells .exit)) ⌝ }
@@ -89,7 +105,17 @@ fn check_edge(pixels: &[u8], fathers: &[u16], map: &[u16], cells: &mut [u16], k:
 }
 
 // Joins the place x, if it has the value k, to its neighbours that come before it, unless a lent father differs.
-fn check_pixel(a: u32, w: u32, h: u32, pixels: &[u8], fathers: &[u16], map: &[u16], cells: &mut [u16], k: usize, x: usize) -> bool
+fn check_pixel(
+    a: u32,
+    w: u32,
+    h: u32,
+    pixels: &[u8],
+    fathers: &[u16],
+    map: &[u16],
+    cells: &mut [u16],
+    k: usize,
+    x: usize,
+) -> bool
     requires { ⌜ Checking (pictureOf a w h (now pixels)) k x (now cells) (now fathers) (now map) × (x < length (now cells)) × (x < length (now pixels)) ⌝ }
     requires { ⌜ (length (now cells) ≤ length (now fathers)) × (length (now cells) ≤ length (now map)) ⌝ }
     ensures { λ r. ⌜ Passed (pictureOf a w h (now (pixels .entry))) k (x + 1) (now (cells .exit)) (now (fathers .entry)) (now (map .entry)) r ⌝ }
@@ -112,7 +138,16 @@ fn check_pixel(a: u32, w: u32, h: u32, pixels: &[u8], fathers: &[u16], map: &[u1
 }
 
 // The pixels of value k join the classes, unless a lent father differs.
-pub fn check_pixels(a: u32, w: u32, h: u32, pixels: &[u8], fathers: &[u16], map: &[u16], cells: &mut [u16], k: usize) -> bool
+pub fn check_pixels(
+    a: u32,
+    w: u32,
+    h: u32,
+    pixels: &[u8],
+    fathers: &[u16],
+    map: &[u16],
+    cells: &mut [u16],
+    k: usize,
+) -> bool
     requires { ⌜ Checking (pictureOf a w h (now pixels)) k 0 (now cells) (now fathers) (now map) ⌝ }
     requires { ⌜ (length (now cells) ≤ length (now fathers)) × (length (now cells) ≤ length (now map)) × (length (now cells) ≤ length (now pixels)) ⌝ }
     ensures { λ r. ⌜ Passed (pictureOf a w h (now (pixels .entry))) k (w * h) (now (cells .exit)) (now (fathers .entry)) (now (map .entry)) r ⌝ }

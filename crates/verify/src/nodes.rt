@@ -48,7 +48,14 @@ fn node_fits(pixels: &[u8], firsts: &[u16], cells: &[u16], k: usize, c: usize, i
 }
 
 // The lent first places from c on, before d, are new roots of height k, rising; each gets its number.
-pub fn check_nodes(pixels: &[u8], firsts: &[u16], cells: &mut [u16], k: usize, c: usize, d: usize) -> bool
+pub fn check_nodes(
+    pixels: &[u8],
+    firsts: &[u16],
+    cells: &mut [u16],
+    k: usize,
+    c: usize,
+    d: usize,
+) -> bool
     requires { ⌜ CountReady (now pixels) k c (now cells) (now firsts) × (c ≤ d) × (d ≤ length (now cells)) × (length (now cells) ≤ 1600) ⌝ }
     requires { ⌜ (length (now cells) ≤ length (now firsts)) × (length (now cells) ≤ length (now pixels)) ⌝ }
     ensures { λ r. ⌜ NodesChecked (now (pixels .entry)) k c d (now (cells .entry)) (now (firsts .entry)) (now (cells .exit)) r ⌝ }

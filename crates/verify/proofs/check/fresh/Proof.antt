@@ -1,3 +1,8 @@
+use Rattle.verify.proofs.Heights.{fresh-start, fresh-turn}
+use Rattle.verify.specs.Heights.{Fresh}
+use lib.ListN.{length}
+use native.Mathlib.Omega.{arith}
+use Prim.Native.Nat.{ℕ, _-_, _+_, _*_, _≤_}
 use borrow.Author.Needs.{needs}
 use Rattle.verify.proofs.check.fresh.Statement.{statement}
 use Rattle.verify.proofs.check.fresh.Tie as tie
@@ -5,14 +10,14 @@ use Rattle.verify.proofs.check.fresh.Reads as reads
 use Rattle.verify.proofs.check.fresh.Lts as lts
 
 abbrev Inv-loop : tie.InvT-loop
-Inv-loop cells₀ i₀ cells i = ?
+Inv-loop cells₀ i₀ cells i = Fresh i cells₀ cells
 
 abbrev μ-loop : tie.MeasureT-loop
-μ-loop cells₀ i₀ cells i = ?
+μ-loop cells₀ i₀ cells i = length cells₀ - i
 
 -- src/check.rt:21:5
 loop-holds : tie.Need-loop-holds Inv-loop μ-loop
-loop-holds c = search needs
+loop-holds c = fresh-start _
 
 -- src/check.rt:22:9
 mul-cells : tie.Need-mul-cells Inv-loop μ-loop
@@ -28,11 +33,11 @@ add-i c = search needs
 
 -- src/check.rt:21:5
 loop-less : tie.Need-loop-less Inv-loop μ-loop
-loop-less c = search needs
+loop-less c = omega (arith, c .before .loop .inv .size, c .loop-test .taken)
 
 -- src/check.rt:21:5
 loop-again : tie.Need-loop-again Inv-loop μ-loop
-loop-again c = search needs
+loop-again c = fresh-turn _ _ _ (c .before .loop .inv) (c .loop-test .taken)
 
 -- src/check.rt:17:1
 same-length : tie.Need-same-length Inv-loop μ-loop
@@ -40,7 +45,8 @@ same-length c = search needs
 
 -- src/check.rt:17:1
 returns : tie.Need-returns Inv-loop μ-loop
-returns c = search needs
+returns c = let i = c .before .loop .inv in
+    record { size = i .size; cell = λ j h. i .cell j (omega (arith, i .size, c .loop-test .left, h)) }
 
 pub fresh-spec : {M : Type 1} → statement M
 fresh-spec =
