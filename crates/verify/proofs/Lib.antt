@@ -6,3 +6,4 @@ pub mod Matched
 pub mod Steps
 pub mod Verified
 pub mod Heights
+pub mod Climbs

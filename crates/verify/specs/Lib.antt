@@ -2,3 +2,4 @@
 pub mod Lent
 pub mod Steps
 pub mod Heights
+pub mod Climbs
