@@ -58,3 +58,4 @@ pub mod Mapped
 pub mod Buckets
 pub mod Settling
 pub mod Checks
+pub mod Looks

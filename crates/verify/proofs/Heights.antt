@@ -1,0 +1,210 @@
+-- A height of the check, all heights, and their start.
+use mathlib.Core.Path.{_≡_, refl, sym, ap, subst, _∙_}
+use mathlib.Core.Bool.{Bool, true, false}
+use mathlib.Core.Logic.{_⊎_, inl, inr, ⊎-elim, by-cases, _≢_}
+use mathlib.Core.List.{List}
+use Prim.Native.Nat.{ℕ, suc, _+_, _-_, _*_, _≤_, _<_}
+use native.Mathlib.Nat.{mul-pos}
+use native.Mathlib.Numerals.{add-one}
+use native.Mathlib.Decide.{ℕ-discrete, decLt}
+use native.Mathlib.Omega.{arith}
+use lib.ListN.{length, getD, set, length-set}
+use lib.Seq.{getD-set-same, getD-set-other}
+use Rattle.picture.specs.Pictures.{Picture, places, valueAt, isPicture}
+use Rattle.picture.specs.Trees.{nodes, nodeAt}
+use Rattle.topology.proofs.Tests.{clash}
+use Rattle.topology.proofs.Accepted.{Accepted, accepted-is, byte-at, places-bound}
+use Rattle.topology.proofs.Nodes.{nodes-few}
+use Rattle.topology.proofs.Descent.{under-is}
+use Rattle.topology.proofs.Levels.{Level}
+use Rattle.topology.proofs.Numbering.{so-none, level-start, edges-start}
+use Rattle.topology.proofs.Checks.{Checking}
+use Rattle.topology.proofs.Looks.{Passed}
+use Rattle.verify.specs.Lent.{IsTree, Says}
+use Rattle.verify.specs.Steps.{Run, Counted, Matched, CountReady, NodesChecked, MapReady, MapChecked, Verified}
+use Rattle.verify.specs.Heights.{Sizes, LevelChecked, Fresh}
+use Rattle.verify.proofs.Counted.{counted-start}
+use Rattle.verify.proofs.Matched.{matched-start}
+use Rattle.verify.proofs.Verified.{differs-tree, verified-next, verified-tree, tree-ends}
+
+pub fresh-start : (l : List ℕ) → Fresh 0 l l
+fresh-start l = record { size = refl; cell = λ j h. absurd (omega arith) }
+
+pub fresh-turn : (i : ℕ) (o l : List ℕ) → Fresh i o l → i < length l → Fresh (i + 1) o (set l i 65535)
+fresh-turn i o l s b =
+    record {
+      size = length-set l i 65535 ∙ s .size;
+      cell =
+          λ j h.
+          by-cases (ℕ-discrete j i)
+          (λ e. ap (λ (z : ℕ). getD (set l i 65535) z 0) e ∙ getD-set-same l i 65535 0 b)
+          (λ e. getD-set-other l i j 65535 0 e ∙ s .cell j (omega arith));
+    }
+
+module _ (p : Picture) (count : ℕ) (hs fs ss m : List ℕ) where
+  pub verified-start : (i : ℕ) (o l : List ℕ) → isPicture p ≡ true → length o ≡ places p → Fresh i o l → length l ≤ i → Verified p 0 0 count l hs fs ss m
+  verified-start i o l ok size f b =
+      record {
+        checking =
+            record {
+              ok = accepted-is p ok;
+              fa = λ j. 65535;
+              classes =
+                  record {
+                    root = λ y. y;
+                    st = λ y. 65535;
+                    size = f .size ∙ size;
+                    forest =
+                        record {
+                          below = λ y c. omega arith;
+                          less = λ y c h. absurd (let e = f .cell y (omega arith) in omega arith);
+                          up = λ y c h. absurd (let e = f .cell y (omega arith) in omega arith);
+                          top = λ y c h. refl;
+                          state = λ y c h. f .cell y (omega arith);
+                        };
+                    level = subst (λ (c : ℕ). Level p 0 c (λ y. y) (λ y. 65535) (λ j. 65535)) (sym (so-none p)) (level-start p (λ j. 65535));
+                    edges = edges-start p (λ y. y);
+                  };
+              agree = record { same = λ j h. inl refl };
+            };
+        number = sym (so-none p);
+        most = omega arith;
+        heights = λ j h. absurd (omega arith);
+        firsts = λ j h. absurd (omega arith);
+        map = λ y c h. absurd (omega arith);
+      }
+
+  module _ (k c : ℕ) (l : List ℕ) (v : Verified p k c count l hs fs ss m) where
+    pub level-differs : (z : ℕ) (o : List ℕ) (x : ℕ) (b : Bool) → z ≡ count + 1 → Passed p k x o fs m b → b ≡ false → LevelChecked p k count o hs fs ss m z
+    level-differs z o x b e s q =
+        record {
+          yes = λ h. absurd (omega arith);
+          never = λ h t. differs-tree p count hs fs ss m (s .never q) t;
+        }
+
+    module _ (low : k < 256) (o : List ℕ) (x : ℕ) (b : Bool) (s : Passed p k x o fs m b) (q : b ≡ true) (all : x ≡ places p) where
+      checked : Checking p k (places p) o fs m
+      checked = subst (λ (z : ℕ). Checking p k z o fs m) all (s .yes q)
+
+      pub level-size : length o ≡ places p
+      level-size = s .yes q .classes .size
+
+      counted : Counted p k c c o fs ss m
+      counted = counted-start p k c o fs ss m (omega arith) (v .number) checked
+
+      pub level-count : CountReady (p .pixels) k c o ss
+      level-count = record { p = p; fs = fs; m = m; is = refl; counted = counted }
+
+      module _ (d : ℕ) (run : Run k c d count hs) (u : List ℕ) (a : Bool) (n : NodesChecked (p .pixels) k c d o ss u a) where
+        pub level-nodes : (z : ℕ) → z ≡ count + 1 → a ≡ false → LevelChecked p k count u hs fs ss m z
+        level-nodes z e g =
+            record { yes = λ h. absurd (omega arith); never = λ h t. n .never g p fs m refl counted count hs run t }
+
+        module _ (g : a ≡ true) where
+          matched : Matched p k c d 0 u fs ss m
+          matched = matched-start p k c d u fs ss m (n .yes g p fs m refl counted)
+
+          pub level-map : MapReady (p .pixels) k 0 u m
+          level-map = record { p = p; c = c; d = d; fs = fs; ss = ss; is = refl; matched = matched }
+
+          pub level-same : length u ≡ places p
+          level-same = n .yes g p fs m refl counted .size
+
+          pub level-mapped : (w : List ℕ) (i : Bool) (z : ℕ) → MapChecked (p .pixels) k 0 (length u) u m w i → i ≡ false → z ≡ count + 1 → LevelChecked p k count w hs fs ss m z
+          level-mapped w i z t h e =
+              record {
+                yes = λ r. absurd (omega arith);
+                never = λ r tree. t .never h p c d fs ss refl matched count hs run tree;
+              }
+
+          pub level-done : (w : List ℕ) (i : Bool) → MapChecked (p .pixels) k 0 (length u) u m w i → i ≡ true → LevelChecked p k count w hs fs ss m d
+          level-done w i t h =
+              record {
+                yes =
+                    λ r.
+                    subst (λ (j : ℕ). Verified p j d count w hs fs ss m) (sym (add-one k))
+                    (verified-next p k c d count l w hs fs ss m v run (length u) (t .yes h p c d fs ss refl matched)
+                    (let z = level-same in omega arith));
+                never = λ r. absurd (let z = run .most in omega arith);
+              }
+
+-- the answer
+module _ (p : Picture) (count : ℕ) (hs fs ss m : List ℕ) where
+  pub says-none : isPicture p ≡ true → count ≡ 0 → Says p count hs fs ss m false
+  says-none ok e =
+      record {
+        yes = λ q. absurd (clash q refl);
+        never =
+            λ q t.
+            let a = accepted-is p ok in
+            let some = under-is p 255 0 (omega arith) (record { within = mul-pos (a .wide) (a .tall); low = byte-at (p .pixels) (a .bytes) 0 }) .number in
+            let total = t .total in
+            omega arith;
+      }
+
+  pub says-many : places p < count → Says p count hs fs ss m false
+  says-many h =
+      record { yes = λ q. absurd (clash q refl); never = λ q t. let total = t .total in let few = nodes-few p in omega arith }
+
+  module _ (l : List ℕ) (c : ℕ) (s : LevelChecked p 255 count l hs fs ss m c) where
+    pub says-count : c ≢ count → Says p count hs fs ss m false
+    says-count d =
+        record {
+          yes = λ q. absurd (clash q refl);
+          never =
+              λ q t.
+              by-cases (decLt count c)
+              (λ h. s .never h t)
+              (λ h. d (tree-ends p c count l hs fs ss m (s .yes (omega arith)) t .0));
+        }
+
+    module _ (e : c ≡ count) where
+      verified : Verified p 256 count count l hs fs ss m
+      verified = subst (λ (z : ℕ). Verified p 256 z count l hs fs ss m) e (s .yes (omega arith))
+
+      pub says-father : getD fs (count - 1) 0 ≢ 65535 → Says p count hs fs ss m false
+      says-father d =
+          record { yes = λ q. absurd (clash q refl); never = λ q t. d (tree-ends p count count l hs fs ss m verified t .1) }
+
+      pub says-tree : getD fs (count - 1) 0 ≡ 65535 → Says p count hs fs ss m true
+      says-tree q =
+          record { yes = λ z. verified-tree p count l hs fs ss m verified q; never = λ z. absurd (clash refl z) }
+
+pub sizes-at : (n : ℕ) (xs hs fs ss m o l : List ℕ) → length l ≡ length o → Sizes n xs hs fs ss m o → Sizes n xs hs fs ss m l
+sizes-at n xs hs fs ss m o l e s =
+    record {
+      count = let a = s .count in omega arith;
+      few = let a = s .few in omega arith;
+      pixels = let a = s .pixels in omega arith;
+      heights = let a = s .heights in omega arith;
+      fathers = let a = s .fathers in omega arith;
+      firsts = let a = s .firsts in omega arith;
+      map = let a = s .map in omega arith;
+    }
+
+pub sizes-of :
+    (p : Picture) (n : ℕ) (hs fs ss m l : List ℕ) → isPicture p ≡ true → length l ≡ places p → n ≤ length l → places p ≤ length hs → places p ≤ length fs →
+    places p ≤ length ss → places p ≤ length m → Sizes n (p .pixels) hs fs ss m l
+sizes-of p n hs fs ss m l ok e h a b c d =
+    let k = accepted-is p ok in
+    let few = places-bound p k in
+    let size = k .size in
+    record {
+      count = h;
+      few = omega arith;
+      pixels = omega arith;
+      heights = omega arith;
+      fathers = omega arith;
+      firsts = omega arith;
+      map = omega arith;
+    }
+
+pub level-stop : (p : Picture) (k count : ℕ) (l hs fs ss m : List ℕ) (d : ℕ) → LevelChecked p k count l hs fs ss m d → count < d → LevelChecked p 255 count l hs fs ss m d
+level-stop p k count l hs fs ss m d s h = record { yes = λ g. absurd (omega arith); never = s .never }
+
+pub level-all : (p : Picture) (k c count : ℕ) (l hs fs ss m : List ℕ) → Verified p k c count l hs fs ss m → k ≡ 256 → LevelChecked p 255 count l hs fs ss m c
+level-all p k c count l hs fs ss m v e =
+    record {
+      yes = λ g. subst (λ (j : ℕ). Verified p j c count l hs fs ss m) e v;
+      never = λ g. absurd (let a = v .most in omega arith);
+    }

@@ -1,0 +1,109 @@
+-- What the steps of the check of a lent tree keep.
+use mathlib.Core.Path.{_≡_}
+use mathlib.Core.Bool.{Bool, true, false}
+use mathlib.Core.Logic.{_⊎_, _≢_}
+use mathlib.Core.List.{List}
+use Prim.Native.Nat.{ℕ, suc, _+_, _-_, _≤_, _<_}
+use lib.ListN.{length, getD}
+use Rattle.picture.specs.Pictures.{Picture, places, valueAt}
+use Rattle.picture.specs.Trees.{nodeAt, mapOf}
+use Rattle.topology.proofs.Adjacency.{At}
+use Rattle.topology.proofs.Accepted.{Accepted}
+use Rattle.topology.proofs.Levels.{Level, Edges}
+use Rattle.topology.proofs.Numbering.{soFar, Member}
+use Rattle.topology.proofs.Forests.{Forest}
+use Rattle.topology.proofs.Checks.{Agree, Checking}
+use Rattle.verify.specs.Lent.{IsTree}
+
+-- the lent heights from c on, before d, are k, and d is the count or has another
+pub record Run (k c d count : ℕ) (hs : List ℕ) : Type 0 where
+  pub order : c ≤ d
+  pub most : d ≤ count
+  pub same : (i : ℕ) → c ≤ i → i < d → getD hs i 0 ≡ k
+  pub ends : d < count → getD hs d 0 ≢ k
+
+-- the lent first places from c on, before i, are new roots, rising, and have their numbers
+pub record Counted (p : Picture) (k c i : ℕ) (l fs ss m : List ℕ) : Type 0 where
+  pub ok : Accepted p
+  pub low : k ≤ 255
+  pub count : c ≡ soFar p k
+  pub fa : ℕ → ℕ
+  pub agree : Agree fa fs m
+  pub root : ℕ → ℕ
+  pub st : ℕ → ℕ
+  pub new : ℕ → ℕ
+  pub size : length l ≡ places p
+  pub forest : Forest l root new
+  pub level : Level p k c root st fa
+  pub edges : Edges p k (places p) root
+  pub order : c ≤ i
+  pub rising : (a b : ℕ) → c ≤ a → a < b → b < i → getD ss a 0 < getD ss b 0
+  pub place : (j : ℕ) → c ≤ j → j < i → At p k (getD ss j 0)
+  pub fixed : (j : ℕ) → c ≤ j → j < i → root (getD ss j 0) ≡ getD ss j 0
+  pub free : (j : ℕ) → c ≤ j → j < i → 65534 ≤ st (getD ss j 0)
+  pub named : (j : ℕ) → c ≤ j → j < i → new (getD ss j 0) ≡ 2048 + j
+  pub either : (y : ℕ) → y < places p → root y ≡ y → Member (λ j. getD ss j 0) c i y ⊎ (new y ≡ st y)
+
+-- the tests that the lent first place f of the node i passes; before is the one in front of it
+pub record Fits (p : Picture) (k c i : ℕ) (l ss : List ℕ) : Type 0 where
+  pub within : getD ss i 0 < places p
+  pub low : valueAt p (getD ss i 0) ≤ k
+  pub above : c < i → getD ss (i - 1) 0 < getD ss i 0
+  pub free : 65534 ≤ getD l (getD ss i 0) 0
+
+-- the lent map of the pixels of height k before x agrees with the numbers
+pub record Matched (p : Picture) (k c d x : ℕ) (l fs ss m : List ℕ) : Type 0 where
+  pub counted : Counted p k c d l fs ss m
+  pub few : (y : ℕ) → y < places p → valueAt p y ≡ k → y < x → counted .new (counted .root y) < 65534
+  pub same : (y : ℕ) → y < places p → valueAt p y ≡ k → y < x → counted .new (counted .root y) ≡ 2048 + getD m y 0
+
+-- a picture with these pixels and cells
+pub record Frame (p : Picture) (pixels l : List ℕ) : Type 0 where
+  pub is : p .pixels ≡ pixels
+  pub size : length l ≡ places p
+
+-- the answer whether the lent first place of the node i passes its tests
+pub record Fit (pixels : List ℕ) (k c i : ℕ) (l ss : List ℕ) (b : Bool) : Type 0 where
+  pub yes : b ≡ true → (p : Picture) → Frame p pixels l → Fits p k c i l ss
+  pub never : b ≡ false → (p : Picture) → Frame p pixels l → Fits p k c i l ss → ⊥
+
+-- some picture's roots of height k can be counted
+pub record CountReady (pixels : List ℕ) (k c : ℕ) (l ss : List ℕ) : Type 0 where
+  pub p : Picture
+  pub fs : List ℕ
+  pub m : List ℕ
+  pub is : p .pixels ≡ pixels
+  pub counted : Counted p k c c l fs ss m
+
+-- what the check of the lent nodes of a height leaves
+pub record NodesChecked (pixels : List ℕ) (k c d : ℕ) (o ss l : List ℕ) (b : Bool) : Type 0 where
+  pub yes : b ≡ true → (p : Picture) (fs m : List ℕ) → p .pixels ≡ pixels → Counted p k c c o fs ss m → Counted p k c d l fs ss m
+  pub never :
+      b ≡ false → (p : Picture) (fs m : List ℕ) → p .pixels ≡ pixels → Counted p k c c o fs ss m →
+      (count : ℕ) (hs : List ℕ) → Run k c d count hs → IsTree p count hs fs ss m → ⊥
+
+pub record MapReady (pixels : List ℕ) (k x : ℕ) (l m : List ℕ) : Type 0 where
+  pub p : Picture
+  pub c : ℕ
+  pub d : ℕ
+  pub fs : List ℕ
+  pub ss : List ℕ
+  pub is : p .pixels ≡ pixels
+  pub matched : Matched p k c d x l fs ss m
+
+-- what the check of the lent map leaves, for a pixel and for all before x
+pub record MapChecked (pixels : List ℕ) (k x z : ℕ) (l m o : List ℕ) (b : Bool) : Type 0 where
+  pub yes :
+      b ≡ true → (p : Picture) (c d : ℕ) (fs ss : List ℕ) → p .pixels ≡ pixels → Matched p k c d x l fs ss m → Matched p k c d z o fs ss m
+  pub never :
+      b ≡ false → (p : Picture) (c d : ℕ) (fs ss : List ℕ) → p .pixels ≡ pixels → Matched p k c d x l fs ss m →
+      (count : ℕ) (hs : List ℕ) → Run k c d count hs → IsTree p count hs fs ss m → ⊥
+
+-- the heights below k are checked: c nodes
+pub record Verified (p : Picture) (k c count : ℕ) (l hs fs ss m : List ℕ) : Type 0 where
+  pub checking : Checking p k 0 l fs m
+  pub number : c ≡ soFar p k
+  pub most : c ≤ count
+  pub heights : (i : ℕ) → i < c → getD hs i 0 ≡ nodeAt p i .height
+  pub firsts : (i : ℕ) → i < c → getD ss i 0 ≡ nodeAt p i .first
+  pub map : (x : ℕ) → x < places p → valueAt p x < k → getD m x 0 ≡ mapOf p x

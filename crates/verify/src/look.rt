@@ -1,0 +1,163 @@
+// The pixels of one height join the classes; at each link the lent fathers are compared.
+use tree::absorb::comes_before;
+use tree::absorb::height;
+use tree::union_find::find;
+use tree::union_find::wide;
+ghost use mathlib.Core.Path.{_≡_};
+ghost use Prim.Native.Nat.{_<_, _≤_, _+_, _*_};
+ghost use lib.ListN.{length, getD, set};
+ghost use Rattle.topology.proofs.Marks.{Names};
+ghost use Rattle.topology.proofs.Checks.{Agrees, Joint, LookReady, Looked, Checking};
+ghost use Rattle.topology.proofs.Looks.{Passed};
+ghost use Rattle.tree.specs.Frame.{pictureOf};
+
+// The lent father of the node that a state names is the lent node of the pixel x.
+fn agrees(fathers: &[u16], map: &[u16], state: u16, x: usize) -> bool
+    requires { ⌜ Names (length (now fathers)) state × (x < length (now map)) ⌝ }
+    ensures { λ r. ⌜ Agrees state x (now (fathers .entry)) (now (map .entry)) r ⌝ }
+{
+    if state < 65534 {
+        let father = fathers[wide(state) - 2048];
+        let node = map[x];
+        if father == node {
+            return true;
+        }
+        return false;
+    }
+    true
+}
+
+// Hangs the root hi below the root lo, which gets the state.
+fn hang(cells: &mut [u16], lo: usize, hi: usize, state: u16)
+    requires { ⌜ (lo < hi) × (hi < length (now cells)) × (length (now cells) ≤ 1600) ⌝ }
+    ensures { λ _. ⌜ now (cells .exit) ≡ set (set (now (cells .entry)) hi lo) lo state ⌝ }
+{
+    cells[hi] = lo as u16;
+    cells[lo] = state;
+}
+
+// Links two roots at the pixel x, unless a lent father differs.
+fn check_join(
+    fathers: &[u16],
+    map: &[u16],
+    cells: &mut [u16],
+    lo: usize,
+    hi: usize,
+    x: usize,
+) -> bool
+    requires { ⌜ (lo < hi) × (hi < length (now cells)) × (length (now cells) ≤ 1600) × (x < length (now cells)) ⌝ }
+    requires { ⌜ Names (length (now cells)) (getD (now cells) lo 0) × Names (length (now cells)) (getD (now cells) hi 0) ⌝ }
+    requires { ⌜ (length (now cells) ≤ length (now fathers)) × (length (now cells) ≤ length (now map)) ⌝ }
+    ensures { λ r. ⌜ Joint x lo hi (now (cells .entry)) (now (fathers .entry)) (now (map .entry)) (now (cells .exit)) r ⌝ }
+{
+    let a = cells[lo];
+    let b = cells[hi];
+    if a == 65535 {
+        hang(cells, lo, hi, b);
+        return true;
+    }
+    if b == 65535 {
+        hang(cells, lo, hi, a);
+        return true;
+    }
+    if !agrees(fathers, map, a, x) {
+        return false;
+    }
+    if !agrees(fathers, map, b, x) {
+        return false;
+    }
+    hang(cells, lo, hi, 65534);
+    true
+}
+
+// Joins the place x, whose root is r, to its neighbour y if y comes before x: answers the root, or the number of cells if a lent father differs.
+fn check_edge(
+    pixels: &[u8],
+    fathers: &[u16],
+    map: &[u16],
+    cells: &mut [u16],
+    k: usize,
+    x: usize,
+    r: usize,
+    y: usize,
+) -> usize
+    requires { ⌜ LookReady (now pixels) k x r y (now cells) (now fathers) (now map) ⌝ }
+    requires { ⌜ (length (now cells) ≤ length (now fathers)) × (length (now cells) ≤ length (now map)) ⌝ }
+    ensures { λ q. ⌜ Looked (now (pixels .entry)) k x r y (now (cells .entry)) (now (fathers .entry)) (now (map .entry)) q (now (cells .exit)) ⌝ }
+{
+    if !comes_before(pixels, k, x, y) {
+        return r;
+    }
+    let q = find(cells, y);
+    if q == r {
+        return r;
+    }
+    if q < r {
+        if check_join(fathers, map, cells, q, r, x) {
+            return q;
+        }
+        return cells.len();
+    }
+    if check_join(fathers, map, cells, r, q, x) {
+        return r;
+    }
+    cells.len()
+}
+
+// Joins the place x, if it has the value k, to its neighbours that come before it, unless a lent father differs.
+fn check_pixel(
+    a: u32,
+    w: u32,
+    h: u32,
+    pixels: &[u8],
+    fathers: &[u16],
+    map: &[u16],
+    cells: &mut [u16],
+    k: usize,
+    x: usize,
+) -> bool
+    requires { ⌜ Checking (pictureOf a w h (now pixels)) k x (now cells) (now fathers) (now map) × (x < length (now cells)) × (x < length (now pixels)) ⌝ }
+    requires { ⌜ (length (now cells) ≤ length (now fathers)) × (length (now cells) ≤ length (now map)) ⌝ }
+    ensures { λ r. ⌜ Passed (pictureOf a w h (now (pixels .entry))) k (x + 1) (now (cells .exit)) (now (fathers .entry)) (now (map .entry)) r ⌝ }
+{
+    if height(pixels[x]) != k {
+        return true;
+    }
+    let mut near = [0u16; 8];
+    let count = picture::geometry::neighbours(a, w, h, x, &mut near);
+    let mut root = find(cells, x);
+    let mut i = 0;
+    while i < count {
+        root = check_edge(pixels, fathers, map, cells, k, x, root, wide(near[i]));
+        if cells.len() <= root {
+            return false;
+        }
+        i += 1;
+    }
+    true
+}
+
+// The pixels of value k join the classes, unless a lent father differs.
+pub fn check_pixels(
+    a: u32,
+    w: u32,
+    h: u32,
+    pixels: &[u8],
+    fathers: &[u16],
+    map: &[u16],
+    cells: &mut [u16],
+    k: usize,
+) -> bool
+    requires { ⌜ Checking (pictureOf a w h (now pixels)) k 0 (now cells) (now fathers) (now map) ⌝ }
+    requires { ⌜ (length (now cells) ≤ length (now fathers)) × (length (now cells) ≤ length (now map)) × (length (now cells) ≤ length (now pixels)) ⌝ }
+    ensures { λ r. ⌜ Passed (pictureOf a w h (now (pixels .entry))) k (w * h) (now (cells .exit)) (now (fathers .entry)) (now (map .entry)) r ⌝ }
+{
+    let mut x = 0;
+    while x < cells.len() {
+        if !check_pixel(a, w, h, pixels, fathers, map, cells, k, x) {
+            return false;
+        }
+        x += 1;
+    }
+    true
+}
