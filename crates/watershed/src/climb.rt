@@ -1,14 +1,7 @@
 // The climb in the cells of a tree: heights, fathers and the map, n cells each.
-ghost use mathlib.Core.Path.{_≡_};
+use winner::wide;
 ghost use Prim.Native.Nat.{_≤_, _<_};
 ghost use Rattle.topology.proofs.Stopping.{Climbs, Climbing, Met, Meets};
-
-// A cell as a number.
-pub fn wide(cell: u16) -> usize
-    ensures { λ r. ⌜ r ≡ cell ⌝ }
-{
-    cell as usize
-}
 
 // The nearest common ancestor of two nodes.
 fn meet(tree: &[u16], n: usize, a: usize, b: usize) -> usize

@@ -1,17 +1,11 @@
 // How far a pixel falls: a neighbour of least value, and the height at which the fall stops.
 use crate::climb::meeting;
-use crate::climb::wide;
+use winner::value;
+use winner::wide;
 ghost use mathlib.Core.Path.{_≡_};
 ghost use Prim.Native.Nat.{_≤_, _<_};
 ghost use lib.ListN.{length};
 ghost use Rattle.topology.proofs.Stopping.{Climbs, Places, Lower, Lowest, Raised, Stopped};
-
-// A pixel's value as a number.
-pub fn value(pixel: u8) -> usize
-    ensures { λ r. ⌜ r ≡ pixel ⌝ }
-{
-    pixel as usize
-}
 
 // The place of the lesser value.
 fn lower(pixels: &[u8], low: usize, y: usize) -> usize

@@ -7,7 +7,7 @@ use Rattle.watershed.proofs.climb.meet.Statement.{statement}
 use Rattle.watershed.proofs.climb.meet.Tie as tie
 use Rattle.watershed.proofs.climb.meet.Reads as reads
 use Rattle.watershed.proofs.climb.meet.Lts as lts
-use Rattle.watershed.proofs.climb.wide.Reads as wide-reads
+use Rattle.winner.proofs.wide.Reads as wide-reads
 
 abbrev Inv-loop : tie.InvT-loop
 Inv-loop tree n a b c₀ d₀ c d = Climbed n tree a b c d

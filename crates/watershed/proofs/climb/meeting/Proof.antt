@@ -7,7 +7,7 @@ use Rattle.watershed.proofs.climb.meeting.Tie as tie
 use Rattle.watershed.proofs.climb.meeting.Reads as reads
 use Rattle.watershed.proofs.climb.meeting.Lts as lts
 use Rattle.watershed.proofs.climb.meet.Reads as meet-reads
-use Rattle.watershed.proofs.climb.wide.Reads as wide-reads
+use Rattle.winner.proofs.wide.Reads as wide-reads
 
 mul-wide : tie.Need-mul-wide
 mul-wide c = search needs

@@ -9,7 +9,7 @@ use Rattle.watershed.proofs.fall.lowest.Statement.{statement}
 use Rattle.watershed.proofs.fall.lowest.Tie as tie
 use Rattle.watershed.proofs.fall.lowest.Reads as reads
 use Rattle.watershed.proofs.fall.lowest.Lts as lts
-use Rattle.watershed.proofs.climb.wide.Reads as wide-reads
+use Rattle.winner.proofs.wide.Reads as wide-reads
 use Rattle.watershed.proofs.fall.lower.Reads as lower-reads
 
 abbrev Inv-loop : tie.InvT-loop

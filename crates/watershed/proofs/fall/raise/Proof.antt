@@ -8,7 +8,7 @@ use Rattle.watershed.proofs.fall.raise.Tie as tie
 use Rattle.watershed.proofs.fall.raise.Reads as reads
 use Rattle.watershed.proofs.fall.raise.Lts as lts
 use Rattle.watershed.proofs.climb.meeting.Reads as meeting-reads
-use Rattle.watershed.proofs.fall.value.Reads as value-reads
+use Rattle.winner.proofs.value.Reads as value-reads
 
 shared-slice-read-value : tie.Need-shared-slice-read-value
 shared-slice-read-value c = search needs

@@ -8,9 +8,9 @@ use Rattle.watershed.proofs.fall.stop_at.Statement.{statement}
 use Rattle.watershed.proofs.fall.stop_at.Tie as tie
 use Rattle.watershed.proofs.fall.stop_at.Reads as reads
 use Rattle.watershed.proofs.fall.stop_at.Lts as lts
-use Rattle.watershed.proofs.climb.wide.Reads as wide-reads
+use Rattle.winner.proofs.wide.Reads as wide-reads
 use Rattle.watershed.proofs.fall.raise.Reads as raise-reads
-use Rattle.watershed.proofs.fall.value.Reads as value-reads
+use Rattle.winner.proofs.value.Reads as value-reads
 
 abbrev Inv-loop : tie.InvT-loop
 Inv-loop tree n pixels low k near m stop₀ i₀ stop i = Stopped n pixels tree low k near i stop × (i ≤ m)

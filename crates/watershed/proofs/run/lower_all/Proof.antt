@@ -19,9 +19,9 @@ use Rattle.watershed.proofs.run.lower_all.Statement.{statement}
 use Rattle.watershed.proofs.run.lower_all.Tie as tie
 use Rattle.watershed.proofs.run.lower_all.Reads as reads
 use Rattle.watershed.proofs.run.lower_all.Lts as lts
-use Rattle.watershed.proofs.climb.wide.Reads as wide-reads
+use Rattle.winner.proofs.wide.Reads as wide-reads
 use Rattle.watershed.proofs.run.turn.Reads as turn-reads
-use Rattle.watershed.proofs.winner.build.Reads as build-reads
+use Rattle.winner.proofs.build.Reads as build-reads
 
 abbrev Inv-loop : tie.InvT-loop
 Inv-loop a w h out₀ work₀ n e x₀ out work x = Running (pictureOf a w h []) out (take (3 * (w * h)) work) (drop (3 * (w * h)) work) Nobody ×

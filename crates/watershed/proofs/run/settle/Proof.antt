@@ -17,8 +17,8 @@ use Rattle.watershed.proofs.run.settle.Lts as lts
 use Rattle.picture.proofs.geometry.neighbours.Reads as neighbours-reads
 use Rattle.watershed.proofs.fall.lowest.Reads as lowest-reads
 use Rattle.watershed.proofs.fall.stop_at.Reads as stop-at-reads
-use Rattle.watershed.proofs.fall.value.Reads as value-reads
-use Rattle.watershed.proofs.winner.wake_all.Reads as wake-all-reads
+use Rattle.winner.proofs.value.Reads as value-reads
+use Rattle.winner.proofs.wake_all.Reads as wake-all-reads
 
 -- what the loops over the neighbours have found
 abbrev frame-at : tie.After-stop-at → Picture

@@ -15,9 +15,9 @@ use Rattle.watershed.proofs.run.turn.Statement.{statement}
 use Rattle.watershed.proofs.run.turn.Tie as tie
 use Rattle.watershed.proofs.run.turn.Reads as reads
 use Rattle.watershed.proofs.run.turn.Lts as lts
-use Rattle.watershed.proofs.climb.wide.Reads as wide-reads
+use Rattle.winner.proofs.wide.Reads as wide-reads
 use Rattle.watershed.proofs.run.settle.Reads as settle-reads
-use Rattle.watershed.proofs.winner.assign.Reads as assign-reads
+use Rattle.winner.proofs.assign.Reads as assign-reads
 
 mul-n : tie.Need-mul-n
 mul-n c = search needs

@@ -1,12 +1,12 @@
--- `watershed::winner::play` meets its contract: the cell is right, or set to the better of the two below.
+-- `winner::play` meets its contract: the cell is right, or set to the better of the two below.
 use mathlib.Core.Path.{refl}
 use Rattle.topology.proofs.WinnerTree.{same, moved}
 use borrow.Author.Needs.{needs}
-use Rattle.watershed.proofs.winner.play.Statement.{statement}
-use Rattle.watershed.proofs.winner.play.Tie as tie
-use Rattle.watershed.proofs.winner.play.Reads as reads
-use Rattle.watershed.proofs.winner.play.Lts as lts
-use Rattle.watershed.proofs.winner.better.Reads as better-reads
+use Rattle.winner.proofs.play.Statement.{statement}
+use Rattle.winner.proofs.play.Tie as tie
+use Rattle.winner.proofs.play.Reads as reads
+use Rattle.winner.proofs.play.Lts as lts
+use Rattle.winner.proofs.better.Reads as better-reads
 
 mul-better : tie.Need-mul-better
 mul-better c = search needs

@@ -1,14 +1,14 @@
--- `watershed::winner::better` meets its contract: a missing candidate is last, and else the keys decide.
+-- `winner::better` meets its contract: a missing candidate is last, and else the keys decide.
 use native.Mathlib.Omega.{arith}
 use mathlib.Core.Logic.{⊎-elim}
 use Rattle.topology.proofs.WinnerTree.{last, beats-key, better-left, better-right}
 use borrow.Author.Needs.{needs}
-use Rattle.watershed.proofs.winner.better.Statement.{statement}
-use Rattle.watershed.proofs.winner.better.Tie as tie
-use Rattle.watershed.proofs.winner.better.Reads as reads
-use Rattle.watershed.proofs.winner.better.Lts as lts
-use Rattle.watershed.proofs.climb.wide.Reads as wide-reads
-use Rattle.watershed.proofs.fall.value.Reads as value-reads
+use Rattle.winner.proofs.better.Statement.{statement}
+use Rattle.winner.proofs.better.Tie as tie
+use Rattle.winner.proofs.better.Reads as reads
+use Rattle.winner.proofs.better.Lts as lts
+use Rattle.winner.proofs.wide.Reads as wide-reads
+use Rattle.winner.proofs.value.Reads as value-reads
 
 returns : tie.Need-returns
 returns c = better-right _ _ _ (last (c .if1 .taken))

@@ -1,15 +1,15 @@
--- `watershed::winner::wake` meets its contract: the place is no candidate to be, is one, or becomes one.
+-- `winner::wake` meets its contract: the place is no candidate to be, is one, or becomes one.
 use mathlib.Core.Path.{refl}
 use mathlib.Core.Logic.{inl}
 use Rattle.topology.proofs.WinnerSteps.{woken-now}
 use borrow.Author.Needs.{needs}
-use Rattle.watershed.proofs.winner.wake.Statement.{statement}
-use Rattle.watershed.proofs.winner.wake.Tie as tie
-use Rattle.watershed.proofs.winner.wake.Reads as reads
-use Rattle.watershed.proofs.winner.wake.Lts as lts
-use Rattle.watershed.proofs.climb.wide.Reads as wide-reads
-use Rattle.watershed.proofs.fall.value.Reads as value-reads
-use Rattle.watershed.proofs.winner.assign.Reads as assign-reads
+use Rattle.winner.proofs.wake.Statement.{statement}
+use Rattle.winner.proofs.wake.Tie as tie
+use Rattle.winner.proofs.wake.Reads as reads
+use Rattle.winner.proofs.wake.Lts as lts
+use Rattle.winner.proofs.wide.Reads as wide-reads
+use Rattle.winner.proofs.value.Reads as value-reads
+use Rattle.winner.proofs.assign.Reads as assign-reads
 
 shared-slice-read-value : tie.Need-shared-slice-read-value
 shared-slice-read-value c = search needs

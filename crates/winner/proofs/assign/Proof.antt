@@ -1,11 +1,11 @@
--- `watershed::winner::assign` meets its contract: the leaf is stored, and the cells above it are played again.
+-- `winner::assign` meets its contract: the leaf is stored, and the cells above it are played again.
 use Rattle.topology.proofs.WinnerSteps.{replay-start, replay-end}
 use borrow.Author.Needs.{needs}
-use Rattle.watershed.proofs.winner.assign.Statement.{statement}
-use Rattle.watershed.proofs.winner.assign.Tie as tie
-use Rattle.watershed.proofs.winner.assign.Reads as reads
-use Rattle.watershed.proofs.winner.assign.Lts as lts
-use Rattle.watershed.proofs.winner.replay.Reads as replay-reads
+use Rattle.winner.proofs.assign.Statement.{statement}
+use Rattle.winner.proofs.assign.Tie as tie
+use Rattle.winner.proofs.assign.Reads as reads
+use Rattle.winner.proofs.assign.Lts as lts
+use Rattle.winner.proofs.replay.Reads as replay-reads
 
 add-cells : tie.Need-add-cells
 add-cells c = search needs
