@@ -2,7 +2,7 @@
 use mathlib.Core.Path.{_≡_, refl, sym, ap, subst, _∙_}
 use mathlib.Core.Logic.{_↔_, inl, inr, ⊎-elim}
 use mathlib.Core.List.{List, _++_, append-assoc}
-use Prim.Native.Nat.{ℕ, suc, _≤_, _<_}
+use Prim.Native.Nat.{ℕ, suc, _≤_, _<_, zero-le}
 use native.Mathlib.Nat.{eq-or-lt-of-le}
 use native.Mathlib.Omega.{arith}
 use borrow.Author.Tests.{leb-true}
@@ -117,3 +117,16 @@ above-at f x = (λ e. (refused f 6 (omega arith) .0 (ap numberOf e), above-of f 
         let more = above-before f y x b (c .1) in
         let same : y ≡ x = omega arith in
         e ∙ ap PixelAbove same
+
+-- the place of an answer lies within the file, 0 where there is none
+pub place-within : (f : List ℕ) → placeOf (readFile f) ≤ length f
+place-within f = within (readFile f) (verdict f)
+  where
+    within : (o : Outcome) → Verdict f o → placeOf o ≤ length f
+    within (Accepted h) v = zero-le
+    within NotP5 v = zero-le
+    within (Malformed p) v = unfit-of f p v .within
+    within SideOutside v = zero-le
+    within LargestOutside v = zero-le
+    within CountDiffers v = zero-le
+    within (PixelAbove x) v = let a = above-of f x v in omega (arith, a .found .within, a .headed .offset)

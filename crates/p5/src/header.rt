@@ -1,7 +1,7 @@
 // The header of a P5 file: three numbers and one white space byte.
 use crate::characters::is_white;
 use crate::field::Field;
-use crate::field::number_at;
+use crate::reader::Reader;
 ghost use mathlib.Core.Path.{_≡_};
 ghost use Rattle.p5.specs.Headers.{walk, endAt, stoppedAt};
 
@@ -51,17 +51,5 @@ pub fn header_end(file: &[u8], width: u32, height: u32, largest: u32, at: usize)
 pub fn walk_header(file: &[u8]) -> Walk
     ensures { λ r. ⌜ r ≡ walk (now (file .entry)) ⌝ }
 {
-    let first = number_at(file, 2);
-    let Field::Number(width, after_width) = first else {
-        return stopped(first);
-    };
-    let second = number_at(file, after_width);
-    let Field::Number(height, after_height) = second else {
-        return stopped(second);
-    };
-    let third = number_at(file, after_height);
-    let Field::Number(largest, after_largest) = third else {
-        return stopped(third);
-    };
-    header_end(file, width, height, largest, after_largest)
+    Reader::new(file, 2).header()
 }

@@ -4,3 +4,4 @@ pub mod field;
 pub mod file;
 pub mod header;
 pub mod ranges;
+pub mod reader;

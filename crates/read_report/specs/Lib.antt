@@ -1,0 +1,2 @@
+-- The line that is printed for a file.
+pub mod Reports
