@@ -12,7 +12,14 @@ ghost use Rattle.patches.specs.Numbers.{Sizes};
 ghost use Rattle.patches.specs.Figures.{Figures};
 
 // The figures of the patches of a picture, by number, and in the cells the patch of each place; answers how many patches there are.
-pub fn patch_figures(a: u32, w: u32, h: u32, pixels: &[u8], work: &mut [u16], cells: &mut [u16]) -> usize
+pub fn patch_figures(
+    a: u32,
+    w: u32,
+    h: u32,
+    pixels: &[u8],
+    work: &mut [u16],
+    cells: &mut [u16],
+) -> usize
     requires { ⌜ (isPicture (pictureOf a w h (now pixels)) ≡ true) × Sizes (w * h) (now work) (now cells) ⌝ }
     ensures { λ r. ⌜ Figures (pictureOf a w h (now (pixels .entry))) r (now (work .exit)) (now (cells .exit)) ⌝ }
 {
@@ -21,7 +28,15 @@ pub fn patch_figures(a: u32, w: u32, h: u32, pixels: &[u8], work: &mut [u16], ce
 }
 
 // The number of the patch of a place of a picture, 0 on the line.
-pub fn query(a: u32, w: u32, h: u32, pixels: &[u8], place: usize, work: &mut [u16], cells: &mut [u16]) -> u16
+pub fn query(
+    a: u32,
+    w: u32,
+    h: u32,
+    pixels: &[u8],
+    place: usize,
+    work: &mut [u16],
+    cells: &mut [u16],
+) -> u16
     requires { ⌜ (isPicture (pictureOf a w h (now pixels)) ≡ true) × Sizes (w * h) (now work) (now cells) × (place < w * h) ⌝ }
     ensures { λ r. ⌜ r ≡ patchAt (pictureOf a w h (now (pixels .entry))) place ⌝ }
 {
