@@ -1,12 +1,11 @@
 -- The arrays of a picture's tree give its patches: leaves by marks, patches by numbers, depths by fathers.
 use mathlib.Core.Path.{_≡_, refl, sym, ap, subst, _∙_}
 use mathlib.Core.Bool.{Bool, true, false}
-use mathlib.Core.Logic.{_⊎_, inl, inr, ⊎-elim, _≢_, by-cases}
+use mathlib.Core.Logic.{inl, ⊎-elim, by-cases}
 use mathlib.Core.List.{List}
 use Prim.Native.Nat.{ℕ, suc, _+_, _-_, _*_, _≤_, _<_}
 use native.Mathlib.Decide.{ℕ-discrete, decLt}
 use native.Mathlib.Omega.{arith}
-use lib.Dec.{ltb}
 use lib.ListN.{length, getD}
 use borrow.Author.Tests.{lt-ltb, le-ltb}
 use Rattle.picture.specs.Lists.{pick, tally, range, highest}
@@ -20,10 +19,10 @@ use Rattle.topology.proofs.Accepted.{Accepted, places-bound}
 use Rattle.topology.proofs.Nodes.{nodes-few, node-is}
 use Rattle.topology.proofs.Fathers.{father-found, map-found, number-small}
 use Rattle.topology.proofs.Leaves.{bottom}
-use Rattle.topology.proofs.PatchFigures.{patches-count, bottom-number}
+use Rattle.topology.proofs.PatchFigures.{bottom-number}
 use Rattle.topology.proofs.LeafNodes.{leafNode, leaf-bottom, bottom-map, bottom-leaf, leaf-mapped, map-bottom, patch-leaf, patch-line, father-leaf, childless-leaf, depth-root, depth-father}
 use Rattle.patches.specs.Blocks.{Kept}
-use Rattle.patches.specs.Numbers.{Marks, starts, Numbers, Leaves, patchIn}
+use Rattle.patches.specs.Numbers.{starts, Leaves, patchIn}
 use Rattle.patches.specs.Figures.{depthIn}
 use Rattle.patches.proofs.Numbering.{kept-row, starts-true, starts-is, patch-other, patch-node}
 
@@ -148,12 +147,6 @@ module _ (p : Picture) (ok : Accepted p) (n : ℕ) (e : n ≡ places p) (work : 
     same-tally x h =
         tally-same (starts n (l .cleared) (l .marks)) (bottom p) (range 0 x)
         (λ y m. let b = range-mem 0 x m in starts-bottom y (omega arith))
-
-    -- as many numbers as patches
-    pub leaves-count : r ≡ length (patches p)
-    leaves-count =
-        l .numbers .count ∙
-        (same-tally n (omega arith) ∙ (ap (λ (m : ℕ). tally (bottom p) (range 0 m)) e ∙ sym (patches-count p ok)))
 
     -- the number of a leaf is that of the patch that begins there
     leaf-number : (m : ℕ) → m < length (nodes p) → leafNode p m ≡ true → row after (4 * n) m ≡ patchAt p (nodeAt p m .first)

@@ -1,25 +1,24 @@
 -- The laws of the sums in three blocks, and of all figures together.
 use mathlib.Core.Path.{_≡_, refl, sym, ap, subst, _∙_}
 use mathlib.Core.Bool.{true}
-use mathlib.Core.Logic.{_⊎_, inl, inr, ⊎-elim}
+use mathlib.Core.Logic.{inl, inr, ⊎-elim}
 use mathlib.Core.List.{List}
-use Prim.Native.Nat.{ℕ, suc, _+_, _*_, _≤_, _<_}
+use Prim.Native.Nat.{ℕ, _+_, _*_, _≤_, _<_}
 use native.Mathlib.Nat.{mul-le-mul-left}
 use native.Mathlib.Numerals.{add-one}
 use native.Mathlib.Omega.{arith}
 use lib.Dec.{eqb}
 use lib.ListN.{length, getD}
-use Rattle.picture.specs.Lists.{tally, range, highest}
+use Rattle.picture.specs.Lists.{range, highest}
 use Rattle.picture.specs.Pictures.{Picture, places, isPicture}
 use Rattle.picture.specs.Patches.{patches, patchAt, lineCount}
 use Rattle.tree.specs.Arrays.{row, TreeIn}
 use Rattle.tree.specs.Built.{Built}
 use Rattle.topology.proofs.Lists.{tally-same, range-mem}
-use Rattle.topology.proofs.Accepted.{Accepted, accepted-is, places-bound}
+use Rattle.topology.proofs.Accepted.{Accepted, accepted-is}
 use Rattle.topology.proofs.Nodes.{nodes-few}
-use Rattle.topology.proofs.Leaves.{bottom}
 use Rattle.topology.proofs.PatchFigures.{patches-count}
-use Rattle.topology.proofs.PatchSums.{sumAt, count-few, patch-most, patch-number, patch-size, patch-columns, patch-rows}
+use Rattle.topology.proofs.PatchSums.{count-few, patch-most, patch-number, patch-size, patch-columns, patch-rows}
 use Rattle.patches.specs.Blocks.{Kept, Filled}
 use Rattle.patches.specs.Numbers.{Sizes, Mapped, Leaves, patchIn}
 use Rattle.patches.specs.declared.sums.Figure.the-variants.{Size, Columns, Rows}

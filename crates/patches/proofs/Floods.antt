@@ -18,7 +18,7 @@ use Rattle.topology.proofs.Lists.{in-mem, tally-length, length-range}
 use Rattle.topology.proofs.Connected.{start, conn-target}
 use Rattle.topology.proofs.Adjacency.{Adj}
 use Rattle.topology.proofs.Zones.{Flat, Flooding, Flooded, flood-start, flood-pop, flood-done, flood-lower, flood-higher, flood-visited, flood-visit, flood-end}
-use Rattle.topology.proofs.ZoneScan.{unvisited, unvisited-set, Scanned, scan-start, scan-seen, scan-fresh, scan-lower, scan-minimum, scan-end}
+use Rattle.topology.proofs.ZoneScan.{unvisited-set, Scanned, scan-start, scan-seen, scan-fresh, scan-lower, scan-minimum, scan-end}
 use Rattle.topology.proofs.Leaves.{bottom}
 use Rattle.topology.proofs.Accepted.{accepted-is, places-bound}
 use Rattle.patches.specs.declared.minima.Stack.{Stack}

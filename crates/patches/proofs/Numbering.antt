@@ -1,7 +1,7 @@
 -- The laws of the numbering: marks of fathers, numbers of leaves, and what stays in the other blocks.
 use mathlib.Core.Path.{_≡_, refl, sym, ap, subst, _∙_}
 use mathlib.Core.Bool.{Bool, true, false, _&&_}
-use mathlib.Core.Logic.{_⊎_, inl, inr, ⊎-elim, _≢_, by-cases}
+use mathlib.Core.Logic.{inl, ⊎-elim, _≢_, by-cases}
 use mathlib.Core.List.{List}
 use Prim.Native.Nat.{ℕ, suc, _+_, _*_, _≤_, _<_}
 use native.Mathlib.Decide.{ℕ-discrete}
@@ -18,7 +18,7 @@ use Rattle.topology.proofs.Lists.{tally-length, length-range}
 use Rattle.topology.proofs.Positions.{tally-next-in, tally-next-out}
 use Rattle.topology.proofs.Zones.{set-cases}
 use Rattle.patches.specs.Blocks.{Kept, Filled}
-use Rattle.patches.specs.Numbers.{Sizes, Mapped, Cleared, Mark, beyond, marked, Son, Marks, starts, Number, passed, given, Numbers, patchIn}
+use Rattle.patches.specs.Numbers.{Mapped, Cleared, Mark, beyond, marked, Son, Marks, starts, Number, passed, given, Numbers, patchIn}
 use Rattle.patches.proofs.Blocks.{kept-refl, kept-set}
 
 -- an entry before the block that may have changed

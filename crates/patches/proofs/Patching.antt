@@ -1,8 +1,8 @@
 -- The laws of the figures in their blocks: depths and heights by first place, sums by number, and all of them together.
 use mathlib.Core.Path.{_≡_, refl, sym, ap, subst, _∙_}
-use mathlib.Core.Bool.{Bool, true, false}
-use mathlib.Core.Logic.{_⊎_, inl, inr, ⊎-elim, _≢_, by-cases}
-use mathlib.Core.List.{List, [], _∷_}
+use mathlib.Core.Bool.{true}
+use mathlib.Core.Logic.{_≢_, by-cases}
+use mathlib.Core.List.{List}
 use Prim.Native.Nat.{ℕ, suc, _+_, _-_, _*_, _≤_, _<_}
 use native.Mathlib.Decide.{ℕ-discrete}
 use native.Mathlib.Numerals.{add-one}
@@ -10,28 +10,24 @@ use native.Mathlib.Omega.{arith}
 use lib.Dec.{leb}
 use lib.ListN.{length, getD, set, drop, length-set}
 use lib.Seq.{getD-set-same, getD-set-other, drop-cons}
-use borrow.Author.Tests.{le-leb, lt-leb}
 use Rattle.picture.specs.Lists.{pick, tally, range, highest}
-use Rattle.picture.specs.Pictures.{Picture, places, valueAt, isPicture}
-use Rattle.picture.specs.Trees.{nodes, mapOf}
-use Rattle.picture.specs.Patches.{patches, patchAt}
-use Rattle.tree.specs.Arrays.{row, TreeIn}
+use Rattle.picture.specs.Pictures.{Picture, places}
+use Rattle.picture.specs.Trees.{mapOf}
+use Rattle.picture.specs.Patches.{patches}
+use Rattle.tree.specs.Arrays.{row}
 use Rattle.topology.proofs.Tests.{test-false}
-use Rattle.topology.proofs.Accepted.{Accepted, accepted-is, places-bound}
+use Rattle.topology.proofs.Accepted.{Accepted, accepted-is}
 use Rattle.topology.proofs.Fathers.{map-found}
 use Rattle.topology.proofs.Nodes.{nodes-few}
 use Rattle.topology.proofs.Positions.{tally-next-in, tally-next-out}
 use Rattle.topology.proofs.Leaves.{bottom}
-use Rattle.topology.proofs.PatchFigures.{patches-count, bottom-number}
-use Rattle.topology.proofs.PatchSums.{next-bottom, count-few, patch-most, patch-height, patch-depth, patch-size, patch-columns, patch-rows}
-use Rattle.patches.specs.Blocks.{Kept, Filled}
-use Rattle.patches.specs.Numbers.{Mapped, Leaves, patchIn}
-use Rattle.patches.specs.declared.sums.Figure.the-variants.{Size, Columns, Rows}
-use Rattle.patches.specs.Sums.{figureOf, Summing, Summed}
-use Rattle.patches.specs.Figures.{Tree, depthIn, Put, passed, begun, noPatch, Begun, Charted, Patched, Frame, Sums, Figures}
+use Rattle.topology.proofs.PatchFigures.{bottom-number}
+use Rattle.topology.proofs.PatchSums.{next-bottom, patch-height, patch-depth}
+use Rattle.patches.specs.Numbers.{Mapped}
+use Rattle.patches.specs.Figures.{depthIn, Put, passed, begun, noPatch, Begun, Charted, Patched}
 use Rattle.patches.proofs.Blocks.{kept-refl, kept-store}
 use Rattle.patches.proofs.Numbering.{kept-row}
-use Rattle.patches.proofs.Charting.{arrays, map-in, depth-is, depth-kept, leaves-count, leaves-patch}
+use Rattle.patches.proofs.Charting.{arrays, depth-is, depth-kept}
 
 -- the largest of one pixel more
 pub highest-next :

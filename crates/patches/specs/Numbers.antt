@@ -29,7 +29,7 @@ pub data Mark (f : ℕ) (cells after : List ℕ) : Type 0 where
   beyond : length cells ≤ f → after ≡ cells → Mark f cells after
   marked : f < length cells → after ≡ set cells f 1 → Mark f cells after
 
--- j is a node whose father is i
+-- one of the first count nodes, whose father is i
 pub record Son (n count : ℕ) (work : List ℕ) (i : ℕ) : Type 0 where
   pub son : ℕ
   pub within : son < count
@@ -63,7 +63,7 @@ pub record Numbers (n : ℕ) (work marks : List ℕ) (x r : ℕ) (after : List �
       (m : ℕ) → m < n → ((z : ℕ) → z < x → starts n work marks z ≡ true → row work (2 * n) z ≢ m) →
       row after (4 * n) m ≡ 0
 
--- the fifth block holds the numbers of the nodes that nobody's father is, by marks, and the other blocks are as they were
+-- the fifth block, cleared, holds the numbers of the nodes that are nobody's father; the other blocks are as they were
 pub record Leaves (n count : ℕ) (work : List ℕ) (r : ℕ) (after : List ℕ) : Type 0 where
   pub marks : List ℕ
   pub cleared : List ℕ

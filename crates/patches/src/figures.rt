@@ -7,7 +7,7 @@ use crate::numbers::number;
 use crate::sums::Figure;
 use crate::sums::sum_block;
 ghost use mathlib.Core.Path.{_≡_};
-ghost use Prim.Native.Nat.{ℕ, _+_, _-_, _*_, _/_, _≤_, _<_};
+ghost use Prim.Native.Nat.{_+_, _-_, _*_, _/_, _≤_, _<_};
 ghost use lib.ListN.{length};
 ghost use lib.Dec.{leb};
 ghost use Rattle.picture.specs.Lists.{pick, highest};

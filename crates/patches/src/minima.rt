@@ -11,7 +11,6 @@ ghost use Rattle.picture.specs.Pictures.{isPicture};
 ghost use Rattle.picture.specs.Geometry.{Placed};
 ghost use Rattle.picture.specs.Patches.{patches};
 ghost use Rattle.topology.proofs.Zones.{Flooded};
-ghost use Rattle.topology.proofs.ZoneScan.{Scanned};
 ghost use Rattle.tree.specs.Frame.{pictureOf};
 ghost use Rattle.patches.specs.Minima.{Sizes, Room, Visit, Turn, Seed, Counting};
 

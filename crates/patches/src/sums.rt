@@ -1,9 +1,7 @@
 // Sums over the places of each patch: sizes, columns, rows.
-use crate::cells::fill;
 use crate::cells::wide;
 ghost use mathlib.Core.Path.{_≡_};
-ghost use Prim.Native.Nat.{ℕ, suc, _+_, _*_, _≤_, _<_};
-ghost use lib.ListN.{length, getD};
+ghost use lib.ListN.{getD};
 ghost use Rattle.patches.specs.Sums.{figureOf, Framed, Ready, Added, Summing, Summed};
 
 // A figure that is a sum over the places of a patch.

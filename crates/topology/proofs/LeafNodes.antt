@@ -1,28 +1,26 @@
 -- The leaves among the nodes: which node begins at a place, and the patch of a place by its node.
-use mathlib.Core.Path.{_≡_, refl, sym, ap, ap₂, subst, _∙_}
+use mathlib.Core.Path.{_≡_, sym, ap, subst, _∙_}
 use mathlib.Core.Bool.{Bool, true, false}
 use mathlib.Core.Logic.{_≢_}
-use mathlib.Core.List.{List}
-use Prim.Native.Nat.{ℕ, suc, _+_, _-_, _≤_, _<_}
+use Prim.Native.Nat.{ℕ, suc, _-_, _<_}
 use native.Mathlib.Omega.{arith}
-use lib.Dec.{eqb}
-use lib.ListN.{length, getD}
-use borrow.Author.Tests.{eqb-true, eqb-false, eq-eqb, ne-eqb}
+use lib.ListN.{length}
+use borrow.Author.Tests.{eq-eqb, ne-eqb}
 use Rattle.picture.specs.Lists.{pick, tally, range, highest}
 use Rattle.picture.specs.Pictures.{Picture, places, valueAt}
 use Rattle.picture.specs.Trees.{Node, nodes, nodeAt, fatherOf, mapOf}
 use Rattle.picture.specs.Patches.{depthOf, patchAt}
-use Rattle.topology.proofs.Tests.{on-test, on-pick, test-false, clash}
+use Rattle.topology.proofs.Tests.{on-test, test-false, clash}
 use Rattle.topology.proofs.Connected.{start}
 use Rattle.topology.proofs.Adjacency.{At}
 use Rattle.topology.proofs.Accepted.{Accepted}
 use Rattle.topology.proofs.Reached.{firstAt, first-joined}
 use Rattle.topology.proofs.Nodes.{node, node-is, node-equal}
-use Rattle.topology.proofs.Fathers.{father-found, map-found, number-small}
+use Rattle.topology.proofs.Fathers.{map-found}
 use Rattle.topology.proofs.Climb.{father}
 use Rattle.topology.proofs.Leaves.{leafAt, bottom, leaf, leaf-sound, leaf-same, bottom-is, is-bottom}
 use Rattle.topology.proofs.PatchNumbers.{patch-in, patch-out, father-no-leaf, no-leaf-father}
-use Rattle.topology.proofs.PatchFigures.{map-leaf, leaf-map, bottom-number}
+use Rattle.topology.proofs.PatchFigures.{map-leaf, leaf-map}
 
 -- the node of a number is a leaf
 unfoldable pub leafNode : Picture → ℕ → Bool

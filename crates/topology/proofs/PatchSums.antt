@@ -1,6 +1,6 @@
 -- The figures of the patches as sums over the places by their patch numbers, and the first place of each patch by its number.
-use mathlib.Core.Path.{_≡_, refl, sym, ap, ap₂, subst, _∙_}
-use mathlib.Core.Bool.{Bool, true, false}
+use mathlib.Core.Path.{_≡_, refl, sym, ap, subst, _∙_}
+use mathlib.Core.Bool.{Bool, true}
 use mathlib.Core.Logic.{by-cases}
 use mathlib.Core.List.{List, [], _∷_, map}
 use Prim.Native.Nat.{ℕ, zero, suc, _+_, _-_, _*_, _≤_, _<_}
@@ -9,9 +9,9 @@ use native.Mathlib.Omega.{arith}
 use lib.Dec.{eqb}
 use lib.ListN.{length, getD}
 use borrow.Author.Tests.{eq-eqb, ne-eqb}
-use Rattle.picture.specs.Lists.{pick, tally, select, range, total}
+use Rattle.picture.specs.Lists.{pick, tally, range, total}
 use Rattle.picture.specs.Pictures.{Picture, places, valueAt, column, row}
-use Rattle.picture.specs.Trees.{Node, nodeAt, componentOf, mapOf}
+use Rattle.picture.specs.Trees.{nodeAt, componentOf, mapOf}
 use Rattle.picture.specs.Patches.{Patch, patchOf, patches, patchAt, depthOf}
 use Rattle.topology.proofs.Tests.{on-test, on-pick}
 use Rattle.topology.proofs.Lists.{range-mem, tally-length, length-range}

@@ -1,10 +1,10 @@
 -- A picture and its watershed have equally many patches, and partners are leaves together, of one height.
 use mathlib.Core.Path.{_≡_, refl, sym, ap, subst, _∙_}
-use mathlib.Core.Bool.{Bool, true, false, _&&_}
+use mathlib.Core.Bool.{Bool, true}
 use mathlib.Core.Logic.{by-cases}
 use mathlib.Core.List.{List}
 use Prim.Native.Nat.{ℕ, zero, suc, _+_, _-_, _≤_, _<_}
-use native.Mathlib.Decide.{decLt, ℕ-discrete}
+use native.Mathlib.Decide.{decLt}
 use native.Mathlib.Omega.{arith}
 use lib.Dec.{eqb}
 use lib.ListN.{length}
@@ -17,13 +17,13 @@ use Rattle.picture.specs.Watersheds.{watershed}
 use Rattle.picture.specs.Patches.{patches}
 use Rattle.picture.specs.Kept.{partners}
 use Rattle.topology.proofs.Tests.{and-left, and-right, same-test, on-test}
-use Rattle.topology.proofs.Connected.{start, conn-source, conn-target, conn-trans}
+use Rattle.topology.proofs.Connected.{start, conn-target, conn-trans}
 use Rattle.topology.proofs.Keeping.{Keeps, sec-mono}
 use Rattle.topology.proofs.Adjacency.{Adj, At, Joined, joined-sym}
 use Rattle.topology.proofs.Reached.{firstAt, first-joined, first-same, first-at}
 use Rattle.topology.proofs.Bridge.{within-joined}
 use Rattle.topology.proofs.Accepted.{Accepted, accepted-is}
-use Rattle.topology.proofs.Water.{Watered, watershed-shape, watershed-watered}
+use Rattle.topology.proofs.Water.{watershed-shape, watershed-watered}
 use Rattle.topology.proofs.Branches.{joined-mono, joined-kept}
 use Rattle.topology.proofs.Numbers.{pigeonhole}
 use Rattle.topology.proofs.Nodes.{node-is}

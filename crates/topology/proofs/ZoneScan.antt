@@ -1,7 +1,7 @@
 -- A scan of the places that floods each flat zone once counts the minima.
 use mathlib.Core.Path.{_≡_, refl, sym, ap, subst, _∙_}
 use mathlib.Core.Bool.{Bool, true, false}
-use mathlib.Core.Logic.{_⊎_, inl, inr, ⊎-elim, _≢_, by-cases}
+use mathlib.Core.Logic.{⊎-elim, _≢_, by-cases}
 use mathlib.Core.List.{List, [], _∷_}
 use Prim.Native.Nat.{ℕ, zero, suc, _≤_, _<_}
 use native.Mathlib.Decide.{ℕ-discrete}
@@ -14,12 +14,12 @@ use Rattle.picture.specs.Pictures.{Picture, places, valueAt}
 use Rattle.picture.specs.Patches.{patches}
 use Rattle.topology.proofs.Tests.{on-test, test-false, clash}
 use Rattle.topology.proofs.Lists.{tally-in, tally-out}
-use Rattle.topology.proofs.Connected.{start, conn-source, conn-target, conn-trans, conn-sym}
-use Rattle.topology.proofs.Adjacency.{Adj, At, Joined, adj-sym, joined-sym}
+use Rattle.topology.proofs.Connected.{start, conn-target, conn-trans, conn-sym}
+use Rattle.topology.proofs.Adjacency.{At, Joined, adj-sym, joined-sym}
 use Rattle.topology.proofs.Accepted.{Accepted}
 use Rattle.topology.proofs.Reached.{firstAt, first-joined, first-least}
 use Rattle.topology.proofs.Positions.{tally-next-in, tally-next-out}
-use Rattle.topology.proofs.Leaves.{leafAt, bottom, leaf-sound, bottom-is, is-bottom}
+use Rattle.topology.proofs.Leaves.{leafAt, bottom, bottom-is, is-bottom}
 use Rattle.topology.proofs.PatchFigures.{patches-count}
 use Rattle.topology.proofs.Zones.{Flat, Zone, Flooded, zone-joined, zone-whole, zone-leaf, lower-no-leaf}
 

@@ -3,15 +3,15 @@ use mathlib.Core.Path.{_≡_, refl, sym, ap, subst, _∙_}
 use mathlib.Core.Bool.{Bool, true, false, false≢true}
 use mathlib.Core.Logic.{_⊎_, inl, inr, ⊎-elim, _≢_, by-cases}
 use mathlib.Core.List.{List, [], _∷_, List·Memᴰ, List·Memᴰ·not-nil, List·Memᴰ·cases-cons}
-use Prim.Native.Nat.{ℕ, zero, suc, _+_, _-_, _≤_, _<_}
+use Prim.Native.Nat.{ℕ, zero, suc, _≤_, _<_}
 use native.Mathlib.Decide.{ℕ-discrete}
 use native.Mathlib.Omega.{arith}
 use lib.ListN.{length, getD, set}
 use lib.Seq.{getD-set-same, getD-set-other}
 use Rattle.picture.specs.Pictures.{Picture, places, valueAt}
 use Rattle.topology.proofs.Tests.{test-false}
-use Rattle.topology.proofs.Connected.{Conn, start, step, conn-source, conn-target, conn-trans, conn-sym, conn-mono, conn-closed}
-use Rattle.topology.proofs.Adjacency.{Adj, At, Joined, adj-sym}
+use Rattle.topology.proofs.Connected.{Conn, start, step, conn-source, conn-target, conn-mono, conn-closed}
+use Rattle.topology.proofs.Adjacency.{Adj, At, Joined}
 use Rattle.topology.proofs.Leaves.{leafAt, leaf-sound, leaf-complete}
 
 -- y is a place of value k

@@ -1,5 +1,5 @@
 -- `patches::figures::larger` meets its contract: each return is one case of the test.
-use mathlib.Core.Path.{_≡_, sym, ap}
+use mathlib.Core.Path.{sym, ap}
 use mathlib.Core.Bool.{Bool}
 use borrow.Author.Tests.{le-leb, lt-leb}
 use Rattle.picture.specs.Lists.{pick}

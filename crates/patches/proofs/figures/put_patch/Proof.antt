@@ -1,10 +1,9 @@
 -- `patches::figures::put_patch` meets its contract: each return is one case of Put.
-use mathlib.Core.Path.{_≡_, refl, sym, ap, ap₂, _∙_}
-use Prim.Native.Nat.{ℕ, _+_, _*_, _<_}
+use mathlib.Core.Path.{refl, sym, ap, ap₂, _∙_}
+use Prim.Native.Nat.{ℕ, _+_, _*_}
 use native.Mathlib.Omega.{arith}
-use lib.ListN.{getD, set, length-set}
+use lib.ListN.{set, length-set}
 use borrow.Author.Needs.{needs}
-use Rattle.tree.specs.Arrays.{row}
 use Rattle.patches.specs.Figures.{depthIn, passed, begun}
 use Rattle.patches.proofs.figures.put_patch.Statement.{statement}
 use Rattle.patches.proofs.figures.put_patch.Tie as tie

@@ -1,5 +1,4 @@
 -- `patches::minima::count_minima` meets its contract. The invariant is Counting.
-use mathlib.Core.Path.{_≡_, sym, _∙_}
 use Prim.Native.Nat.{_-_, _≤_}
 use native.Mathlib.Omega.{arith}
 use borrow.Author.Needs.{needs}

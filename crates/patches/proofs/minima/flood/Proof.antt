@@ -1,5 +1,4 @@
 -- `patches::minima::flood` meets its contract. The invariant is Running; twice the unvisited places with the stack's height fall.
-use mathlib.Core.Path.{_≡_}
 use Prim.Native.Nat.{_+_, _*_}
 use native.Mathlib.Omega.{arith}
 use lib.ListN.{set}

@@ -1,10 +1,9 @@
 -- `patches::minima::spread` meets its contract. The invariant: the edges to the neighbours from index i on are left to follow.
-use mathlib.Core.Path.{_≡_, refl, sym, subst, _∙_}
-use Prim.Native.Nat.{ℕ, _-_, _≤_, _<_}
+use mathlib.Core.Path.{_≡_, sym, subst, _∙_}
+use Prim.Native.Nat.{ℕ, _-_, _≤_}
 use native.Mathlib.Omega.{arith}
-use lib.ListN.{getD, drop, length}
+use lib.ListN.{getD, drop}
 use borrow.Author.Needs.{needs}
-use Rattle.picture.specs.Pictures.{Picture, places}
 use Rattle.picture.specs.Geometry.{neighboursOf, Placed}
 use Rattle.picture.proofs.Neighbours.{neighbour-at}
 use Rattle.tree.specs.Frame.{pictureOf}

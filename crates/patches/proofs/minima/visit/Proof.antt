@@ -4,56 +4,42 @@ use borrow.Author.Needs.{needs}
 use Rattle.patches.proofs.Floods.{visit-lower, visit-higher, visit-visited, visit-new}
 use Rattle.patches.proofs.minima.visit.Statement.{statement}
 use Rattle.patches.proofs.minima.visit.Tie as tie
-use Rattle.patches.proofs.minima.visit.Reads as reads
-use Rattle.patches.proofs.minima.visit.Lts as lts
 
--- src/minima.rt:34:17
 shared-slice-read-value : tie.Need-shared-slice-read-value
 shared-slice-read-value c = search needs
 
--- src/minima.rt:36:9
 returns : tie.Need-returns
 returns c = let s = c .before .before in visit-lower _ _ _ _ _ (s .pre .0) (c .if1 .taken)
 
--- src/minima.rt:43:9
 returns-2 : tie.Need-returns-2
 returns-2 c = let s = c .before .before .before in visit-higher _ _ _ _ _ (s .pre .0) (c .if2 .taken)
 
--- src/minima.rt:45:8
 mul-if3 : tie.Need-mul-if3
 mul-if3 c = search needs
 
--- src/minima.rt:45:8
 slice-read-if3 : tie.Need-slice-read-if3
 slice-read-if3 c = search needs
 
--- src/minima.rt:46:9
 returns-3 : tie.Need-returns-3
 returns-3 c =
     let s = c .before .before .before .before .before in
     visit-visited _ _ _ _ _ (s .pre .0) (omega arith) (c .if3 .taken)
 
--- src/minima.rt:48:5
 mul-cells : tie.Need-mul-cells
 mul-cells c = search needs
 
--- src/minima.rt:48:5
 slice-write-cells : tie.Need-slice-write-cells
 slice-write-cells c = search needs
 
--- src/minima.rt:50:14
 cast-t12 : tie.Need-cast-t12
 cast-t12 c = search needs
 
--- src/minima.rt:51:17
 add-t10 : tie.Need-add-t10
 add-t10 c = search needs
 
--- src/minima.rt:30:1
 same-length : tie.Need-same-length
 same-length c = search needs
 
--- src/minima.rt:30:1
 returns-4 : tie.Need-returns-4
 returns-4 c =
     let s = c .before .before .before .before .before .before in

@@ -1,6 +1,5 @@
 -- `patches::numbers::mark_fathers` meets its contract. The invariant: the fathers of the first j nodes are marked.
-use mathlib.Core.Path.{_≡_, subst}
-use Prim.Native.Nat.{ℕ, _-_, _≤_}
+use Prim.Native.Nat.{_-_, _≤_}
 use native.Mathlib.Omega.{arith}
 use borrow.Author.Needs.{needs}
 use Rattle.patches.specs.Numbers.{Marks}

@@ -1,5 +1,4 @@
 -- `patches::numbers::number` meets its contract: the marks, the cleared block and the numbers that its calls leave.
-use mathlib.Core.Path.{_∙_}
 use native.Mathlib.Omega.{arith}
 use borrow.Author.Needs.{needs}
 use Rattle.patches.proofs.Numbering.{cleared-mapped}

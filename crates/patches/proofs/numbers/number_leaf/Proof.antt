@@ -1,11 +1,7 @@
 -- `patches::numbers::number_leaf` meets its contract: each return is one case of Number.
-use mathlib.Core.Path.{_≡_, refl, sym, ap, subst, _∙_}
-use Prim.Native.Nat.{ℕ, _+_, _*_, _<_}
+use Prim.Native.Nat.{_<_}
 use native.Mathlib.Omega.{arith}
-use lib.ListN.{getD}
 use borrow.Author.Needs.{needs}
-use Rattle.tree.specs.Arrays.{row}
-use Rattle.patches.specs.Numbers.{passed, given}
 use Rattle.patches.proofs.Numbering.{number-other, number-marked, number-given}
 use Rattle.patches.proofs.numbers.number_leaf.Statement.{statement}
 use Rattle.patches.proofs.numbers.number_leaf.Tie as tie

@@ -1,8 +1,7 @@
 -- `patches::numbers::patch_at` meets its contract: each return is one case of patchIn.
-use mathlib.Core.Path.{_≡_, sym, ap, subst, _∙_}
-use Prim.Native.Nat.{ℕ, _+_, _*_, _<_}
+use mathlib.Core.Path.{sym}
+use Prim.Native.Nat.{_<_}
 use native.Mathlib.Omega.{arith}
-use lib.ListN.{getD}
 use borrow.Author.Needs.{needs}
 use Rattle.patches.proofs.Numbering.{patch-other, patch-node}
 use Rattle.patches.proofs.numbers.patch_at.Statement.{statement}

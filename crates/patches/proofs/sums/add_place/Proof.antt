@@ -1,8 +1,8 @@
 -- `patches::sums::add_place` meets its contract: each return is one case of Added.
 use mathlib.Core.Path.{_≡_, refl, sym, ap, _∙_}
-use Prim.Native.Nat.{ℕ, suc, _+_, _-_, _≤_, _<_}
+use Prim.Native.Nat.{ℕ, suc, _+_, _-_}
 use native.Mathlib.Omega.{arith}
-use lib.ListN.{length, getD, set}
+use lib.ListN.{getD, set}
 use borrow.Author.Needs.{needs}
 use Rattle.patches.specs.Sums.{none, some}
 use Rattle.patches.proofs.Summing.{figure-most}

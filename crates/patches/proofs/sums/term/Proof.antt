@@ -1,5 +1,5 @@
 -- `patches::sums::term` meets its contract: each arm is one case of the definition.
-use mathlib.Core.Path.{_≡_, sym, ap}
+use mathlib.Core.Path.{sym, ap}
 use native.Mathlib.Omega.{arith}
 use borrow.Author.Needs.{needs}
 use Rattle.patches.specs.declared.sums.Figure.{Figure}
