@@ -59,3 +59,4 @@ pub mod Buckets
 pub mod Settling
 pub mod Checks
 pub mod Looks
+pub mod Tree
