@@ -9,7 +9,7 @@ use mir.Val.{Fits}
 use Rattle.p5.proofs.Answers.{answer-within}
 use Rattle.p5.proofs.Places.{place-within}
 use Rattle.board.specs.declared.Read.{Read}
-use Rattle.board.specs.Says.{ReadSays}
+use Rattle.board.specs.Reads.{ReadSays}
 use Rattle.read_report.specs.Reports.{report}
 use Rattle.text.specs.Decimal.{decimal, fields}
 use Rattle.text.proofs.Decimals.{tens, decimal-length}
