@@ -23,7 +23,9 @@ pub mod Partners
 pub mod Demand
 pub mod Beneath
 pub mod Levels
+pub mod Counts
 pub mod Numbering
+pub mod LastFathers
 pub mod Forests
 pub mod Marks
 pub mod Absorbing
@@ -31,6 +33,7 @@ pub mod Chains
 pub mod Walks
 pub mod Insertion
 pub mod Listing
+pub mod ListWalks
 pub mod Naming
 pub mod Mapped
 pub mod Buckets
