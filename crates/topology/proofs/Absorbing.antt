@@ -16,7 +16,7 @@ use Rattle.topology.proofs.Accepted.{Accepted, byte-at, places-bound}
 use Rattle.topology.proofs.Nodes.{nodes-few}
 use Rattle.topology.proofs.Beneath.{Low, beneath-number}
 use Rattle.topology.proofs.Levels.{put, relink, relink-moved, relink-kept, State, nothing, single, several, Level, Upto, Edges, edges-lower, Merged, met, met-number, linked}
-use Rattle.topology.proofs.Numbering.{soFar}
+use Rattle.topology.proofs.Counts.{soFar}
 use Rattle.topology.proofs.Forests.{Forest, Found, root-cell, forest-link}
 use Rattle.topology.proofs.Marks.{Names}
 

@@ -45,7 +45,9 @@ pub mod PatchesKept
 pub mod PatchSums
 pub mod Beneath
 pub mod Levels
+pub mod Counts
 pub mod Numbering
+pub mod LastFathers
 pub mod Forests
 pub mod Marks
 pub mod Absorbing
@@ -53,6 +55,7 @@ pub mod Chains
 pub mod Walks
 pub mod Insertion
 pub mod Listing
+pub mod ListWalks
 pub mod Naming
 pub mod Mapped
 pub mod Buckets

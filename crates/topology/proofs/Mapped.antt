@@ -15,12 +15,13 @@ use Rattle.topology.proofs.Accepted.{Accepted, places-bound}
 use Rattle.topology.proofs.Nodes.{nodes-few}
 use Rattle.topology.proofs.Descent.{under, map-under}
 use Rattle.topology.proofs.Levels.{Level, Upto, Edges}
-use Rattle.topology.proofs.Numbering.{soFar, so-few}
+use Rattle.topology.proofs.Counts.{soFar, so-few}
 use Rattle.topology.proofs.Forests.{Forest, Found, Block, block-set, Parents, forest-parents}
 use Rattle.topology.proofs.Absorbing.{Classes}
 use Rattle.topology.proofs.Chains.{fathersIn, mapIn, Next, After, Threads, upto-skip, classes-skip}
 use Rattle.topology.proofs.Walks.{Ready}
-use Rattle.topology.proofs.Listing.{firstsIn, NodesIn, Listing, level-fathers, list-start, ListFrom, ListReady}
+use Rattle.topology.proofs.Listing.{firstsIn, NodesIn, Listing, level-fathers, list-start}
+use Rattle.topology.proofs.ListWalks.{ListFrom, ListReady}
 use Rattle.topology.proofs.Naming.{Naming, Mapping, naming-start, naming-turn, naming-few, naming-end}
 
 -- the heights below k are done: c nodes, their heights, first places and entries of fathers, the map below, the chains above

@@ -15,7 +15,8 @@ use Rattle.topology.proofs.Accepted.{Accepted, places-bound}
 use Rattle.topology.proofs.Nodes.{nodes-few}
 use Rattle.topology.proofs.Descent.{under, map-under}
 use Rattle.topology.proofs.Levels.{put, put-same, put-other, Level, Upto, Edges}
-use Rattle.topology.proofs.Numbering.{soFar, so-few, Member, Listed, Numbered, number-new, count-next, next-level, named-all, edges-next}
+use Rattle.topology.proofs.Counts.{soFar, so-few}
+use Rattle.topology.proofs.Numbering.{Member, Listed, Numbered, number-new, count-next, next-level, named-all, edges-next}
 use Rattle.topology.proofs.Forests.{Forest, Found, Parents, forest-parents, forest-state}
 use Rattle.topology.proofs.Absorbing.{Classes}
 use Rattle.topology.proofs.Chains.{fathersIn, mapIn, Next, After, Threads, upto-skip}

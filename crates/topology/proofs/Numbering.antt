@@ -1,100 +1,30 @@
 -- The nodes of a height get their numbers: the rising list of the new roots is the definition's, and the classes go on to the next height.
 use mathlib.Core.Path.{_≡_, refl, sym, ap, subst, _∙_}
-use mathlib.Core.Bool.{Bool, true, false, _&&_, not}
-use mathlib.Core.Logic.{_⊎_, inl, inr, ⊎-elim, by-cases, _≢_}
-use mathlib.Core.List.{List, [], _∷_, _++_, map, map-map, append-assoc, List·Memᴰ, Memᴰ·map, Memᴰ·of-map}
+use mathlib.Core.Bool.{Bool, true, false, not}
+use mathlib.Core.Logic.{_⊎_, inl, inr, ⊎-elim, by-cases}
+use mathlib.Core.List.{List, map, map-map, List·Memᴰ, Memᴰ·map, Memᴰ·of-map}
 use Prim.Native.Nat.{ℕ, zero, suc, _+_, _-_, _≤_, _<_}
 use native.Mathlib.Decide.{ℕ-discrete, decLt}
 use native.Mathlib.Omega.{arith}
-use lib.ListN.{length, getD, length-append, length-map, List·getD-append}
-use lib.Seq.{getD-append-add}
+use lib.ListN.{length, getD, length-map}
 use Rattle.picture.specs.Lists.{tally, select, range, isIn}
 use Rattle.picture.specs.Pictures.{Picture, places, valueAt}
 use Rattle.picture.specs.Components.{componentAt}
-use Rattle.picture.specs.Trees.{Node, isBranch, nodesAt, nodesFrom, nodes, nodeAt, numberOf, fatherOf, mapOf}
+use Rattle.picture.specs.Trees.{Node, isBranch, nodesAt, nodes, nodeAt, numberOf, mapOf}
 use Rattle.topology.proofs.Tests.{and-left, and-right, and-both, same-test, not-of-false, clash}
 use Rattle.topology.proofs.Lists.{select-mem, mem-select, length-select, tally-stronger, tally-equal, in-mem, mem-in, length-range, range-mem, mem-range, getD-map-range}
 use Rattle.topology.proofs.Rising.{Rising, none, more, rising-select, rising-equal}
-use Rattle.topology.proofs.Connected.{start, conn-source, conn-target, conn-trans}
-use Rattle.topology.proofs.Keeping.{sec-mono}
+use Rattle.topology.proofs.Connected.{start, conn-target}
 use Rattle.topology.proofs.Adjacency.{At, Joined, joined-sym}
 use Rattle.topology.proofs.Reached.{firstAt, first-joined, first-least, first-at}
 use Rattle.topology.proofs.Parts.{isFirst, first-is, is-first}
-use Rattle.topology.proofs.Accepted.{Accepted, byte-at, places-bound}
-use Rattle.topology.proofs.Branches.{joined-mono, own-pixel}
+use Rattle.topology.proofs.Accepted.{Accepted, places-bound}
+use Rattle.topology.proofs.Branches.{joined-mono}
 use Rattle.topology.proofs.Nodes.{node, isNode, nodes-at, node-equal, number-found, nodes-few}
-use Rattle.topology.proofs.Descent.{under, map-under, under-same, under-fork, under-is}
-use Rattle.topology.proofs.Grid.{grid-joined}
-use Rattle.topology.proofs.Climb.{root-is, last-root}
+use Rattle.topology.proofs.Descent.{under, under-same, under-fork}
+use Rattle.topology.proofs.Counts.{soFar, so-few, so-next, so-at}
 use Rattle.topology.proofs.Beneath.{Low, beneath, low-at, at-low, low-at-below, beneath-next, beneath-number, none-fork, many-fork, one-branch}
 use Rattle.topology.proofs.Levels.{State, nothing, single, several, Father, unmet, known, Level, Upto, Edges, edges-joined}
-
--- the number of nodes below height k
-unfoldable pub soFar : Picture → ℕ → ℕ
-soFar p k = length (nodesFrom k 0 p)
-
-module _ (p : Picture) where
-  from-split : (a b k : ℕ) → nodesFrom (a + b) k p ≡ nodesFrom a k p ++ nodesFrom b (a + k) p
-  from-split zero b k =
-      let e : zero + b ≡ b = omega arith in
-      let g : zero + k ≡ k = omega arith in
-      ap (λ (m : ℕ). nodesFrom m k p) e ∙ sym (ap (λ (m : ℕ). nodesFrom b m p) g)
-  from-split (suc a) b k =
-      let e : suc a + b ≡ suc (a + b) = omega arith in
-      let g : a + suc k ≡ suc a + k = omega arith in
-      ap (λ (m : ℕ). nodesFrom m k p) e ∙
-      (ap (λ (l : List Node). nodesAt p k ++ l) (from-split a b (suc k)) ∙
-      (sym (append-assoc (nodesAt p k) (nodesFrom a (suc k) p) (nodesFrom b (a + suc k) p)) ∙
-      ap (λ (m : ℕ). (nodesAt p k ++ nodesFrom a (suc k) p) ++ nodesFrom b m p) g))
-
-  nodes-split : (k : ℕ) → k ≤ 256 → nodes p ≡ nodesFrom k 0 p ++ nodesFrom (256 - k) k p
-  unfolding nodes
-  nodes-split k b =
-      let e : 256 ≡ k + (256 - k) = omega arith in
-      let g : k + 0 ≡ k = omega arith in
-      ap (λ (m : ℕ). nodesFrom m 0 p) e ∙
-      (from-split k (256 - k) 0 ∙ ap (λ (m : ℕ). nodesFrom k 0 p ++ nodesFrom (256 - k) m p) g)
-
-  pub so-none : soFar p 0 ≡ 0
-  unfolding soFar
-  so-none = refl
-
-  pub so-all : soFar p 256 ≡ length (nodes p)
-  unfolding soFar nodes
-  so-all = refl
-
-  pub so-few : (k : ℕ) → k ≤ 256 → soFar p k ≤ length (nodes p)
-  unfolding soFar
-  so-few k b =
-      let e = ap length (nodes-split k b) in
-      let g = length-append (nodesFrom k 0 p) (nodesFrom (256 - k) k p) in
-      omega arith
-
-  rest-split : (k : ℕ) → k ≤ 255 → nodesFrom (256 - k) k p ≡ nodesAt p k ++ nodesFrom (255 - k) (suc k) p
-  rest-split k b =
-      let e : 256 - k ≡ suc (255 - k) = omega arith in ap (λ (m : ℕ). nodesFrom m k p) e
-
-  pub so-next : (k : ℕ) → soFar p (suc k) ≡ soFar p k + length (nodesAt p k)
-  unfolding soFar
-  so-next k =
-      let e : suc k ≡ k + 1 = omega arith in
-      let g : k + 0 ≡ k = omega arith in
-      ap (λ (m : ℕ). length (nodesFrom m 0 p)) e ∙
-      (ap length (from-split k 1 0) ∙
-      (length-append (nodesFrom k 0 p) (nodesFrom 1 (k + 0) p) ∙
-      ap (λ (m : ℕ). length (nodesFrom k 0 p) + m)
-      (length-append (nodesAt p (k + 0)) [] ∙
-      let h : length (nodesAt p (k + 0)) ≡ length (nodesAt p k) = ap (λ (m : ℕ). length (nodesAt p m)) g in
-      omega arith)))
-
-  -- the nodes of height k follow those below it
-  pub so-at : (k j : ℕ) → k ≤ 255 → j < length (nodesAt p k) → nodeAt p (soFar p k + j) ≡ getD (nodesAt p k) j (node 0 0)
-  unfolding soFar
-  so-at k j b h =
-      ap (λ (l : List Node). getD l (length (nodesFrom k 0 p) + j) (node 0 0)) (nodes-split k (omega arith)) ∙
-      (getD-append-add (nodesFrom k 0 p) (nodesFrom (256 - k) k p) j (node 0 0) ∙
-      (ap (λ (l : List Node). getD l j (node 0 0)) (rest-split k b) ∙
-      List·getD-append (nodesAt p k) (nodesFrom (255 - k) (suc k) p) (node 0 0) j h))
 
 -- y stands in f from c on, before d
 pub record Member (f : ℕ → ℕ) (c d y : ℕ) : Type 0 where
@@ -463,19 +393,3 @@ edges-start p root =
     record {
       same = λ y z a b t. absurd (⊎-elim (λ h. omega arith) (λ h. let g = h .1 in omega arith) (a .passed));
     }
-
--- after the last height an entry is missing exactly where the father is
-pub data LastFather (p : Picture) (f i : ℕ) : Type 0 where
-  missing : f ≡ 65535 → fatherOf p (nodeAt p i) ≡ 65535 → LastFather p f i
-  pixel : f < places p → fatherOf p (nodeAt p i) ≡ mapOf p f → LastFather p f i
-
-pub last-father : (p : Picture) → Accepted p → (root st : ℕ → ℕ) (f i : ℕ) → i < length (nodes p) → Father p 256 root st f i → LastFather p f i
-last-father p ok root st f i b (known h g) = pixel h g
-last-father p ok root st f i b (unmet z h l q t) =
-    let all-in : (y : ℕ) → y < places p → valueAt p y ≤ 255 = λ y g. byte-at (p .pixels) (ok .bytes) y in
-    let last : ℕ = length (nodes p) - 1 in
-    let top = root-is p ok last (omega arith) (last-root p ok last (omega arith)) in
-    let same = under-same p (grid-joined p (ok .wide) 255 all-in z (l .within)) in
-    let w = beneath-next p 255 z in
-    let e : last ≡ i = omega arith in
-    missing h (ap (λ (j : ℕ). fatherOf p (nodeAt p j)) (sym e) ∙ last-root p ok last (omega arith))

@@ -13,7 +13,8 @@ use Rattle.picture.specs.Trees.{nodes, nodeAt, fatherOf, mapOf}
 use Rattle.topology.proofs.Accepted.{Accepted, byte-at, places-bound}
 use Rattle.topology.proofs.Nodes.{nodes-few}
 use Rattle.topology.proofs.Levels.{Father}
-use Rattle.topology.proofs.Numbering.{soFar, so-all, LastFather, missing, pixel, last-father}
+use Rattle.topology.proofs.Counts.{soFar, so-all}
+use Rattle.topology.proofs.LastFathers.{LastFather, missing, pixel, last-father}
 use Rattle.topology.proofs.Chains.{fathersIn, mapIn}
 use Rattle.topology.proofs.Listing.{firstsIn, NodesIn}
 use Rattle.topology.proofs.Mapped.{Between}

@@ -20,7 +20,8 @@ use Rattle.topology.proofs.Branches.{own-pixel}
 use Rattle.topology.proofs.Nodes.{node, IsNode, node-is, number-found, nodes-few, heights-rise}
 use Rattle.topology.proofs.Descent.{under, map-under}
 use Rattle.topology.proofs.Levels.{put, put-same, put-other, Level, Upto, Edges}
-use Rattle.topology.proofs.Numbering.{soFar, so-few, Member, Listed, Numbered, joined-root, root-first, free-fork, fork-free, number-new, count-next, next-level, named-all, edges-next}
+use Rattle.topology.proofs.Counts.{soFar, so-few}
+use Rattle.topology.proofs.Numbering.{Member, Listed, Numbered, joined-root, root-first, free-fork, fork-free, number-new, count-next, next-level, named-all, edges-next}
 use Rattle.topology.proofs.Forests.{Forest, Found, Parents, forest-parents, root-cell, forest-state}
 use Rattle.topology.proofs.Checks.{Agree, Checking}
 use Rattle.verify.specs.Lent.{IsTree}

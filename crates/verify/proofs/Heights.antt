@@ -17,7 +17,8 @@ use Rattle.topology.proofs.Accepted.{Accepted, accepted-is, byte-at, places-bou
 use Rattle.topology.proofs.Nodes.{nodes-few}
 use Rattle.topology.proofs.Descent.{under-is}
 use Rattle.topology.proofs.Levels.{Level}
-use Rattle.topology.proofs.Numbering.{so-none, level-start, edges-start}
+use Rattle.topology.proofs.Counts.{so-none}
+use Rattle.topology.proofs.Numbering.{level-start, edges-start}
 use Rattle.topology.proofs.Checks.{Checking}
 use Rattle.topology.proofs.Looks.{Passed}
 use Rattle.verify.specs.Lent.{IsTree, Says}

@@ -23,7 +23,9 @@ use Rattle.topology.proofs.Nodes.{node, number-found, nodes-few, heights-rise}
 use Rattle.topology.proofs.Descent.{under, map-under, under-is}
 use Rattle.topology.proofs.Fathers.{map-found}
 use Rattle.topology.proofs.Levels.{Level, Upto, Edges}
-use Rattle.topology.proofs.Numbering.{soFar, so-all, so-few, so-none, Member, Listed, Numbered, joined-root, root-first, free-fork, number-new, count-next, next-level, named-all, edges-next, level-start, edges-start, LastFather, missing, pixel, last-father}
+use Rattle.topology.proofs.Counts.{soFar, so-all, so-few, so-none}
+use Rattle.topology.proofs.Numbering.{Member, Listed, Numbered, joined-root, root-first, free-fork, number-new, count-next, next-level, named-all, edges-next, level-start, edges-start}
+use Rattle.topology.proofs.LastFathers.{LastFather, missing, pixel, last-father}
 use Rattle.topology.proofs.Forests.{Forest, Found, Parents, forest-parents}
 use Rattle.topology.proofs.Checks.{Differs, Agree, Checking}
 use Rattle.verify.specs.Lent.{IsTree}

@@ -17,7 +17,7 @@ use Rattle.topology.proofs.Rising.{Rising, none, more, rising-from, rising-sele
 use Rattle.topology.proofs.Parts.{isFirst, is-first}
 use Rattle.topology.proofs.Numbers.{mem-index, index-mem}
 use Rattle.topology.proofs.Nodes.{node, isNode, IsNode, nodes-at, node-is, node-equal, heights-rise}
-use Rattle.topology.proofs.Numbering.{soFar, so-none, so-next, so-few, so-at}
+use Rattle.topology.proofs.Counts.{soFar, so-none, so-next, so-few, so-at}
 
 rising-at : {a : ℕ} {l : List ℕ} → Rising a l → (i j : ℕ) → i < j → j < length l → getD l i 0 < getD l j 0
 rising-at none i j h b = absurd (omega arith)

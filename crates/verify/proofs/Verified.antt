@@ -19,7 +19,9 @@ use Rattle.topology.proofs.Branches.{own-pixel}
 use Rattle.topology.proofs.Nodes.{node, nodes-few}
 use Rattle.topology.proofs.Descent.{under, map-under, under-is}
 use Rattle.topology.proofs.Climb.{root-is, last-root}
-use Rattle.topology.proofs.Numbering.{soFar, so-all, so-few, Member, joined-root, free-fork, LastFather, missing, pixel, last-father}
+use Rattle.topology.proofs.Counts.{soFar, so-all, so-few}
+use Rattle.topology.proofs.Numbering.{Member, joined-root, free-fork}
+use Rattle.topology.proofs.LastFathers.{LastFather, missing, pixel, last-father}
 use Rattle.topology.proofs.Forests.{Found, Parents, forest-parents}
 use Rattle.topology.proofs.Checks.{Differs, Agree, Checking}
 use Rattle.verify.specs.Lent.{IsTree}

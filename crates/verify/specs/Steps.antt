@@ -10,7 +10,8 @@ use Rattle.picture.specs.Trees.{nodeAt, mapOf}
 use Rattle.topology.proofs.Adjacency.{At}
 use Rattle.topology.proofs.Accepted.{Accepted}
 use Rattle.topology.proofs.Levels.{Level, Edges}
-use Rattle.topology.proofs.Numbering.{soFar, Member}
+use Rattle.topology.proofs.Counts.{soFar}
+use Rattle.topology.proofs.Numbering.{Member}
 use Rattle.topology.proofs.Forests.{Forest}
 use Rattle.topology.proofs.Checks.{Agree, Checking}
 use Rattle.verify.specs.Lent.{IsTree}

@@ -1,19 +1,13 @@
+-- `tree::absorb::absorb` meets its contract.
 use Rattle.tree.specs.Frame.{pictureOf}
 use Rattle.topology.proofs.Walks.{Joining, joining-start, joining-turn, joining-end, edge-ready, listed-cell, ready-placed, ready-parents}
-use Rattle.picture.specs.Pictures.{places}
-use lib.ListN.{length, getD}
-use mathlib.Core.Path.{_≡_, sym, ap, _∙_}
+use lib.ListN.{getD}
+use mathlib.Core.Path.{ap, _∙_}
 use native.Mathlib.Omega.{arith}
 use Prim.Native.Nat.{ℕ, _-_, _+_, _*_}
 use borrow.Author.Needs.{needs}
 use Rattle.tree.proofs.absorb.absorb.Statement.{statement}
 use Rattle.tree.proofs.absorb.absorb.Tie as tie
-use Rattle.tree.proofs.absorb.absorb.Reads as reads
-use Rattle.tree.proofs.absorb.absorb.Lts as lts
-use Rattle.picture.proofs.geometry.neighbours.Reads as neighbours-reads
-use Rattle.tree.proofs.absorb.absorb_edge.Reads as absorb-edge-reads
-use Rattle.tree.proofs.union_find.find.Reads as find-reads
-use Rattle.tree.proofs.union_find.wide.Reads as wide-reads
 
 abbrev Inv-loop : tie.InvT-loop
 Inv-loop a w h pixels work₀ cells₀ k x near count root₀ i₀ work cells root i = Joining (pictureOf a w h pixels) k x i root cells work₀ work
@@ -21,87 +15,68 @@ Inv-loop a w h pixels work₀ cells₀ k x near count root₀ i₀ work cells ro
 abbrev μ-loop : tie.MeasureT-loop
 μ-loop a w h pixels work₀ cells₀ k x near count root₀ i₀ work cells root i = count - i
 
--- src/absorb.rt:65:59
 slice-aggregate-neighbours : tie.Need-slice-aggregate-neighbours Inv-loop μ-loop
 slice-aggregate-neighbours c = search needs
 
--- src/absorb.rt:65:9
 neighbours-requires : tie.Need-neighbours-requires Inv-loop μ-loop
 neighbours-requires c κs = (ready-placed _ _ _ _ _ (c .before .before .before .before .pre .0) (c .before .before .before .before .pre .1), search needs)
 
--- src/absorb.rt:66:9
 find-requires : tie.Need-find-requires Inv-loop μ-loop
 find-requires c κs = (ready-parents (c .before .before .before .before .before .before .before .pre .0), c .before .before .before .before .before .before .before .pre .1)
 
--- src/absorb.rt:68:5
 loop-holds : tie.Need-loop-holds Inv-loop μ-loop
 loop-holds c = let e = c .before .before .before .before .before .before .before .before .before .before .pre .0 .classes .size in
     joining-start _ _ _ _ _ _ _ (c .before .before .before .before .before .before .before .before .before .before .pre .0) (omega (arith, c .before .before .before .before .before .before .before .before .before .before .pre .1)) (c .before .before .find .ensures)
 
--- src/absorb.rt:69:66
 mul-wide : tie.Need-mul-wide Inv-loop μ-loop
 mul-wide c = search needs
 
--- src/absorb.rt:69:66
 array-read-wide : tie.Need-array-read-wide Inv-loop μ-loop
 array-read-wide c = omega (arith, c .before .before .before .before .before .before .before .before .before .neighbours .ensures .few)
 
--- src/absorb.rt:69:61
 wide-requires : tie.Need-wide-requires Inv-loop μ-loop
 wide-requires c κs = search needs
 
--- src/absorb.rt:69:9
 absorb-edge-requires : tie.Need-absorb-edge-requires Inv-loop μ-loop
 absorb-edge-requires c κs = let s = c .before .before .before .before .before .before .before .before .before .before .neighbours .ensures in
     let b = c .before .before .before .loop-test .taken in
     let e = s .count in
     edge-ready _ _ _ _ _ _ _ _ _ (c .before .before .before .before .loop .inv) (omega arith) (c .wide .ensures ∙ listed-cell s _ b)
 
--- src/absorb.rt:70:9
 add-i : tie.Need-add-i Inv-loop μ-loop
 add-i c = search needs
 
--- src/absorb.rt:68:5
 loop-less : tie.Need-loop-less Inv-loop μ-loop
 loop-less c = search needs
 
--- src/absorb.rt:68:5
 loop-again : tie.Need-loop-again Inv-loop μ-loop
 loop-again c = let s = c .before .before .before .before .before .before .before .before .before .before .before .before .before .before .before .neighbours .ensures in
     let b = c .before .before .before .before .before .before .before .before .loop-test .taken in
     let e = s .count in
     joining-turn _ _ _ _ _ _ _ _ _ _ _ _ (c .before .before .before .before .before .before .before .before .before .loop .inv) (omega arith) (c .before .before .before .before .before .wide .ensures ∙ listed-cell s _ b) (c .before .before .before .before .absorb-edge .ensures)
 
--- src/absorb.rt:72:15
 mul-wide-2 : tie.Need-mul-wide-2 Inv-loop μ-loop
 mul-wide-2 c = search needs
 
--- src/absorb.rt:72:15
 add-wide : tie.Need-add-wide Inv-loop μ-loop
 add-wide c = search needs
 
--- src/absorb.rt:72:10
 mul-wide-3 : tie.Need-mul-wide-3 Inv-loop μ-loop
 mul-wide-3 c = search needs
 
--- src/absorb.rt:72:10
 slice-read-wide : tie.Need-slice-read-wide Inv-loop μ-loop
 slice-read-wide c = let i = c .before .before .loop .inv in
     omega (arith, i .room, i .near .size, i .near .within)
 
--- src/absorb.rt:72:5
 wide-requires-2 : tie.Need-wide-requires-2 Inv-loop μ-loop
 wide-requires-2 c κs = search needs
 
--- src/absorb.rt:60:1
 same-length : tie.Need-same-length Inv-loop μ-loop
 same-length c = search needs
 
--- src/absorb.rt:60:1
 same-length-2 : tie.Need-same-length-2 Inv-loop μ-loop
 same-length-2 c = search needs
 
--- src/absorb.rt:60:1
 returns : tie.Need-returns Inv-loop μ-loop
 returns c = let s = c .before .before .before .before .before .before .before .before .before .neighbours .ensures in
     let i = c .before .before .before .loop .inv in

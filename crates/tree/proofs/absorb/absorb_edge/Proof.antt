@@ -1,59 +1,44 @@
+-- `tree::absorb::absorb_edge` meets its contract.
 use Rattle.topology.proofs.Chains.{comes-is, edge-bounds, edge-parents, join-ready, done-skip, done-same, done-below, done-above}
 use Rattle.topology.proofs.Forests.{block-same}
 use borrow.Author.Tests.{not-true, not-false}
-use mathlib.Core.Path.{_≡_, sym, ap, _∙_}
 use native.Mathlib.Omega.{arith}
 use borrow.Author.Needs.{needs}
 use Rattle.tree.proofs.absorb.absorb_edge.Statement.{statement}
 use Rattle.tree.proofs.absorb.absorb_edge.Tie as tie
-use Rattle.tree.proofs.absorb.absorb_edge.Reads as reads
-use Rattle.tree.proofs.absorb.absorb_edge.Lts as lts
-use Rattle.tree.proofs.absorb.comes_before.Reads as comes-before-reads
-use Rattle.tree.proofs.union_find.find.Reads as find-reads
-use Rattle.tree.proofs.union_find.join.Reads as join-reads
 
--- src/absorb.rt:44:9
 comes-before-requires : tie.Need-comes-before-requires
 comes-before-requires c κs = edge-bounds _ _ _ _ _ _ _ (c .before .before .before .pre) .0
 
--- src/absorb.rt:45:9
 returns : tie.Need-returns
 returns c = let t = c .before .comes-before in
     done-skip _ _ _ _ _ _ _ (comes-is (not-true (t .result) (c .if1 .taken)) (t .ensures)) (block-same _ _ _)
 
--- src/absorb.rt:47:9
 find-requires : tie.Need-find-requires
 find-requires c κs = (edge-parents _ _ _ _ _ _ _ (c .before .before .before .before .before .before .pre), edge-bounds _ _ _ _ _ _ _ (c .before .before .before .before .before .before .pre) .1)
 
--- src/absorb.rt:49:9
 same-length : tie.Need-same-length
 same-length c = search needs
 
--- src/absorb.rt:49:9
 returns-2 : tie.Need-returns-2
 returns-2 c = let t = c .before .before .before .before .before .before .comes-before in
     done-same _ _ _ _ _ _ _ (comes-is (not-false (t .result) (c .before .before .before .before .before .if1 .left)) (t .ensures)) _ _ (c .before .before .before .find .ensures) (c .if2 .taken) (block-same _ _ _)
 
--- src/absorb.rt:52:9
 join-requires : tie.Need-join-requires
 join-requires c κs = let t = c .before .before .before .before .before .before .before .before .before .comes-before in
     let j = join-ready _ _ _ _ _ _ _ (comes-is (not-false (t .result) (c .before .before .before .before .before .before .before .before .if1 .left)) (t .ensures)) _ _ (c .before .before .before .before .before .before .find .ensures) (c .before .before .before .before .before .before .before .before .before .before .before .before .before .pre) in
     ((c .before .before .if3 .taken, j .in-r, j .few, j .place), ((j .name-q, j .name-r), j .room))
 
--- src/absorb.rt:53:9
 same-length-2 : tie.Need-same-length-2
 same-length-2 c = search needs
 
--- src/absorb.rt:53:9
 same-length-3 : tie.Need-same-length-3
 same-length-3 c = search needs
 
--- src/absorb.rt:53:9
 returns-3 : tie.Need-returns-3
 returns-3 c = let t = c .before .before .before .before .before .before .before .before .before .before .before .before .before .before .comes-before in
     done-below _ _ _ _ _ _ _ (comes-is (not-false (t .result) (c .before .before .before .before .before .before .before .before .before .before .before .before .before .if1 .left)) (t .ensures)) _ _ (c .before .before .before .before .before .before .before .before .before .before .before .find .ensures) _ _ (c .before .before .before .before .before .before .before .if3 .taken) (c .before .before .before .before .join .ensures)
 
--- src/absorb.rt:55:5
 join-requires-2 : tie.Need-join-requires-2
 join-requires-2 c κs = let t = c .before .before .before .before .before .before .before .before .before .comes-before in
     let j = join-ready _ _ _ _ _ _ _ (comes-is (not-false (t .result) (c .before .before .before .before .before .before .before .before .if1 .left)) (t .ensures)) _ _ (c .before .before .before .before .before .before .find .ensures) (c .before .before .before .before .before .before .before .before .before .before .before .before .before .pre) in
@@ -61,15 +46,12 @@ join-requires-2 c κs = let t = c .before .before .before .before .before .befor
     let e = c .before .before .if3 .left in
     ((omega arith, j .in-q, j .few, j .place), ((j .name-r, j .name-q), j .room))
 
--- src/absorb.rt:40:1
 same-length-4 : tie.Need-same-length-4
 same-length-4 c = search needs
 
--- src/absorb.rt:40:1
 same-length-5 : tie.Need-same-length-5
 same-length-5 c = search needs
 
--- src/absorb.rt:40:1
 returns-4 : tie.Need-returns-4
 returns-4 c = let t = c .before .before .before .before .before .before .before .before .before .before .before .before .before .before .comes-before in
     let d = c .before .before .before .before .before .before .before .before .if2 .left in

@@ -1,15 +1,13 @@
+-- `tree::absorb::absorb_level` meets its contract.
 use Rattle.tree.specs.Frame.{pictureOf}
 use Rattle.topology.proofs.Walks.{Ready, ready-end}
 use Rattle.topology.proofs.Forests.{Block, block-same, block-then}
-use mathlib.Core.Path.{_≡_, sym, ap, _∙_}
+use mathlib.Core.Path.{sym, _∙_}
 use native.Mathlib.Omega.{arith}
-use Prim.Native.Nat.{ℕ, _-_, _+_, _*_}
+use Prim.Native.Nat.{_-_, _*_}
 use borrow.Author.Needs.{needs}
 use Rattle.tree.proofs.absorb.absorb_level.Statement.{statement}
 use Rattle.tree.proofs.absorb.absorb_level.Tie as tie
-use Rattle.tree.proofs.absorb.absorb_level.Reads as reads
-use Rattle.tree.proofs.absorb.absorb_level.Lts as lts
-use Rattle.tree.proofs.absorb.absorb.Reads as absorb-reads
 
 abbrev Inv-loop : tie.InvT-loop
 Inv-loop a w h pixels work₀ cells₀ k head x₀ work cells x = Ready (pictureOf a w h pixels) k x cells work × Block (w * h) (w * h) work₀ work
@@ -17,33 +15,26 @@ Inv-loop a w h pixels work₀ cells₀ k head x₀ work cells x = Ready (picture
 abbrev μ-loop : tie.MeasureT-loop
 μ-loop a w h pixels work₀ cells₀ k head x₀ work cells x = w * h - x
 
--- src/absorb.rt:81:5
 loop-holds : tie.Need-loop-holds Inv-loop μ-loop
 loop-holds c = (c .before .before .before .pre, block-same _ _ _)
 
--- src/absorb.rt:82:9
 absorb-requires : tie.Need-absorb-requires Inv-loop μ-loop
 absorb-requires c κs = (c .before .before .before .loop .inv .0, c .before .before .loop-test .taken)
 
--- src/absorb.rt:81:5
 loop-less : tie.Need-loop-less Inv-loop μ-loop
 loop-less c = let i = c .before .before .before .before .before .before .before .before .loop .inv .0 in
     omega (arith, i .classes .size, c .before .before .before .before .before .before .before .loop-test .taken, c .before .before .before .before .absorb .ensures .more)
 
--- src/absorb.rt:81:5
 loop-again : tie.Need-loop-again Inv-loop μ-loop
 loop-again c = (c .before .before .before .before .absorb .ensures .ready, block-then _ _ _ _ _ (c .before .before .before .before .before .before .before .before .loop .inv .1) (c .before .before .before .before .absorb .ensures .block))
 
--- src/absorb.rt:76:1
 same-length : tie.Need-same-length Inv-loop μ-loop
 same-length c = search needs
 
--- src/absorb.rt:76:1
 same-length-2 : tie.Need-same-length-2 Inv-loop μ-loop
 same-length-2 c = let i = c .before .loop .inv .0 in
     i .classes .size ∙ sym (c .before .before .before .before .before .pre .classes .size)
 
--- src/absorb.rt:76:1
 returns : tie.Need-returns Inv-loop μ-loop
 returns c = let i = c .before .loop .inv in
     (ready-end _ _ _ _ _ (i .0) (omega (arith, c .loop-test .left, i .0 .classes .size)), i .1)

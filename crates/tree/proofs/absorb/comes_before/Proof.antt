@@ -1,32 +1,24 @@
+-- `tree::absorb::comes_before` meets its contract.
 use Rattle.topology.proofs.Chains.{comes-low, comes-high, comes-first, comes-last}
 use borrow.Author.Needs.{needs}
 use Rattle.tree.proofs.absorb.comes_before.Statement.{statement}
 use Rattle.tree.proofs.absorb.comes_before.Tie as tie
-use Rattle.tree.proofs.absorb.comes_before.Reads as reads
-use Rattle.tree.proofs.absorb.comes_before.Lts as lts
-use Rattle.tree.proofs.absorb.height.Reads as height-reads
 
--- src/absorb.rt:26:20
 shared-slice-read-height : tie.Need-shared-slice-read-height
 shared-slice-read-height c = search needs
 
--- src/absorb.rt:26:9
 height-requires : tie.Need-height-requires
 height-requires c κs = search needs
 
--- src/absorb.rt:28:9
 returns : tie.Need-returns
 returns c = comes-low _ _ _ _ _ (c .before .height .ensures) (c .if1 .taken)
 
--- src/absorb.rt:31:9
 returns-2 : tie.Need-returns-2
 returns-2 c = comes-high _ _ _ _ _ (c .before .before .height .ensures) (c .if2 .taken)
 
--- src/absorb.rt:34:9
 returns-3 : tie.Need-returns-3
 returns-3 c = comes-first _ _ _ _ _ (c .before .before .before .height .ensures) (c .before .before .if1 .left) (c .before .if2 .left) (c .if3 .taken)
 
--- src/absorb.rt:22:1
 returns-4 : tie.Need-returns-4
 returns-4 c = comes-last _ _ _ _ _ (c .before .before .before .height .ensures) (c .before .before .if1 .left) (c .before .if2 .left) (c .if3 .left)
 

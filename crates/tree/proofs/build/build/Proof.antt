@@ -1,51 +1,39 @@
+-- `tree::build::build` meets its contract.
 use mathlib.Core.Path.{sym}
 use Rattle.tree.proofs.Trees.{built-front}
 use lib.Seq.{length-take-le}
 use borrow.Author.Needs.{needs}
 use Rattle.tree.proofs.build.build.Statement.{statement}
 use Rattle.tree.proofs.build.build.Tie as tie
-use Rattle.tree.proofs.build.build.Reads as reads
-use Rattle.tree.proofs.build.build.Lts as lts
-use Rattle.tree.proofs.build.build_exactly.Reads as build-exactly-reads
 
--- src/build.rt:67:13
 mul-n : tie.Need-mul-n
 mul-n c = search needs
 
--- src/build.rt:68:16
 mul-room : tie.Need-mul-room
 mul-room c = search needs
 
--- src/build.rt:69:36
 slice-relend-prefix-build-exactly : tie.Need-slice-relend-prefix-build-exactly
 slice-relend-prefix-build-exactly c = search needs
 
--- src/build.rt:69:36
 slice-aggregate-build-exactly : tie.Need-slice-aggregate-build-exactly
 slice-aggregate-build-exactly c = sym (length-take-le _ _ (c .before .before .before .before .pre .1 .0))
 
--- src/build.rt:69:55
 slice-relend-prefix-build-exactly-2 : tie.Need-slice-relend-prefix-build-exactly-2
 slice-relend-prefix-build-exactly-2 c = search needs
 
--- src/build.rt:69:55
 slice-aggregate-build-exactly-2 : tie.Need-slice-aggregate-build-exactly-2
 slice-aggregate-build-exactly-2 c = sym (length-take-le _ _ (c .before .before .before .before .before .pre .1 .1))
 
--- src/build.rt:69:5
 build-exactly-requires : tie.Need-build-exactly-requires
 build-exactly-requires c κs = let s = c .before .before .before .before .before in
     (s .pre .0, (length-take-le _ _ (s .pre .1 .0), length-take-le _ _ (s .pre .1 .1)))
 
--- src/build.rt:62:1
 same-length : tie.Need-same-length
 same-length c = search needs
 
--- src/build.rt:62:1
 same-length-2 : tie.Need-same-length-2
 same-length-2 c = search needs
 
--- src/build.rt:62:1
 returns : tie.Need-returns
 returns c = let s = c .before .before .before .before .before .before .before .before .before .before in
     let b = c .before .before .before .before .build-exactly in

@@ -1,66 +1,50 @@
+-- `tree::build::settle_one` meets its contract.
 use Rattle.topology.proofs.Settling.{stays, settle-move}
-use mathlib.Core.Path.{_≡_, refl}
+use mathlib.Core.Path.{refl}
 use native.Mathlib.Omega.{arith}
 use borrow.Author.Needs.{needs}
 use Rattle.tree.proofs.build.settle_one.Statement.{statement}
 use Rattle.tree.proofs.build.settle_one.Tie as tie
-use Rattle.tree.proofs.build.settle_one.Reads as reads
-use Rattle.tree.proofs.build.settle_one.Lts as lts
-use Rattle.tree.proofs.union_find.wide.Reads as wide-reads
 
--- src/build.rt:20:18
 add-f : tie.Need-add-f
 add-f c = search needs
 
--- src/build.rt:20:13
 mul-f : tie.Need-mul-f
 mul-f c = search needs
 
--- src/build.rt:20:13
 slice-read-f : tie.Need-slice-read-f
 slice-read-f c = search needs
 
--- src/build.rt:22:9
 returns : tie.Need-returns
 returns c = stays (c .if1 .taken) refl
 
--- src/build.rt:24:24
 mul-work : tie.Need-mul-work
 mul-work c = search needs
 
--- src/build.rt:24:32
 wide-requires : tie.Need-wide-requires
 wide-requires c κs = search needs
 
--- src/build.rt:24:24
 add-work : tie.Need-add-work
 add-work c = omega (arith, c .wide .ensures, c .before .before .before .before .pre .within, c .before .before .before .before .pre .room, c .before .before .before .before .pre .pixel (c .before .if1 .left), c .before .before .before .before .good)
 
--- src/build.rt:24:19
 mul-work-2 : tie.Need-mul-work-2
 mul-work-2 c = omega (arith, c .wide .ensures, c .before .before .before .before .pre .within, c .before .before .before .before .pre .room, c .before .before .before .before .pre .pixel (c .before .if1 .left), c .before .before .before .before .good)
 
--- src/build.rt:24:19
 slice-read-work : tie.Need-slice-read-work
 slice-read-work c = omega (arith, c .before .wide .ensures, c .before .before .before .before .before .pre .within, c .before .before .before .before .before .pre .room, c .before .before .before .before .before .pre .pixel (c .before .before .if1 .left))
 
--- src/build.rt:24:10
 add-work-2 : tie.Need-add-work-2
 add-work-2 c = search needs
 
--- src/build.rt:24:5
 mul-work-3 : tie.Need-mul-work-3
 mul-work-3 c = search needs
 
--- src/build.rt:24:5
 slice-write-work : tie.Need-slice-write-work
 slice-write-work c = search needs
 
--- src/build.rt:16:1
 same-length : tie.Need-same-length
 same-length c = search needs
 
--- src/build.rt:16:1
 returns-2 : tie.Need-returns-2
 returns-2 c = settle-move _ _ _ _ (c .before .wide .ensures) (c .before .before .if1 .left)
 

@@ -1,27 +1,19 @@
+-- `tree::levels::level` meets its contract.
 use Rattle.topology.proofs.Mapped.{between-ready, between-list, list-ready, name-ready, name-map, map-from-ready}
-use mathlib.Core.Path.{_≡_, refl}
+use mathlib.Core.Path.{refl}
 use native.Mathlib.Omega.{arith}
 use borrow.Author.Needs.{needs}
 use Rattle.tree.proofs.levels.level.Statement.{statement}
 use Rattle.tree.proofs.levels.level.Tie as tie
-use Rattle.tree.proofs.levels.level.Reads as reads
-use Rattle.tree.proofs.levels.level.Lts as lts
-use Rattle.tree.proofs.absorb.absorb_level.Reads as absorb-level-reads
-use Rattle.tree.proofs.levels.map_level.Reads as map-level-reads
-use Rattle.tree.proofs.levels.number_level.Reads as number-level-reads
-use Rattle.tree.proofs.list.list_level.Reads as list-level-reads
 
--- src/levels.rt:67:5
 absorb-level-requires : tie.Need-absorb-level-requires
 absorb-level-requires c κs = between-ready _ _ _ _ _ _ (c .before .before .before .before .before .pre .0) (c .before .before .before .before .before .pre .1)
 
--- src/levels.rt:68:9
 list-level-requires : tie.Need-list-level-requires
 list-level-requires c κs = let s = c .before .before .before .before .before .before .before .before .before .before .before .before in
     let e = c .before .before .before .before .before .before .absorb-level .ensures in
     list-ready (between-list _ _ _ _ _ _ _ _ (omega (arith, s .pre .2)) (s .pre .0) (s .pre .1) (e .0) (e .1))
 
--- src/levels.rt:69:5
 number-level-requires : tie.Need-number-level-requires
 number-level-requires c κs = let s = c .before .before .before .before .before .before .before .before .before .before .before .before .before .before .before .before .before .before .before in
     let e = c .before .before .before .before .before .before .before .before .before .before .before .before .before .absorb-level .ensures in (
@@ -32,7 +24,6 @@ number-level-requires c κs = let s = c .before .before .before .before .before 
       s .pre .2,
     )
 
--- src/levels.rt:70:5
 map-level-requires : tie.Need-map-level-requires
 map-level-requires c κs = let s = c .before .before .before .before .before .before .before .before .before .before .before .before .before .before .before .before .before .before .before .before .before .before .before .before .before .before in
     let e = c .before .before .before .before .before .before .before .before .before .before .before .before .before .before .before .before .before .before .before .before .absorb-level .ensures in
@@ -42,15 +33,12 @@ map-level-requires c κs = let s = c .before .before .before .before .before .be
     (between-list _ _ _ _ _ _ _ _ (omega (arith, s .pre .2)) (s .pre .0) (s .pre .1) (e .0) (e .1)))
     (c .before .before .before .before .before .before .number-level .ensures) (s .pre .1))
 
--- src/levels.rt:63:1
 same-length : tie.Need-same-length
 same-length c = search needs
 
--- src/levels.rt:63:1
 same-length-2 : tie.Need-same-length-2
 same-length-2 c = search needs
 
--- src/levels.rt:63:1
 returns : tie.Need-returns
 returns c = let s = c .before .before .before .before .before .before .before .before .before .before .before .before .before .before .before .before .before .before .before .before .before .before .before .before .before .before .before .before .before .before .before in
     let e = c .before .before .before .before .before .before .before .before .before .before .before .before .before .before .before .before .before .before .before .before .before .before .before .before .before .absorb-level .ensures in

@@ -1,12 +1,8 @@
+-- `tree::union_find::find` meets its contract.
 use Rattle.topology.proofs.Forests.{Walked, walk-start, walk-turn, walk-end}
-use lib.ListN.{length, getD}
-use native.Mathlib.Omega.{arith}
 use borrow.Author.Needs.{needs}
 use Rattle.tree.proofs.union_find.find.Statement.{statement}
 use Rattle.tree.proofs.union_find.find.Tie as tie
-use Rattle.tree.proofs.union_find.find.Reads as reads
-use Rattle.tree.proofs.union_find.find.Lts as lts
-use Rattle.tree.proofs.union_find.split.Reads as split-reads
 
 abbrev Inv-loop : tie.InvT-loop
 Inv-loop cells₀ x i₀ cells i = Walked cells₀ x i cells
@@ -14,35 +10,27 @@ Inv-loop cells₀ x i₀ cells i = Walked cells₀ x i cells
 abbrev μ-loop : tie.MeasureT-loop
 μ-loop cells₀ x i₀ cells i = i
 
--- src/union_find.rt:35:5
 loop-holds : tie.Need-loop-holds Inv-loop μ-loop
 loop-holds c = walk-start _ _ (c .before .pre .1) (c .before .pre .0)
 
--- src/union_find.rt:35:11
 mul-if1 : tie.Need-mul-if1 Inv-loop μ-loop
 mul-if1 c = search needs
 
--- src/union_find.rt:35:11
 slice-read-if1 : tie.Need-slice-read-if1 Inv-loop μ-loop
 slice-read-if1 c = search needs
 
--- src/union_find.rt:36:9
 split-requires : tie.Need-split-requires Inv-loop μ-loop
 split-requires c κs = search needs
 
--- src/union_find.rt:35:5
 loop-less : tie.Need-loop-less Inv-loop μ-loop
 loop-less c = search needs
 
--- src/union_find.rt:35:5
 loop-again : tie.Need-loop-again Inv-loop μ-loop
 loop-again c = walk-turn _ _ _ _ _ _ (c .before .before .before .before .before .before .loop .inv) (c .before .before .split .ensures .walked)
 
--- src/union_find.rt:30:1
 same-length : tie.Need-same-length Inv-loop μ-loop
 same-length c = search needs
 
--- src/union_find.rt:30:1
 returns : tie.Need-returns Inv-loop μ-loop
 returns c = walk-end _ _ _ _ (c .before .before .loop .inv) (c .if1 .left)
 

@@ -1,47 +1,36 @@
+-- `tree::union_find::mark` meets its contract.
 use Rattle.topology.proofs.Marks.{mark-none, mark-some}
 use native.Mathlib.Omega.{arith}
 use borrow.Author.Needs.{needs}
 use Rattle.tree.proofs.union_find.mark.Statement.{statement}
 use Rattle.tree.proofs.union_find.mark.Tie as tie
-use Rattle.tree.proofs.union_find.mark.Reads as reads
-use Rattle.tree.proofs.union_find.mark.Lts as lts
-use Rattle.tree.proofs.union_find.wide.Reads as wide-reads
 
--- src/union_find.rt:47:42
 cast-work : tie.Need-cast-work
 cast-work c = search needs
 
--- src/union_find.rt:47:19
 wide-requires : tie.Need-wide-requires
 wide-requires c κs = search needs
 
--- src/union_find.rt:47:19
 sub-work : tie.Need-sub-work
 sub-work c = search needs
 
--- src/union_find.rt:47:14
 add-work : tie.Need-add-work
 add-work c = search needs
 
--- src/union_find.rt:47:9
 mul-work : tie.Need-mul-work
 mul-work c = search needs
 
--- src/union_find.rt:47:9
 slice-write-work : tie.Need-slice-write-work
 slice-write-work c = let s = c .before .before .before in
     omega (arith, c .wide .ensures, s .pre .0 .root, s .pre .0 .node (c .before .if1 .taken))
 
--- src/union_find.rt:42:1
 same-length : tie.Need-same-length
 same-length c = search needs
 
--- src/union_find.rt:42:1
 returns : tie.Need-returns
 returns c = let s = c .before .before .before in
     mark-some _ _ _ _ _ (c .wide .ensures) (s .pre .0) (c .before .if1 .taken) (s .pre .1)
 
--- src/union_find.rt:42:1
 returns-2 : tie.Need-returns-2
 returns-2 c = mark-none _ _ _ _ (c .if1 .left)
 

@@ -1,32 +1,24 @@
+-- `tree::union_find::merge` meets its contract.
 use Rattle.topology.proofs.Marks.{merge-left, merge-right, merge-both}
 use borrow.Author.Needs.{needs}
 use Rattle.tree.proofs.union_find.merge.Statement.{statement}
 use Rattle.tree.proofs.union_find.merge.Tie as tie
-use Rattle.tree.proofs.union_find.merge.Reads as reads
-use Rattle.tree.proofs.union_find.merge.Lts as lts
-use Rattle.tree.proofs.union_find.mark.Reads as mark-reads
 
--- src/union_find.rt:57:9
 returns : tie.Need-returns
 returns c = merge-left _ _ _ _ _ (c .before .before .pre .1) (c .if1 .taken)
 
--- src/union_find.rt:60:9
 returns-2 : tie.Need-returns-2
 returns-2 c = merge-right _ _ _ _ _ (c .before .before .before .pre .0) (c .if2 .taken)
 
--- src/union_find.rt:62:5
 mark-requires : tie.Need-mark-requires
 mark-requires c κs = search needs
 
--- src/union_find.rt:63:5
 mark-requires-2 : tie.Need-mark-requires-2
 mark-requires-2 c κs = search needs
 
--- src/union_find.rt:52:1
 same-length : tie.Need-same-length
 same-length c = search needs
 
--- src/union_find.rt:52:1
 returns-3 : tie.Need-returns-3
 returns-3 c = let m = c .before .before .before .before .before .before in
     let t = m .before .before in

@@ -1,39 +1,28 @@
+-- `verify::check::check_level` meets its contract.
 use Rattle.verify.proofs.Heights.{level-differs, level-count, level-size, level-nodes, level-map, level-same, level-mapped, level-done}
 use borrow.Author.Tests.{not-true, not-false}
-use mathlib.Core.Path.{_≡_, refl}
+use mathlib.Core.Path.{refl}
 use native.Mathlib.Omega.{arith}
 use borrow.Author.Needs.{needs}
 use Rattle.verify.proofs.check.check_level.Statement.{statement}
 use Rattle.verify.proofs.check.check_level.Tie as tie
-use Rattle.verify.proofs.check.check_level.Reads as reads
-use Rattle.verify.proofs.check.check_level.Lts as lts
-use Rattle.verify.proofs.look.check_pixels.Reads as check-pixels-reads
-use Rattle.verify.proofs.nodes.check_map.Reads as check-map-reads
-use Rattle.verify.proofs.nodes.check_nodes.Reads as check-nodes-reads
-use Rattle.verify.proofs.nodes.run_end.Reads as run-end-reads
 
--- src/check.rt:33:9
 check-pixels-requires : tie.Need-check-pixels-requires
 check-pixels-requires c κs = search needs
 
--- src/check.rt:34:16
 add-result : tie.Need-add-result
 add-result c = search needs
 
--- src/check.rt:34:9
 same-length : tie.Need-same-length
 same-length c = search needs
 
--- src/check.rt:34:9
 returns : tie.Need-returns
 returns c = let t = c .before .before .before .check-pixels in
     level-differs _ _ _ _ _ _ _ _ _ (c .before .before .before .before .before .before .before .before .before .before .before .pre .0 .0) _ _ _ _ refl (t .ensures) (not-true (t .result) (c .if1 .taken))
 
--- src/check.rt:36:9
 run-end-requires : tie.Need-run-end-requires
 run-end-requires c κs = search needs
 
--- src/check.rt:37:9
 check-nodes-requires : tie.Need-check-nodes-requires
 check-nodes-requires c κs = let z = c .before .before .before .before .before .before .before .before .before .before .before .before .before .pre .1 in
     let v = c .before .before .before .before .before .before .before .before .before .before .before .before .before .pre .0 .0 in
@@ -44,22 +33,18 @@ check-nodes-requires c κs = let z = c .before .before .before .before .before .
     let run = c .before .run-end .ensures in
     ((level-count _ _ _ _ _ _ _ _ _ v (c .before .before .before .before .before .before .before .before .before .before .before .before .before .pre .0 .1) _ _ _ (t .ensures) q refl, run .order, omega (arith, run .most, z .count, e, g), omega (arith, z .few, e, g)), (omega (arith, z .firsts, e, g), omega (arith, z .pixels, e, g)))
 
--- src/check.rt:38:16
 add-result-2 : tie.Need-add-result-2
 add-result-2 c = search needs
 
--- src/check.rt:38:9
 same-length-2 : tie.Need-same-length-2
 same-length-2 c = search needs
 
--- src/check.rt:38:9
 returns-2 : tie.Need-returns-2
 returns-2 c = let t = c .before .before .before .before .before .before .before .before .before .check-pixels in
     let q = not-false (t .result) (c .before .before .before .before .before .before .if1 .left) in
     let u = c .before .before .before .check-nodes in
     level-nodes _ _ _ _ _ _ _ _ _ (c .before .before .before .before .before .before .before .before .before .before .before .before .before .before .before .before .before .pre .0 .0) (c .before .before .before .before .before .before .before .before .before .before .before .before .before .before .before .before .before .pre .0 .1) _ _ _ (t .ensures) q refl _ (c .before .before .before .before .before .run-end .ensures) _ _ (u .ensures) _ refl (not-true (u .result) (c .if2 .taken))
 
--- src/check.rt:40:9
 check-map-requires : tie.Need-check-map-requires
 check-map-requires c κs = let z = c .before .before .before .before .before .before .before .before .before .before .before .before .before .before .before .before .before .before .pre .1 in
     let v = c .before .before .before .before .before .before .before .before .before .before .before .before .before .before .before .before .before .before .pre .0 .0 in
@@ -71,15 +56,12 @@ check-map-requires c κs = let z = c .before .before .before .before .before .be
     let g = v .checking .classes .size in
     (level-map _ _ _ _ _ _ _ _ _ v (c .before .before .before .before .before .before .before .before .before .before .before .before .before .before .before .before .before .before .pre .0 .1) _ _ _ (t .ensures) q refl _ (c .before .before .before .before .before .before .run-end .ensures) _ _ (u .ensures) r, (omega (arith, z .map, e, g), omega (arith, z .pixels, e, g)))
 
--- src/check.rt:41:16
 add-result-3 : tie.Need-add-result-3
 add-result-3 c = search needs
 
--- src/check.rt:41:9
 same-length-3 : tie.Need-same-length-3
 same-length-3 c = search needs
 
--- src/check.rt:41:9
 returns-3 : tie.Need-returns-3
 returns-3 c = let t = c .before .before .before .before .before .before .before .before .before .before .before .before .before .before .check-pixels in
     let q = not-false (t .result) (c .before .before .before .before .before .before .before .before .before .before .before .if1 .left) in
@@ -88,11 +70,9 @@ returns-3 c = let t = c .before .before .before .before .before .before .before 
     let k = c .before .before .before .check-map in
     level-mapped _ _ _ _ _ _ _ _ _ (c .before .before .before .before .before .before .before .before .before .before .before .before .before .before .before .before .before .before .before .before .before .before .pre .0 .0) (c .before .before .before .before .before .before .before .before .before .before .before .before .before .before .before .before .before .before .before .before .before .before .pre .0 .1) _ _ _ (t .ensures) q refl _ (c .before .before .before .before .before .before .before .before .before .before .run-end .ensures) _ _ (u .ensures) r _ _ _ (k .ensures) (not-true (k .result) (c .if3 .taken)) refl
 
--- src/check.rt:28:1
 same-length-4 : tie.Need-same-length-4
 same-length-4 c = search needs
 
--- src/check.rt:28:1
 returns-4 : tie.Need-returns-4
 returns-4 c = let t = c .before .before .before .before .before .before .before .before .before .before .before .before .before .before .check-pixels in
     let q = not-false (t .result) (c .before .before .before .before .before .before .before .before .before .before .before .if1 .left) in

@@ -1,29 +1,22 @@
+-- `verify::check::is_tree_exactly` meets its contract.
 use Rattle.verify.proofs.Heights.{verified-start, sizes-of, says-none, says-many, says-count, says-father, says-tree}
 use Rattle.tree.specs.Frame.{pictureOf}
-use mathlib.Core.Path.{_≡_, sym, _∙_}
+use mathlib.Core.Path.{_∙_}
 use native.Mathlib.Omega.{arith}
-use Prim.Native.Nat.{ℕ, _-_, _+_, _*_, _≤_}
+use Prim.Native.Nat.{_-_}
 use borrow.Author.Needs.{needs}
 use Rattle.verify.proofs.check.is_tree_exactly.Statement.{statement}
 use Rattle.verify.proofs.check.is_tree_exactly.Tie as tie
-use Rattle.verify.proofs.check.is_tree_exactly.Reads as reads
-use Rattle.verify.proofs.check.is_tree_exactly.Lts as lts
-use Rattle.verify.proofs.check.check_levels.Reads as check-levels-reads
-use Rattle.verify.proofs.check.fresh.Reads as fresh-reads
 
--- src/check.rt:71:9
 returns : tie.Need-returns
 returns c = says-none _ _ _ _ _ _ (c .before .before .before .before .before .before .before .pre .0) (c .if1 .taken)
 
--- src/check.rt:74:9
 returns-2 : tie.Need-returns-2
 returns-2 c = says-many (pictureOf (c .before .before .before .before .before .before .before .before .args .a) (c .before .before .before .before .before .before .before .before .args .w) (c .before .before .before .before .before .before .before .before .args .h) (c .before .before .before .before .before .before .before .before .args .pixels .now)) _ _ _ _ _ (omega (arith, c .if2 .taken, c .before .before .before .before .before .before .before .before .pre .1 .0))
 
--- src/check.rt:76:5
 fresh-requires : tie.Need-fresh-requires
 fresh-requires c κs = search needs
 
--- src/check.rt:77:9
 check-levels-requires : tie.Need-check-levels-requires
 check-levels-requires c κs = let s = c .before .before .before .before .before .before .before .before .before .before .before .before .before in
     let f = c .before .before .before .fresh .ensures in (
@@ -31,39 +24,30 @@ check-levels-requires c κs = let s = c .before .before .before .before .before 
       sizes-of (pictureOf (s .args .a) (s .args .w) (s .args .h) (s .args .pixels .now)) _ _ _ _ _ _ (s .pre .0) (f .size ∙ s .pre .1 .0) (omega (arith, f .size, c .before .before .before .before .before .if2 .left)) (s .pre .1 .1) (s .pre .1 .2) (s .pre .1 .3) (s .pre .1 .4),
     )
 
--- src/check.rt:79:9
 same-length : tie.Need-same-length
 same-length c = search needs
 
--- src/check.rt:79:9
 returns-3 : tie.Need-returns-3
 returns-3 c = says-count _ _ _ _ _ _ _ _ (c .before .before .before .check-levels .ensures) (c .if3 .taken)
 
--- src/check.rt:81:24
 sub-last : tie.Need-sub-last
 sub-last c = search needs
 
--- src/check.rt:81:16
 mul-last : tie.Need-mul-last
 mul-last c = search needs
 
--- src/check.rt:81:16
 shared-slice-read-last : tie.Need-shared-slice-read-last
 shared-slice-read-last c = omega (arith, c .before .before .before .before .before .before .before .before .before .before .before .if1 .left, c .before .before .before .before .before .before .before .before .before .before .if2 .left, c .before .before .before .before .before .before .before .before .before .before .before .before .before .before .before .before .before .before .pre .1 .0, c .before .before .before .before .before .before .before .before .before .before .before .before .before .before .before .before .before .before .pre .1 .2)
 
--- src/check.rt:83:9
 same-length-2 : tie.Need-same-length-2
 same-length-2 c = search needs
 
--- src/check.rt:83:9
 returns-4 : tie.Need-returns-4
 returns-4 c = says-father _ _ _ _ _ _ _ _ (c .before .before .before .before .before .check-levels .ensures) (c .before .before .if3 .left) (c .if4 .taken)
 
--- src/check.rt:65:1
 same-length-3 : tie.Need-same-length-3
 same-length-3 c = search needs
 
--- src/check.rt:65:1
 returns-5 : tie.Need-returns-5
 returns-5 c = says-tree _ _ _ _ _ _ _ _ (c .before .before .before .before .before .check-levels .ensures) (c .before .before .if3 .left) (c .if4 .left)
 

@@ -1,42 +1,32 @@
+-- `verify::climb::climb_one` meets its contract.
 use Rattle.verify.specs.Climbs.{left, right}
 use mathlib.Core.Path.{refl}
 use native.Mathlib.Omega.{arith}
 use borrow.Author.Needs.{needs}
 use Rattle.verify.proofs.climb.climb_one.Statement.{statement}
 use Rattle.verify.proofs.climb.climb_one.Tie as tie
-use Rattle.verify.proofs.climb.climb_one.Reads as reads
-use Rattle.verify.proofs.climb.climb_one.Lts as lts
-use Rattle.tree.proofs.union_find.wide.Reads as wide-reads
 
--- src/climb.rt:21:23
 mul-wide : tie.Need-mul-wide
 mul-wide c = search needs
 
--- src/climb.rt:21:23
 shared-slice-read-wide : tie.Need-shared-slice-read-wide
 shared-slice-read-wide c = search needs
 
--- src/climb.rt:21:13
 wide-requires : tie.Need-wide-requires
 wide-requires c κs = search needs
 
--- src/climb.rt:22:9
 returns : tie.Need-returns
 returns c = left (c .before .before .if1 .taken) (c .wide .ensures) refl
 
--- src/climb.rt:24:19
 mul-wide-2 : tie.Need-mul-wide-2
 mul-wide-2 c = search needs
 
--- src/climb.rt:24:19
 shared-slice-read-wide-2 : tie.Need-shared-slice-read-wide-2
 shared-slice-read-wide-2 c = search needs
 
--- src/climb.rt:24:9
 wide-requires-2 : tie.Need-wide-requires-2
 wide-requires-2 c κs = search needs
 
--- src/climb.rt:16:1
 returns-2 : tie.Need-returns-2
 returns-2 c = let d = c .before .before .before .before .pre .2 in
     let e = c .before .before .if1 .left in

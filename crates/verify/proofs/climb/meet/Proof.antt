@@ -1,12 +1,9 @@
+-- `verify::climb::meet` meets its contract.
 use Rattle.verify.proofs.Climbs.{Climbing, climb-start, climb-turn, climb-less, climb-end}
 use native.Mathlib.Omega.{arith}
-use Prim.Native.Nat.{ℕ, _-_, _+_}
-use borrow.Author.Needs.{needs}
+use Prim.Native.Nat.{_-_, _+_}
 use Rattle.verify.proofs.climb.meet.Statement.{statement}
 use Rattle.verify.proofs.climb.meet.Tie as tie
-use Rattle.verify.proofs.climb.meet.Reads as reads
-use Rattle.verify.proofs.climb.meet.Lts as lts
-use Rattle.verify.proofs.climb.climb_one.Reads as climb-one-reads
 
 abbrev Inv-loop : tie.InvT-loop
 Inv-loop fathers count a b x₀ y₀ x y = Climbing count fathers a b x y
@@ -14,24 +11,19 @@ Inv-loop fathers count a b x₀ y₀ x y = Climbing count fathers a b x y
 abbrev μ-loop : tie.MeasureT-loop
 μ-loop fathers count a b x₀ y₀ x y = (count - x) + (count - y)
 
--- src/climb.rt:35:5
 loop-holds : tie.Need-loop-holds Inv-loop μ-loop
 loop-holds c = climb-start _ _ _ _ (c .before .pre .1) (c .before .pre .2)
 
--- src/climb.rt:36:13
 climb-one-requires : tie.Need-climb-one-requires Inv-loop μ-loop
 climb-one-requires c κs = let i = c .before .loop .inv in
     (omega (arith, i .in-u, c .before .before .before .pre .3), omega (arith, i .in-v, c .before .before .before .pre .3), c .loop-test .taken)
 
--- src/climb.rt:35:5
 loop-less : tie.Need-loop-less Inv-loop μ-loop
 loop-less c = climb-less _ _ _ _ _ _ _ _ (c .before .before .before .before .pre .0) (c .before .before .loop .inv) (c .climb-one .ensures)
 
--- src/climb.rt:35:5
 loop-again : tie.Need-loop-again Inv-loop μ-loop
 loop-again c = climb-turn _ _ _ _ _ _ _ _ (c .before .before .before .before .pre .0) (c .before .before .loop .inv) (c .climb-one .ensures)
 
--- src/climb.rt:29:1
 returns : tie.Need-returns Inv-loop μ-loop
 returns c = climb-end _ _ _ _ _ _ (c .before .loop .inv) (c .loop-test .left)
 

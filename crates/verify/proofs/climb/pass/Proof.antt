@@ -1,77 +1,56 @@
+-- `verify::climb::pass` meets its contract.
 use Rattle.verify.proofs.Climbs.{pass-bounds, pass-of}
 use native.Mathlib.Omega.{arith}
 use borrow.Author.Needs.{needs}
 use Rattle.verify.proofs.climb.pass.Statement.{statement}
 use Rattle.verify.proofs.climb.pass.Tie as tie
-use Rattle.verify.proofs.climb.pass.Reads as reads
-use Rattle.verify.proofs.climb.pass.Lts as lts
-use Rattle.tree.proofs.absorb.height.Reads as height-reads
-use Rattle.tree.proofs.union_find.wide.Reads as wide-reads
-use Rattle.verify.proofs.climb.larger.Reads as larger-reads
-use Rattle.verify.proofs.climb.meet.Reads as meet-reads
 
--- src/climb.rt:58:18
 mul-wide : tie.Need-mul-wide
 mul-wide c = search needs
 
--- src/climb.rt:58:18
 shared-slice-read-wide : tie.Need-shared-slice-read-wide
 shared-slice-read-wide c = pass-bounds _ _ _ _ _ _ _ (c .before .before .before .before .before .pre) .5
 
--- src/climb.rt:58:9
 wide-requires : tie.Need-wide-requires
 wide-requires c κs = search needs
 
--- src/climb.rt:59:18
 mul-wide-2 : tie.Need-mul-wide-2
 mul-wide-2 c = search needs
 
--- src/climb.rt:59:18
 shared-slice-read-wide-2 : tie.Need-shared-slice-read-wide-2
 shared-slice-read-wide-2 c = pass-bounds _ _ _ _ _ _ _ (c .before .before .before .before .before .before .before .pre) .6
 
--- src/climb.rt:59:9
 wide-requires-2 : tie.Need-wide-requires-2
 wide-requires-2 c κs = search needs
 
--- src/climb.rt:60:9
 meet-requires : tie.Need-meet-requires
 meet-requires c κs = let b = pass-bounds _ _ _ _ _ _ _ (c .before .before .before .before .before .before .before .before .pre) in
     (b .0, omega (arith, c .before .before .wide .ensures, b .1), omega (arith, c .wide2 .ensures, b .2), c .before .before .before .before .before .before .before .before .pre .fathers)
 
--- src/climb.rt:61:29
 shared-slice-read-height : tie.Need-shared-slice-read-height
 shared-slice-read-height c = pass-bounds _ _ _ _ _ _ _ (c .before .before .before .before .before .before .before .before .before .before .pre) .3
 
--- src/climb.rt:61:22
 height-requires : tie.Need-height-requires
 height-requires c κs = search needs
 
--- src/climb.rt:61:48
 shared-slice-read-height-2 : tie.Need-shared-slice-read-height-2
 shared-slice-read-height-2 c = pass-bounds _ _ _ _ _ _ _ (c .before .before .before .before .before .before .before .before .before .before .before .before .pre) .4
 
--- src/climb.rt:61:41
 height-requires-2 : tie.Need-height-requires-2
 height-requires-2 c κs = search needs
 
--- src/climb.rt:61:9
 larger-requires : tie.Need-larger-requires
 larger-requires c κs = search needs
 
--- src/climb.rt:62:24
 shared-slice-read-height-3 : tie.Need-shared-slice-read-height-3
 shared-slice-read-height-3 c = omega (arith, c .before .before .before .before .before .before .meet .ensures .number, c .before .before .before .before .before .before .before .before .before .before .before .before .before .before .before .pre .heights)
 
--- src/climb.rt:62:17
 height-requires-3 : tie.Need-height-requires-3
 height-requires-3 c κs = search needs
 
--- src/climb.rt:62:5
 larger-requires-2 : tie.Need-larger-requires-2
 larger-requires-2 c κs = search needs
 
--- src/climb.rt:54:1
 returns : tie.Need-returns
 returns c = pass-of _ _ _ _ _ _ _ _ _ _ 0 _ _ _ _ _ (c .before .before .before .before .before .before .before .before .before .before .before .wide .ensures) (c .before .before .before .before .before .before .before .before .before .wide2 .ensures) (c .before .before .before .before .before .before .before .before .meet .ensures) (c .before .before .before .before .before .before .height .ensures) (c .before .before .before .before .height2 .ensures) (c .before .before .before .larger .ensures) (c .before .height3 .ensures) (c .larger2 .ensures)
 

@@ -1,45 +1,34 @@
+-- `verify::look::agrees` meets its contract.
 use Rattle.topology.proofs.Checks.{agrees-none, agrees-same, agrees-not}
 use native.Mathlib.Omega.{arith}
 use borrow.Author.Needs.{needs}
 use Rattle.verify.proofs.look.agrees.Statement.{statement}
 use Rattle.verify.proofs.look.agrees.Tie as tie
-use Rattle.verify.proofs.look.agrees.Reads as reads
-use Rattle.verify.proofs.look.agrees.Lts as lts
-use Rattle.tree.proofs.union_find.wide.Reads as wide-reads
 
--- src/look.rt:20:30
 wide-requires : tie.Need-wide-requires
 wide-requires c κs = search needs
 
--- src/look.rt:20:30
 sub-father : tie.Need-sub-father
 sub-father c = search needs
 
--- src/look.rt:20:22
 mul-father : tie.Need-mul-father
 mul-father c = search needs
 
--- src/look.rt:20:22
 shared-slice-read-father : tie.Need-shared-slice-read-father
 shared-slice-read-father c = omega (arith, c .before .wide .ensures, c .before .before .before .before .before .pre .0 .root, c .before .before .before .before .before .pre .0 .node (c .before .before .if1 .taken))
 
--- src/look.rt:21:20
 mul-node : tie.Need-mul-node
 mul-node c = search needs
 
--- src/look.rt:21:20
 shared-slice-read-node : tie.Need-shared-slice-read-node
 shared-slice-read-node c = search needs
 
--- src/look.rt:23:13
 returns : tie.Need-returns
 returns c = agrees-same _ _ _ _ _ (c .before .before .before .wide .ensures) (c .before .before .before .before .before .before .before .pre .0 .root) (c .if2 .taken)
 
--- src/look.rt:25:9
 returns-2 : tie.Need-returns-2
 returns-2 c = agrees-not _ _ _ _ _ (c .before .before .before .wide .ensures) (c .before .before .before .before .if1 .taken) (c .if2 .left)
 
--- src/look.rt:15:1
 returns-3 : tie.Need-returns-3
 returns-3 c = agrees-none _ _ _ _ (c .if1 .left)
 

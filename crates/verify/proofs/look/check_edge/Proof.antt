@@ -1,3 +1,4 @@
+-- `verify::look::check_edge` meets its contract.
 use Rattle.verify.proofs.Answers.{joint-is}
 use Rattle.topology.proofs.Checks.{look-bounds, look-parents, look-skip, look-same, look-join, look-below, look-above, look-differs-below, look-differs-above}
 use Rattle.topology.proofs.Chains.{comes-is}
@@ -7,35 +8,24 @@ use native.Mathlib.Omega.{arith}
 use borrow.Author.Needs.{needs}
 use Rattle.verify.proofs.look.check_edge.Statement.{statement}
 use Rattle.verify.proofs.look.check_edge.Tie as tie
-use Rattle.verify.proofs.look.check_edge.Reads as reads
-use Rattle.verify.proofs.look.check_edge.Lts as lts
-use Rattle.tree.proofs.absorb.comes_before.Reads as comes-before-reads
-use Rattle.tree.proofs.union_find.find.Reads as find-reads
-use Rattle.verify.proofs.look.check_join.Reads as check-join-reads
 
--- src/look.rt:72:9
 comes-before-requires : tie.Need-comes-before-requires
 comes-before-requires c κs = look-bounds _ _ _ _ _ _ _ _ (c .before .before .before .before .pre .0) .0
 
--- src/look.rt:73:9
 returns : tie.Need-returns
 returns c = let t = c .before .comes-before in
     look-skip _ _ _ _ _ _ _ _ (c .before .before .before .before .before .before .pre .0) (comes-is (not-true (t .result) (c .if1 .taken)) (t .ensures))
 
--- src/look.rt:75:9
 find-requires : tie.Need-find-requires
 find-requires c κs = (look-parents _ _ _ _ _ _ _ _ (c .before .before .before .before .before .before .before .pre .0), look-bounds _ _ _ _ _ _ _ _ (c .before .before .before .before .before .before .before .pre .0) .1)
 
--- src/look.rt:77:9
 same-length : tie.Need-same-length
 same-length c = search needs
 
--- src/look.rt:77:9
 returns-2 : tie.Need-returns-2
 returns-2 c = let t = c .before .before .before .before .before .before .comes-before in
     look-same _ _ _ _ _ _ _ _ (comes-is (not-false (t .result) (c .before .before .before .before .before .if1 .left)) (t .ensures)) _ _ (c .before .before .before .find .ensures) (c .if2 .taken)
 
--- src/look.rt:80:12
 check-join-requires : tie.Need-check-join-requires
 check-join-requires c κs = let t = c .before .before .before .before .before .before .before .before .comes-before in
     let f = c .before .before .before .before .before .find .ensures in
@@ -43,28 +33,23 @@ check-join-requires c κs = let t = c .before .before .before .before .before .b
     let z = f .size in
     ((c .before .if3 .taken, j .in-r, j .few, j .place), ((j .name-q, j .name-r), (omega (arith, c .before .before .before .before .before .before .before .before .before .before .before .before .before .pre .1 .0), omega (arith, c .before .before .before .before .before .before .before .before .before .before .before .before .before .pre .1 .1))))
 
--- src/look.rt:81:13
 same-length-2 : tie.Need-same-length-2
 same-length-2 c = search needs
 
--- src/look.rt:81:13
 returns-3 : tie.Need-returns-3
 returns-3 c = let t = c .before .before .before .before .before .before .before .before .before .before .before .before .comes-before in
     let f = c .before .before .before .before .before .before .before .before .before .find .ensures in
     look-below _ _ _ _ _ _ _ _ (comes-is (not-false (t .result) (c .before .before .before .before .before .before .before .before .before .before .before .if1 .left)) (t .ensures)) _ _ f _ (c .before .before .before .before .before .if3 .taken) (f .within)
     (joint-is (c .if4 .taken) (c .before .before .before .check-join .ensures))
 
--- src/look.rt:83:9
 same-length-3 : tie.Need-same-length-3
 same-length-3 c = search needs
 
--- src/look.rt:83:9
 returns-4 : tie.Need-returns-4
 returns-4 c = let t = c .before .before .before .before .before .before .before .before .before .before .before .before .comes-before in
     look-differs-below _ _ _ _ _ _ _ _ (comes-is (not-false (t .result) (c .before .before .before .before .before .before .before .before .before .before .before .if1 .left)) (t .ensures)) _ _ (c .before .before .before .before .before .before .before .before .before .find .ensures) _ _ (c .before .before .before .before .before .if3 .taken) refl
     (joint-is (c .if4 .left) (c .before .before .before .check-join .ensures))
 
--- src/look.rt:85:8
 check-join-requires-2 : tie.Need-check-join-requires-2
 check-join-requires-2 c κs = let t = c .before .before .before .before .before .before .before .before .comes-before in
     let f = c .before .before .before .before .before .find .ensures in
@@ -74,11 +59,9 @@ check-join-requires-2 c κs = let t = c .before .before .before .before .before 
     let e = c .before .if3 .left in
     ((omega arith, j .in-q, j .few, j .place), ((j .name-r, j .name-q), (omega (arith, c .before .before .before .before .before .before .before .before .before .before .before .before .before .pre .1 .0), omega (arith, c .before .before .before .before .before .before .before .before .before .before .before .before .before .pre .1 .1))))
 
--- src/look.rt:86:9
 same-length-4 : tie.Need-same-length-4
 same-length-4 c = search needs
 
--- src/look.rt:86:9
 returns-5 : tie.Need-returns-5
 returns-5 c = let t = c .before .before .before .before .before .before .before .before .before .before .before .before .comes-before in
     let d = c .before .before .before .before .before .before .if2 .left in
@@ -86,11 +69,9 @@ returns-5 c = let t = c .before .before .before .before .before .before .before 
     look-above _ _ _ _ _ _ _ _ (comes-is (not-false (t .result) (c .before .before .before .before .before .before .before .before .before .before .before .if1 .left)) (t .ensures)) _ _ (c .before .before .before .before .before .before .before .before .before .find .ensures) _ (omega arith)
     (joint-is (c .if5 .taken) (c .before .before .before .check-join2 .ensures))
 
--- src/look.rt:67:1
 same-length-5 : tie.Need-same-length-5
 same-length-5 c = search needs
 
--- src/look.rt:67:1
 returns-6 : tie.Need-returns-6
 returns-6 c = let t = c .before .before .before .before .before .before .before .before .before .before .before .before .comes-before in
     let d = c .before .before .before .before .before .before .if2 .left in

@@ -1,19 +1,13 @@
+-- `verify::look::check_pixel` meets its contract.
 use Rattle.tree.specs.Frame.{pictureOf}
 use Rattle.topology.proofs.Looks.{Looking, passed-yes, passed-not, checking-placed, checking-parents, look-start, look-ready, look-turn, look-differs, look-end, look-pass}
 use Rattle.topology.proofs.Walks.{listed-cell}
-use mathlib.Core.Path.{_≡_, sym, _∙_}
+use mathlib.Core.Path.{sym, _∙_}
 use native.Mathlib.Omega.{arith}
-use Prim.Native.Nat.{ℕ, _-_, _+_, _*_}
+use Prim.Native.Nat.{_-_}
 use borrow.Author.Needs.{needs}
 use Rattle.verify.proofs.look.check_pixel.Statement.{statement}
 use Rattle.verify.proofs.look.check_pixel.Tie as tie
-use Rattle.verify.proofs.look.check_pixel.Reads as reads
-use Rattle.verify.proofs.look.check_pixel.Lts as lts
-use Rattle.picture.proofs.geometry.neighbours.Reads as neighbours-reads
-use Rattle.tree.proofs.absorb.height.Reads as height-reads
-use Rattle.tree.proofs.union_find.find.Reads as find-reads
-use Rattle.tree.proofs.union_find.wide.Reads as wide-reads
-use Rattle.verify.proofs.look.check_edge.Reads as check-edge-reads
 
 abbrev Inv-loop : tie.InvT-loop
 Inv-loop a w h pixels fathers map cells₀ k x near count root₀ i₀ cells root i = Looking (pictureOf a w h pixels) k x i root cells fathers map
@@ -21,47 +15,36 @@ Inv-loop a w h pixels fathers map cells₀ k x near count root₀ i₀ cells roo
 abbrev μ-loop : tie.MeasureT-loop
 μ-loop a w h pixels fathers map cells₀ k x near count root₀ i₀ cells root i = count - i
 
--- src/look.rt:97:15
 shared-slice-read-height : tie.Need-shared-slice-read-height Inv-loop μ-loop
 shared-slice-read-height c = search needs
 
--- src/look.rt:97:8
 height-requires : tie.Need-height-requires Inv-loop μ-loop
 height-requires c κs = search needs
 
--- src/look.rt:98:9
 returns : tie.Need-returns Inv-loop μ-loop
 returns c = passed-yes _ _ _ _ _ _ (look-pass _ _ _ _ _ _ (c .before .before .before .before .before .before .before .pre .0 .0) (λ e. c .if1 .taken (c .before .height .ensures ∙ e)))
 
--- src/look.rt:101:59
 slice-aggregate-neighbours : tie.Need-slice-aggregate-neighbours Inv-loop μ-loop
 slice-aggregate-neighbours c = search needs
 
--- src/look.rt:101:9
 neighbours-requires : tie.Need-neighbours-requires Inv-loop μ-loop
 neighbours-requires c κs = (checking-placed _ _ _ _ _ _ (c .before .before .before .before .before .before .before .before .pre .0 .0) (c .before .before .before .before .before .before .before .before .pre .0 .1), search needs)
 
--- src/look.rt:102:9
 find-requires : tie.Need-find-requires Inv-loop μ-loop
 find-requires c κs = (checking-parents _ _ _ _ _ _ (c .before .before .before .before .before .before .before .before .before .before .before .pre .0 .0), c .before .before .before .before .before .before .before .before .before .before .before .pre .0 .1)
 
--- src/look.rt:104:5
 loop-holds : tie.Need-loop-holds Inv-loop μ-loop
 loop-holds c = look-start _ _ _ _ _ _ _ _ (c .before .before .before .before .before .before .before .before .before .before .before .before .before .before .pre .0 .0) (c .before .before .before .before .before .before .before .before .before .before .before .before .before .before .pre .0 .1) (sym (c .before .before .before .before .before .before .before .before .height .ensures) ∙ c .before .before .before .before .before .before .before .if1 .left) (c .before .before .find .ensures)
 
--- src/look.rt:105:73
 mul-wide : tie.Need-mul-wide Inv-loop μ-loop
 mul-wide c = search needs
 
--- src/look.rt:105:73
 array-read-wide : tie.Need-array-read-wide Inv-loop μ-loop
 array-read-wide c = omega (arith, c .before .before .before .before .before .before .before .before .neighbours .ensures .few)
 
--- src/look.rt:105:68
 wide-requires : tie.Need-wide-requires Inv-loop μ-loop
 wide-requires c κs = search needs
 
--- src/look.rt:105:9
 check-edge-requires : tie.Need-check-edge-requires Inv-loop μ-loop
 check-edge-requires c κs = let s = c .before .before .before .before .before .before .before .before .before .neighbours .ensures in
     let b = c .before .before .loop-test .taken in
@@ -71,11 +54,9 @@ check-edge-requires c κs = let s = c .before .before .before .before .before .b
     let y = c .before .before .before .before .before .before .before .before .before .before .before .before .before .before .before .before .before .before .pre .0 .0 .classes .size in
     (look-ready _ _ _ _ _ _ _ _ _ i (omega arith) (c .wide .ensures ∙ listed-cell s _ b), (omega (arith, c .before .before .before .before .before .before .before .before .before .before .before .before .before .before .before .before .before .before .pre .1 .0), omega (arith, c .before .before .before .before .before .before .before .before .before .before .before .before .before .before .before .before .before .before .pre .1 .1)))
 
--- src/look.rt:107:13
 same-length : tie.Need-same-length Inv-loop μ-loop
 same-length c = c .before .before .before .check-edge .ensures .size ∙ (c .before .before .before .before .before .before .before .loop .inv .by-near .near .size ∙ sym (c .before .before .before .before .before .before .before .before .before .before .before .before .before .before .before .before .before .before .before .before .before .before .pre .0 .0 .classes .size))
 
--- src/look.rt:107:13
 returns-2 : tie.Need-returns-2 Inv-loop μ-loop
 returns-2 c = let s = c .before .before .before .before .before .before .before .before .before .before .before .before .before .neighbours .ensures in
     let b = c .before .before .before .before .before .before .loop-test .taken in
@@ -83,26 +64,21 @@ returns-2 c = let s = c .before .before .before .before .before .before .before 
     passed-not _ _ _ _ _ _
     (look-differs _ _ _ _ _ _ _ _ _ (c .before .before .before .before .before .before .before .loop .inv) (omega arith) (c .before .before .before .before .wide .ensures ∙ listed-cell s _ b) _ _ (c .before .before .before .check-edge .ensures) (c .if2 .taken))
 
--- src/look.rt:109:9
 add-i : tie.Need-add-i Inv-loop μ-loop
 add-i c = search needs
 
--- src/look.rt:104:5
 loop-less : tie.Need-loop-less Inv-loop μ-loop
 loop-less c = search needs
 
--- src/look.rt:104:5
 loop-again : tie.Need-loop-again Inv-loop μ-loop
 loop-again c = let s = c .before .before .before .before .before .before .before .before .before .before .before .before .before .neighbours .ensures in
     let b = c .before .before .before .before .before .before .loop-test .taken in
     let e = s .count in
     look-turn _ _ _ _ _ _ _ _ _ (c .before .before .before .before .before .before .before .loop .inv) (omega arith) (c .before .before .before .before .wide .ensures ∙ listed-cell s _ b) _ _ (c .before .before .before .check-edge .ensures) (c .if2 .left)
 
--- src/look.rt:92:1
 same-length-2 : tie.Need-same-length-2 Inv-loop μ-loop
 same-length-2 c = search needs
 
--- src/look.rt:92:1
 returns-3 : tie.Need-returns-3 Inv-loop μ-loop
 returns-3 c = let s = c .before .before .before .before .before .before .before .neighbours .ensures in
     let b = c .loop-test .left in

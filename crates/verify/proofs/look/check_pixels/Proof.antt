@@ -1,16 +1,14 @@
+-- `verify::look::check_pixels` meets its contract.
 use Rattle.verify.proofs.Answers.{checking-at}
 use Rattle.tree.specs.Frame.{pictureOf}
 use Rattle.topology.proofs.Looks.{passed-yes, passed-not}
 use Rattle.topology.proofs.Checks.{Checking}
 use borrow.Author.Tests.{not-true, not-false}
 use native.Mathlib.Omega.{arith}
-use Prim.Native.Nat.{ℕ, _-_, _+_, _*_, _≤_}
+use Prim.Native.Nat.{_-_, _*_, _≤_}
 use borrow.Author.Needs.{needs}
 use Rattle.verify.proofs.look.check_pixels.Statement.{statement}
 use Rattle.verify.proofs.look.check_pixels.Tie as tie
-use Rattle.verify.proofs.look.check_pixels.Reads as reads
-use Rattle.verify.proofs.look.check_pixels.Lts as lts
-use Rattle.verify.proofs.look.check_pixel.Reads as check-pixel-reads
 
 abbrev Inv-loop : tie.InvT-loop
 Inv-loop a w h pixels fathers map cells₀ k x₀ cells x = Checking (pictureOf a w h pixels) k x cells fathers map × (x ≤ w * h)
@@ -18,11 +16,9 @@ Inv-loop a w h pixels fathers map cells₀ k x₀ cells x = Checking (pictureOf 
 abbrev μ-loop : tie.MeasureT-loop
 μ-loop a w h pixels fathers map cells₀ k x₀ cells x = w * h - x
 
--- src/look.rt:121:5
 loop-holds : tie.Need-loop-holds Inv-loop μ-loop
 loop-holds c = (c .before .before .before .before .pre .0, search needs)
 
--- src/look.rt:122:13
 check-pixel-requires : tie.Need-check-pixel-requires Inv-loop μ-loop
 check-pixel-requires c κs = let i = c .before .before .loop .inv in
     let z = i .0 .classes .size in
@@ -30,35 +26,28 @@ check-pixel-requires c κs = let i = c .before .before .loop .inv in
     let b = c .before .loop-test .taken in
     ((i .0, b, omega (arith, c .before .before .before .before .before .before .before .pre .1 .2)), (omega (arith, c .before .before .before .before .before .before .before .pre .1 .0), omega (arith, c .before .before .before .before .before .before .before .pre .1 .1)))
 
--- src/look.rt:123:13
 same-length : tie.Need-same-length Inv-loop μ-loop
 same-length c = search needs
 
--- src/look.rt:123:13
 returns : tie.Need-returns Inv-loop μ-loop
 returns c = let t = c .before .before .before .check-pixel in
     passed-not _ _ _ _ _ _ (t .ensures .never (not-true (t .result) (c .if1 .taken)))
 
--- src/look.rt:125:9
 add-x : tie.Need-add-x Inv-loop μ-loop
 add-x c = search needs
 
--- src/look.rt:121:5
 loop-less : tie.Need-loop-less Inv-loop μ-loop
 loop-less c = let i = c .before .before .before .before .before .before .loop .inv in
     omega (arith, i .0 .classes .size, c .before .before .before .before .before .loop-test .taken)
 
--- src/look.rt:121:5
 loop-again : tie.Need-loop-again Inv-loop μ-loop
 loop-again c = let t = c .before .before .before .check-pixel in
     let i = c .before .before .before .before .before .before .loop .inv in
     (t .ensures .yes (not-false (t .result) (c .if1 .left)), omega (arith, i .0 .classes .size, c .before .before .before .before .before .loop-test .taken))
 
--- src/look.rt:115:1
 same-length-2 : tie.Need-same-length-2 Inv-loop μ-loop
 same-length-2 c = search needs
 
--- src/look.rt:115:1
 returns-2 : tie.Need-returns-2 Inv-loop μ-loop
 returns-2 c = let i = c .before .loop .inv in
     passed-yes _ _ _ _ _ _ (checking-at (omega (arith, i .0 .classes .size, i .1, c .loop-test .left)) (i .0))

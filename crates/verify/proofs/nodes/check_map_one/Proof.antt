@@ -1,80 +1,59 @@
+-- `verify::nodes::check_map_one` meets its contract.
 use Rattle.verify.proofs.Steps.{map-other, map-yes, map-free, map-differs}
 use native.Mathlib.Omega.{arith}
-use Prim.Native.Nat.{ℕ, _-_, _+_, _*_, _≤_}
+use Prim.Native.Nat.{_-_}
 use borrow.Author.Needs.{needs}
 use Rattle.verify.proofs.nodes.check_map_one.Statement.{statement}
 use Rattle.verify.proofs.nodes.check_map_one.Tie as tie
-use Rattle.verify.proofs.nodes.check_map_one.Reads as reads
-use Rattle.verify.proofs.nodes.check_map_one.Lts as lts
-use Rattle.tree.proofs.absorb.height.Reads as height-reads
-use Rattle.tree.proofs.union_find.find.Reads as find-reads
-use Rattle.tree.proofs.union_find.wide.Reads as wide-reads
 
--- src/nodes.rt:72:20
 shared-slice-read-height : tie.Need-shared-slice-read-height
 shared-slice-read-height c = search needs
 
--- src/nodes.rt:72:9
 height-requires : tie.Need-height-requires
 height-requires c κs = search needs
 
--- src/nodes.rt:74:9
 returns : tie.Need-returns
 returns c = map-other _ _ _ _ _ _ (c .before .before .before .before .before .before .pre .1) (c .before .height .ensures) (c .if1 .taken)
 
--- src/nodes.rt:76:9
 find-requires : tie.Need-find-requires
 find-requires c κs = search needs
 
--- src/nodes.rt:77:17
 mul-state : tie.Need-mul-state
 mul-state c = search needs
 
--- src/nodes.rt:77:17
 slice-read-state : tie.Need-slice-read-state
 slice-read-state c = search needs
 
--- src/nodes.rt:79:9
 same-length : tie.Need-same-length
 same-length c = search needs
 
--- src/nodes.rt:79:9
 returns-2 : tie.Need-returns-2
 returns-2 c = map-free _ _ _ _ _ _ (c .before .before .before .before .before .before .before .before .before .before .before .before .pre .1) (c .before .before .before .before .before .before .before .height .ensures) _ _ (c .before .before .before .before .find .ensures) (c .before .before .before .before .before .before .if1 .left) (c .if2 .taken)
 
--- src/nodes.rt:81:21
 mul-wide : tie.Need-mul-wide
 mul-wide c = search needs
 
--- src/nodes.rt:81:21
 shared-slice-read-wide : tie.Need-shared-slice-read-wide
 shared-slice-read-wide c = search needs
 
--- src/nodes.rt:81:9
 wide-requires : tie.Need-wide-requires
 wide-requires c κs = search needs
 
--- src/nodes.rt:82:8
 wide-requires-2 : tie.Need-wide-requires-2
 wide-requires-2 c κs = search needs
 
--- src/nodes.rt:82:23
 add-if3 : tie.Need-add-if3
 add-if3 c = omega (arith, c .before .wide .ensures, c .before .before .shared-slice-known4 .given (c .before .before .before .before .before .before .before .before .before .before .before .before .before .before .before .args .x))
 
--- src/nodes.rt:83:9
 same-length-2 : tie.Need-same-length-2
 same-length-2 c = search needs
 
--- src/nodes.rt:83:9
 returns-3 : tie.Need-returns-3
 returns-3 c = map-differs _ _ _ _ _ _ (c .before .before .before .before .before .before .before .before .before .before .before .before .before .before .before .before .pre .1) (c .before .before .before .before .before .before .before .before .before .before .before .height .ensures) _ _ (c .before .before .before .before .before .before .before .before .find .ensures) (c .before .before .before .before .before .before .before .before .before .before .if1 .left) _ _ (c .before .wide2 .ensures) (c .before .before .wide .ensures) (c .if3 .taken)
 
--- src/nodes.rt:68:1
 same-length-3 : tie.Need-same-length-3
 same-length-3 c = search needs
 
--- src/nodes.rt:68:1
 returns-4 : tie.Need-returns-4
 returns-4 c = map-yes _ _ _ _ _ _ (c .before .before .before .before .before .before .before .before .before .before .before .before .before .before .before .before .pre .1) (c .before .before .before .before .before .before .before .before .before .before .before .height .ensures) _ _ (c .before .before .before .before .before .before .before .before .find .ensures) (c .before .before .before .before .before .before .before .before .before .before .if1 .left) _ _ (c .before .wide2 .ensures) (c .before .before .wide .ensures) (c .if3 .left) (c .before .before .before .before .if2 .left)
 

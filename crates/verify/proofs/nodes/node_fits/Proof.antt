@@ -1,80 +1,60 @@
+-- `verify::nodes::node_fits` meets its contract.
 use Rattle.verify.proofs.Steps.{unfit-beyond, unfit-high, unfit-taken, unfit-order, fit-yes}
 use native.Mathlib.Omega.{arith}
-use Prim.Native.Nat.{ℕ, _-_, _+_, _*_, _≤_}
+use Prim.Native.Nat.{_-_}
 use borrow.Author.Needs.{needs}
 use Rattle.verify.proofs.nodes.node_fits.Statement.{statement}
 use Rattle.verify.proofs.nodes.node_fits.Tie as tie
-use Rattle.verify.proofs.nodes.node_fits.Reads as reads
-use Rattle.verify.proofs.nodes.node_fits.Lts as lts
-use Rattle.tree.proofs.absorb.height.Reads as height-reads
-use Rattle.tree.proofs.union_find.wide.Reads as wide-reads
 
--- src/nodes.rt:31:18
 mul-wide : tie.Need-mul-wide
 mul-wide c = search needs
 
--- src/nodes.rt:31:18
 shared-slice-read-wide : tie.Need-shared-slice-read-wide
 shared-slice-read-wide c = search needs
 
--- src/nodes.rt:31:9
 wide-requires : tie.Need-wide-requires
 wide-requires c κs = search needs
 
--- src/nodes.rt:33:9
 returns : tie.Need-returns
 returns c = unfit-beyond _ _ _ _ _ _ _ (c .before .wide .ensures) (c .if1 .taken)
 
--- src/nodes.rt:35:19
 shared-slice-read-height : tie.Need-shared-slice-read-height
 shared-slice-read-height c = omega (arith, c .before .if1 .left, c .before .before .before .before .before .before .before .pre .1)
 
--- src/nodes.rt:35:12
 height-requires : tie.Need-height-requires
 height-requires c κs = search needs
 
--- src/nodes.rt:36:9
 returns-2 : tie.Need-returns-2
 returns-2 c = unfit-high _ _ _ _ _ _ _ (c .before .before .before .before .wide .ensures) _ (c .before .height .ensures) (c .if2 .taken)
 
--- src/nodes.rt:38:8
 mul-if3 : tie.Need-mul-if3
 mul-if3 c = search needs
 
--- src/nodes.rt:38:8
 shared-slice-read-if3 : tie.Need-shared-slice-read-if3
 shared-slice-read-if3 c = search needs
 
--- src/nodes.rt:39:9
 returns-3 : tie.Need-returns-3
 returns-3 c = unfit-taken _ _ _ _ _ _ _ (c .before .before .before .before .before .before .wide .ensures) (c .if3 .taken)
 
--- src/nodes.rt:42:9
 returns-4 : tie.Need-returns-4
 returns-4 c = fit-yes _ _ _ _ _ _ _ (c .before .before .before .before .before .before .before .wide .ensures) _ (c .before .before .before .before .before .before .if1 .left) (c .before .before .before .before .height .ensures) (c .before .before .before .if2 .left) (c .before .if3 .left)
     (λ h. let e = c .if4 .taken in absurd (omega arith))
 
--- src/nodes.rt:44:25
 sub-wide : tie.Need-sub-wide
 sub-wide c = search needs
 
--- src/nodes.rt:44:18
 mul-wide-2 : tie.Need-mul-wide-2
 mul-wide-2 c = search needs
 
--- src/nodes.rt:44:18
 shared-slice-read-wide-2 : tie.Need-shared-slice-read-wide-2
 shared-slice-read-wide-2 c = omega (arith, c .before .before .before .before .before .before .before .before .before .before .before .before .before .pre .0)
 
--- src/nodes.rt:44:13
 wide-requires-2 : tie.Need-wide-requires-2
 wide-requires-2 c κs = search needs
 
--- src/nodes.rt:45:9
 returns-5 : tie.Need-returns-5
 returns-5 c = unfit-order _ _ _ _ _ _ _ (c .before .before .before .before .before .before .before .before .before .before .wide .ensures) _ (c .before .wide2 .ensures) (c .before .before .before .if4 .left) (c .if5 .taken)
 
--- src/nodes.rt:27:1
 returns-6 : tie.Need-returns-6
 returns-6 c = fit-yes _ _ _ _ _ _ _ (c .before .before .before .before .before .before .before .before .before .before .wide .ensures) _ (c .before .before .before .before .before .before .before .before .before .if1 .left) (c .before .before .before .before .before .before .before .height .ensures) (c .before .before .before .before .before .before .if2 .left) (c .before .before .before .before .if3 .left)
     (λ h. let e = c .if5 .left in let g = c .before .wide2 .ensures in omega arith)

@@ -1,12 +1,9 @@
+-- `verify::nodes::run_end` meets its contract.
 use Rattle.verify.proofs.Steps.{Running, running-start, running-turn, running-stop, running-end}
-use native.Mathlib.Omega.{arith}
-use Prim.Native.Nat.{ℕ, _-_, _+_, _*_, _≤_}
+use Prim.Native.Nat.{_-_, _≤_}
 use borrow.Author.Needs.{needs}
 use Rattle.verify.proofs.nodes.run_end.Statement.{statement}
 use Rattle.verify.proofs.nodes.run_end.Tie as tie
-use Rattle.verify.proofs.nodes.run_end.Reads as reads
-use Rattle.verify.proofs.nodes.run_end.Lts as lts
-use Rattle.tree.proofs.absorb.height.Reads as height-reads
 
 abbrev Inv-loop : tie.InvT-loop
 Inv-loop heights k c count i₀ i = Running k c i heights × (i ≤ count)
@@ -14,35 +11,27 @@ Inv-loop heights k c count i₀ i = Running k c i heights × (i ≤ count)
 abbrev μ-loop : tie.MeasureT-loop
 μ-loop heights k c count i₀ i = count - i
 
--- src/nodes.rt:17:5
 loop-holds : tie.Need-loop-holds Inv-loop μ-loop
 loop-holds c = (running-start _ _ _, c .before .pre .0)
 
--- src/nodes.rt:18:19
 shared-slice-read-height : tie.Need-shared-slice-read-height Inv-loop μ-loop
 shared-slice-read-height c = search needs
 
--- src/nodes.rt:18:12
 height-requires : tie.Need-height-requires Inv-loop μ-loop
 height-requires c κs = search needs
 
--- src/nodes.rt:19:13
 returns : tie.Need-returns Inv-loop μ-loop
 returns c = running-stop _ _ _ _ _ _ (c .before .before .before .before .loop .inv .0) (c .before .before .before .loop-test .taken) (c .before .height .ensures) (c .if1 .taken)
 
--- src/nodes.rt:21:9
 add-i : tie.Need-add-i Inv-loop μ-loop
 add-i c = search needs
 
--- src/nodes.rt:17:5
 loop-less : tie.Need-loop-less Inv-loop μ-loop
 loop-less c = search needs
 
--- src/nodes.rt:17:5
 loop-again : tie.Need-loop-again Inv-loop μ-loop
 loop-again c = (running-turn _ _ _ _ _ (c .before .before .before .before .loop .inv .0) (c .before .height .ensures) (c .if1 .left), search needs)
 
--- src/nodes.rt:12:1
 returns-2 : tie.Need-returns-2 Inv-loop μ-loop
 returns-2 c = running-end _ _ _ _ _ (c .before .loop .inv .0) (c .before .loop .inv .1) (c .loop-test .left)
 
