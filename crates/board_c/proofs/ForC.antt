@@ -5,21 +5,22 @@ use mathlib.Core.Logic.{_≢_}
 use mathlib.Core.List.{List, [], _∷_, _++_}
 use Prim.Native.Nat.{ℕ, zero, suc, _+_, _*_, _/_, _≤_, _<_}
 use native.Mathlib.Omega.{arith}
-use lib.Dec.{eqb, ltb}
-use lib.ListN.{length, drop, replicate, length-replicate}
-use borrow.Author.Tests.{eq-eqb, ne-eqb, ltb-true, ltb-false, lt-ltb, le-ltb}
+use lib.Dec.{eqb, ltb, leb}
+use lib.ListN.{length, getD, drop, replicate, length-replicate}
+use borrow.Author.Tests.{eq-eqb, ne-eqb, ltb-true, ltb-false, lt-ltb, le-ltb, le-leb, lt-leb, leb-false}
 use Rattle.picture.specs.Lists.{pick}
-use Rattle.picture.specs.Pictures.{Picture, places}
-use Rattle.picture.specs.Faults.{firstOf, when, pictureFault}
+use Rattle.picture.specs.Pictures.{Picture, places, valueAt}
+use Rattle.picture.specs.Faults.{firstOf, when, faultOf, pictureFault}
 use Rattle.picture.specs.Watersheds.{watershed}
+use Rattle.picture.specs.Patches.{patchAt}
 use Rattle.topology.proofs.Tests.{on-test}
 use Rattle.p5.specs.Files.{readFile, numberOf, headerOf}
 use Rattle.text.specs.Writing.{Written}
 use Rattle.board.specs.declared.Answer.{Answer}
-use Rattle.board.specs.Faults.{outputFault}
-use Rattle.board.specs.Calls.{over, afterCall, outputFaultOf, WaterSays}
-use Rattle.board.proofs.Shell.{workFaultOf, fault-size, fault-few, work-enough, work-none, output-none, output-enough}
-use Rattle.board_c.specs.CalledByC.{pair, readFaultForC, headerBytes, ReadForC, waterFaultForC, WaterForC}
+use Rattle.board.specs.Faults.{workFault, outputFault}
+use Rattle.board.specs.Calls.{over, afterCall, outputFaultOf, WaterSays, Admits}
+use Rattle.board.proofs.Shell.{workFaultOf, Admitted, admitted, work-size, fault-size, fault-few, work-enough, work-none, output-none, output-enough}
+use Rattle.board_c.specs.CalledByC.{pair, readFaultForC, headerBytes, ReadForC, waterFaultForC, WaterForC, placeFaultForC, placeFaultForCOf, PlaceForC}
 
 -- a fault that is not 0 leaves a slice as it was
 pub unchanged : (f : ℕ) (new old : List ℕ) → f ≢ 0 → old ≡ afterCall f new old
@@ -132,4 +133,124 @@ module _ (p : Picture) (o q : List ℕ) where
               (ap (λ (n : ℕ). replicate {A = ℕ} (10 * n) 0 ++ drop (10 * n) q) water-size ∙
               (ap (λ (n : ℕ). replicate {A = ℕ} (10 * places p) 0 ++ drop n q) (sym (length-replicate (10 * places p) 0)) ∙
               sym (ap (λ (t : Bool). pick t (over (replicate (10 * places p) 0) q) q) (eq-eqb f 0 fz))));
+        }
+
+-- one number for either of two causes, before the last
+combine : (f : ℕ) (b c d : Bool) → firstOf (firstOf f (when b 9)) (firstOf (when c 9) (when d 10)) ≡ firstOf f (firstOf (when (c || b) 9) (when d 10))
+combine zero true true d = refl
+combine zero true false d = refl
+combine zero false true d = refl
+combine zero false false true = refl
+combine zero false false false = refl
+combine (suc f) b c d = refl
+
+module _ (a w h l out work x : ℕ) where
+  rest-of : ℕ
+  rest-of = firstOf (when (ltb out 16) 9) (when (leb (w * h) x) 10)
+
+  place-is : firstOf (workFault a w h l (work / 2)) rest-of ≡ placeFaultForC a w h l out work x
+  unfolding workFault placeFaultForC rest-of
+  place-is =
+      ap (λ (b : Bool). firstOf (firstOf (faultOf a w h l) (when b 9)) rest-of) (half-short work (w * h)) ∙
+      combine (faultOf a w h l) (ltb work (10 * (w * h))) (ltb out 16) (leb (w * h) x)
+
+  keep : (f g r : ℕ) → r ≡ f → r ≢ 0 → r ≡ firstOf f g
+  keep zero g r e d = absurd (d e)
+  keep (suc f) g r e d = e
+
+  pass-on : (f g : ℕ) → f ≡ 0 → firstOf f g ≡ g
+  pass-on zero g e = refl
+  pass-on (suc f) g e = absurd (omega arith)
+
+  pub place-first : (r : ℕ) → r ≡ workFault a w h l (work / 2) → r ≢ 0 → r ≡ placeFaultForC a w h l out work x
+  place-first r e d = keep (workFault a w h l (work / 2)) rest-of r e d ∙ place-is
+
+  module _ (z : workFault a w h l (work / 2) ≡ 0) where
+    pub place-short : out < 16 → 9 ≡ placeFaultForC a w h l out work x
+    unfolding rest-of
+    place-short b =
+        sym (pass-on (workFault a w h l (work / 2)) rest-of z ∙ ap (λ (t : Bool). firstOf (when t 9) (when (leb (w * h) x) 10)) (lt-ltb out 16 b)) ∙
+        place-is
+
+    tail : 16 ≤ out → (t : Bool) → leb (w * h) x ≡ t → when t 10 ≡ placeFaultForC a w h l out work x
+    unfolding rest-of
+    tail b t e =
+        sym
+        (pass-on (workFault a w h l (work / 2)) rest-of z ∙
+        ap₂ (λ (u v : Bool). firstOf (when u 9) (when v 10)) (le-ltb out 16 b) e) ∙
+        place-is
+
+    pub place-beyond : 16 ≤ out → l ≤ x → 10 ≡ placeFaultForC a w h l out work x
+    place-beyond b c = tail b true (le-leb (w * h) x (let s = work-size a w h l (work / 2) z in omega arith))
+
+    pub place-none : 16 ≤ out → x < l → 0 ≡ placeFaultForC a w h l out work x
+    place-none b c = tail b false (lt-leb (w * h) x (let s = work-size a w h l (work / 2) z in omega arith))
+
+  -- no fault of a place query: each cause is absent
+  pub place-enough : placeFaultForC a w h l out work x ≡ 0 → (workFault a w h l (work / 2) ≡ 0) × (16 ≤ out) × (x < w * h)
+  unfolding rest-of
+  place-enough e = split (workFault a w h l (work / 2)) (ltb out 16) (leb (w * h) x) refl refl refl (place-is ∙ e)
+    where
+      split :
+          (f : ℕ) (b c : Bool) → workFault a w h l (work / 2) ≡ f → ltb out 16 ≡ b → leb (w * h) x ≡ c →
+          firstOf f (firstOf (when b 9) (when c 10)) ≡ 0 → (workFault a w h l (work / 2) ≡ 0) × (16 ≤ out) × (x < w * h)
+      split (suc f) b c p q r z = absurd (omega arith)
+      split zero true c p q r z = absurd (omega arith)
+      split zero false true p q r z = absurd (omega arith)
+      split zero false false p q r z = (p, ltb-false out 16 q, leb-false (w * h) x r)
+
+module _ (p : Picture) (x : ℕ) (o q : List ℕ) where
+  pub place-refused : (r : ℕ) → r ≡ placeFaultForCOf p x o q → r ≢ 0 → PlaceForC p x o o q q r
+  place-refused r e d =
+      let f = placeFaultForCOf p x o q in
+      let g : f ≢ 0 = λ z. d (e ∙ z) in
+      record {
+        number = e;
+        output = unchanged f (over (pair (valueAt p x) (patchAt p x)) o) o g;
+        work = unchanged f (over (replicate (10 * places p) 0) q) q g;
+      }
+
+  module _ (z : placeFaultForCOf p x o q ≡ 0) where
+    absent : (workFaultOf p (length q / 2) ≡ 0) × (16 ≤ length o) × (x < places p)
+    absent = place-enough (p .adjacency) (p .width) (p .height) (length (p .pixels)) (length o) (length q) x z
+
+    pub place-room : 16 ≤ length o
+    place-room = absent .1
+
+    pub place-size : length (p .pixels) ≡ places p
+    place-size = work-size (p .adjacency) (p .width) (p .height) (length (p .pixels)) (length q / 2) (absent .0)
+
+    -- the picture is accepted, and a local of 8,000 entries is enough
+    pub place-admits : ((i : ℕ) → getD (p .pixels) i 0 ≤ 255) → Admits p (replicate {A = ℕ} 8000 0) x
+    place-admits b =
+        let a = admitted p (length q / 2) (absent .0) b in
+        record {
+          accepted = a .picture;
+          size = a .size;
+          few = a .few;
+          room = omega (arith, a .size, a .few, length-replicate {A = ℕ} 8000 0);
+          place = absent .2;
+        }
+
+    pub place-clears : 10 * length (p .pixels) ≤ length q
+    place-clears =
+        let e = work-enough (p .adjacency) (p .width) (p .height) (length (p .pixels)) (length q / 2) (absent .0) .1 in
+        let s = place-size in
+        omega arith
+
+    pub place-done :
+        (o′ q′ : List ℕ) (v n to : ℕ) → v ≡ valueAt p x → n ≡ patchAt p x → Written 0 (pair v n) o to o′ →
+        q′ ≡ replicate {A = ℕ} (10 * length (p .pixels)) 0 ++ drop (10 * length (p .pixels)) q → PlaceForC p x o o′ q q′ 0
+    place-done o′ q′ v n to ev en w c =
+        let f = placeFaultForCOf p x o q in
+        record {
+          number = sym z;
+          output =
+              changed f (pair (valueAt p x) (patchAt p x)) o o′ z
+              (subst (λ (xs : List ℕ). Written 0 xs o to o′) (ap₂ pair ev en) w);
+          work =
+              c ∙
+              (ap (λ (m : ℕ). replicate {A = ℕ} (10 * m) 0 ++ drop (10 * m) q) place-size ∙
+              (ap (λ (m : ℕ). replicate {A = ℕ} (10 * places p) 0 ++ drop m q) (sym (length-replicate (10 * places p) 0)) ∙
+              sym (ap (λ (t : Bool). pick t (over (replicate (10 * places p) 0) q) q) (eq-eqb f 0 z))));
         }

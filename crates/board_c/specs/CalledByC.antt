@@ -3,11 +3,12 @@ use mathlib.Core.Path.{_≡_}
 use mathlib.Core.Bool.{_||_}
 use mathlib.Core.List.{List, [], _∷_, _++_}
 use Prim.Native.Nat.{ℕ, _*_}
-use lib.Dec.{ltb}
+use lib.Dec.{ltb, leb}
 use lib.ListN.{length, replicate}
-use Rattle.picture.specs.Pictures.{Picture, places}
-use Rattle.picture.specs.Faults.{firstOf, when, pictureFault}
+use Rattle.picture.specs.Pictures.{Picture, places, valueAt}
+use Rattle.picture.specs.Faults.{firstOf, when, faultOf, pictureFault}
 use Rattle.picture.specs.Watersheds.{watershed}
+use Rattle.picture.specs.Patches.{patchAt}
 use Rattle.p5.specs.Files.{readFile, numberOf, headerOf}
 use Rattle.text.specs.Little.{littleEndian}
 use Rattle.board.specs.Calls.{over, afterCall}
@@ -45,3 +46,20 @@ pub record WaterForC (p : Picture) (o o′ q q′ : List ℕ) (r : ℕ) : Type 0
   pub number : r ≡ waterFaultForC p (length o) (length q)
   pub output : o′ ≡ afterCall (waterFaultForC p (length o) (length q)) (over (watershed p .pixels) o) o
   pub work : q′ ≡ bytesAfter (waterFaultForC p (length o) (length q)) p q
+
+-- the place query for C: 7, 3, 8, then 9 for output of fewer than 16 bytes or work of fewer than 10 n, then 10
+unfoldable pub placeFaultForC : ℕ → ℕ → ℕ → ℕ → ℕ → ℕ → ℕ → ℕ
+placeFaultForC a w h l out work x =
+    firstOf (faultOf a w h l)
+    (firstOf (when (ltb out 16 || ltb work (10 * (w * h))) 9) (when (leb (w * h) x) 10))
+
+-- the same of a picture and lent memory
+abbrev pub placeFaultForCOf : Picture → ℕ → List ℕ → List ℕ → ℕ
+placeFaultForCOf p x o q =
+    placeFaultForC (p .adjacency) (p .width) (p .height) (length (p .pixels)) (length o) (length q) x
+
+-- the result of the place query for C, and what it leaves: the value and the patch's number, 0 for the line
+pub record PlaceForC (p : Picture) (x : ℕ) (o o′ q q′ : List ℕ) (r : ℕ) : Type 0 where
+  pub number : r ≡ placeFaultForCOf p x o q
+  pub output : o′ ≡ afterCall (placeFaultForCOf p x o q) (over (pair (valueAt p x) (patchAt p x)) o) o
+  pub work : q′ ≡ bytesAfter (placeFaultForCOf p x o q) p q

@@ -1,7 +1,9 @@
 // The calls for C: numbers and byte memory only.
 use board::faults::output_fault;
+use board::faults::work_fault;
 use board::read_file;
 use board::watershed_of;
+use patches::cores::query;
 use text::put_little;
 ghost use mathlib.Core.Path.{_≡_};
 ghost use mathlib.Core.List.{_++_};
@@ -9,7 +11,9 @@ ghost use Prim.Native.Nat.{_+_, _*_, _≤_};
 ghost use lib.ListN.{length, drop, replicate};
 ghost use Rattle.labels.specs.Labels.{picture};
 ghost use Rattle.text.specs.Writing.{Written};
-ghost use Rattle.board_c.specs.CalledByC.{pair, ReadForC, waterFaultForC, WaterForC};
+ghost use Rattle.board_c.specs.CalledByC.{pair, ReadForC, waterFaultForC, WaterForC, placeFaultForC, PlaceForC};
+ghost use Rattle.picture.specs.Patches.{patchAt};
+ghost use Rattle.board.specs.Calls.{Admits};
 
 // Writes two numbers as eight bytes each, lowest first, and answers the place behind them.
 fn put_pair(out: &mut [u8], at: usize, x: u64, y: u64) -> usize
@@ -75,6 +79,74 @@ pub extern "C" fn board_watershed(
     }
     let mut cells = [0u16; 8000];
     watershed_of(adjacency, width, height, pixels, out, &mut cells);
+    clear_bytes(work, 10 * pixels.len());
+    0
+}
+
+// The number of the first refusal of a place query for C, 0 for none.
+fn place_fault_for_c(
+    a: u32,
+    w: u32,
+    h: u32,
+    length: usize,
+    out: usize,
+    work: usize,
+    place: u32,
+) -> u8
+    ensures { λ r. ⌜ r ≡ placeFaultForC a w h length out work place ⌝ }
+{
+    let fault = work_fault(a, w, h, length, work / 2);
+    if fault != 0 {
+        return fault;
+    }
+    if out < 16 {
+        return 9;
+    }
+    if length <= place as usize {
+        return 10;
+    }
+    0
+}
+
+// The patch number of a place, with locals for the 16-bit work.
+fn patch_number(a: u32, w: u32, h: u32, pixels: &[u8], place: usize) -> u16
+    requires { ⌜ Admits (picture a w h (now pixels)) (replicate 8000 0) place ⌝ }
+    ensures { λ r. ⌜ r ≡ patchAt (picture a w h (now (pixels .entry))) place ⌝ }
+{
+    let n = pixels.len();
+    let whole = 5 * n;
+    let mut work = [0u16; 8000];
+    let mut cells = [0u16; 1600];
+    query(a, w, h, pixels, place, &mut work[..whole], &mut cells[..n])
+}
+
+// The value of the pixel at a place and the number of its patch, 0 for the line.
+#[no_mangle]
+pub extern "C" fn board_place(
+    adjacency: u32,
+    width: u32,
+    height: u32,
+    pixels: &[u8],
+    place: u32,
+    out: &mut [u8],
+    work: &mut [u8],
+) -> u32
+    ensures { λ r. ⌜ PlaceForC (picture adjacency width height (now (pixels .entry))) place (now (out .entry)) (now (out .exit)) (now (work .entry)) (now (work .exit)) r ⌝ }
+{
+    let fault = place_fault_for_c(
+        adjacency,
+        width,
+        height,
+        pixels.len(),
+        out.len(),
+        work.len(),
+        place,
+    );
+    if fault != 0 {
+        return fault as u32;
+    }
+    let number = patch_number(adjacency, width, height, pixels, place as usize);
+    put_pair(out, 0, pixels[place as usize] as u64, number as u64);
     clear_bytes(work, 10 * pixels.len());
     0
 }
