@@ -27,6 +27,8 @@
  * and of `work` overlaps no other memory of the same call. No memory needs
  * an alignment, and what it holds before the call makes no difference,
  * but for `file` and `pixels`.
+ *
+ * board_watershed and board_place have 19,200 bytes of arrays on the stack.
  */
 
 #ifndef BOARD_H
