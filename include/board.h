@@ -28,6 +28,7 @@
  * an alignment, and what it holds before the call makes no difference,
  * but for `file` and `pixels`.
  *
+ * Numbers are 32-bit; a caller with wider ones tests them first.
  * board_watershed and board_place have 19,200 bytes of arrays on the stack.
  */
 
