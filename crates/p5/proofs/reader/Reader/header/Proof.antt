@@ -51,6 +51,7 @@ use Rattle.p5.specs.declared.reader.Reader.{Reader}
 use Rattle.p5.specs.declared.field.Field.{Field}
 use Rattle.p5.specs.declared.field.Field.the-variants.{Number, Unfit}
 use Rattle.p5.specs.declared.header.Walk.{Walk}
+use Rattle.p5.proofs.FieldValues.{spelled, respelled, number-fits, position-fits}
 use Rattle.p5.proofs.reader.Reader as T
 use Rattle.p5.proofs.reader.Reader.Laws as T′
 use Rattle.p5.proofs.field.Field as F
@@ -100,19 +101,6 @@ stops i = seq (call #p5·stopped (copy (place i []) ∷ []) (place 0 [])) return
 abbrev the : List Val → Val
 the [] = vint w64 0
 the (u ∷ us) = u
-
--- an answer's machine value is spelled, and its fields are in range
-spelled : (r : Field) (vs : List Val) → Is F.the-row r vs → vs ≡ F′.lowered r ∷ []
-spelled = F′.lowers .val-is
-
-respelled : (r : Field) (vs : List Val) → Is F.the-row r vs → Is F.the-row r (F′.lowered r ∷ [])
-respelled r vs is = subst (Is F.the-row r) (spelled r vs is) is
-
-number-fits : (n p : ℕ) (vs : List Val) → Is F.the-row (Number n p) vs → n < 2 ^ 32
-number-fits n p vs is = EL.owed F.the-type F′.the-laws (Number n p) vs is .0 .1
-
-position-fits : (n p : ℕ) (vs : List Val) → Is F.the-row (Number n p) vs → p < 2 ^ 64
-position-fits n p vs is = EL.owed F.the-type F′.the-laws (Number n p) vs is .1 .0 .1
 
 module _ {M : Type 1} (𝓤 : URA M) (H : Heap 𝓤) (A : Atoms 𝓤) (mem : Memory → SProp 𝓤) (run : Routine → Fun 𝓤) where
   -- the contracts that the proof cites
