@@ -63,3 +63,5 @@ pub mod Settling
 pub mod Checks
 pub mod Looks
 pub mod Tree
+pub mod TreeLists
+pub mod Copies

@@ -1,2 +1,3 @@
 -- Laws of the tree's cells.
 pub mod Trees
+pub mod Handing

@@ -2,3 +2,4 @@
 pub mod Arrays
 pub mod Frame
 pub mod Built
+pub mod Lists

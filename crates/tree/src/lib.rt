@@ -4,4 +4,5 @@ pub mod buckets;
 pub mod build;
 pub mod levels;
 pub mod list;
+pub mod lists;
 pub mod union_find;

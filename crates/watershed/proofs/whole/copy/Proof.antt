@@ -1,7 +1,9 @@
 -- `watershed::whole::copy` meets its contract. The invariant is Copied: the bytes passed are equal.
-use Prim.Native.Nat.{ℕ, _-_, _≤_}
-use lib.ListN.{length}
-use Rattle.watershed.proofs.Copying.{Copied, copy-start, copy-turn, copy-end}
+use mathlib.Core.Path.{_≡_, ap}
+use Prim.Native.Nat.{ℕ, _+_, _-_, _≤_}
+use native.Mathlib.Omega.{arith}
+use lib.ListN.{length, getD}
+use Rattle.topology.proofs.Copies.{Copied, copy-start, copy-turn, copy-all}
 use borrow.Author.Needs.{needs}
 use Rattle.watershed.proofs.whole.copy.Statement.{statement}
 use Rattle.watershed.proofs.whole.copy.Tie as tie
@@ -9,13 +11,13 @@ use Rattle.watershed.proofs.whole.copy.Reads as reads
 use Rattle.watershed.proofs.whole.copy.Lts as lts
 
 abbrev Inv-loop : tie.InvT-loop
-Inv-loop from to₀ i₀ to i = Copied from to i × (i ≤ length from)
+Inv-loop from to₀ i₀ to i = Copied from 0 i to₀ to × (i ≤ length from)
 
 abbrev μ-loop : tie.MeasureT-loop
 μ-loop from to₀ i₀ to i = length from - i
 
 loop-holds : tie.Need-loop-holds Inv-loop μ-loop
-loop-holds c = (copy-start _ _ (c .pre), search needs)
+loop-holds c = (copy-start _ _ _, search needs)
 
 shared-slice-read-to : tie.Need-shared-slice-read-to Inv-loop μ-loop
 shared-slice-read-to c = search needs
@@ -30,14 +32,17 @@ loop-less : tie.Need-loop-less Inv-loop μ-loop
 loop-less c = search needs
 
 loop-again : tie.Need-loop-again Inv-loop μ-loop
-loop-again c = let l = c .before .before .loop .inv in
-    (copy-turn _ _ _ (l .0) (c .before .loop-test .taken), search needs)
+loop-again c =
+    let l = c .before .before .loop in
+    let from = c .before .before .before .args .from .now in
+    let e : getD from (l .i) 0 ≡ getD from (0 + l .i) 0 = ap (λ (j : ℕ). getD from j 0) {y = 0 + l .i} (omega arith) in
+    (copy-turn from 0 _ _ (l .i) _ e (l .inv .0) (search needs), search needs)
 
 same-length : tie.Need-same-length Inv-loop μ-loop
 same-length c = search needs
 
 returns : tie.Need-returns Inv-loop μ-loop
-returns c = copy-end _ _ _ (c .before .loop .inv .0) (c .loop-test .left)
+returns c = copy-all _ _ _ _ (c .before .before .pre) (c .loop-test .left) (c .before .loop .inv .0)
 
 pub copy-spec : {M : Type 1} → statement M
 copy-spec =
