@@ -1,4 +1,5 @@
 -- Laws of what the public calls promise.
 pub mod Files
 pub mod Shell
+pub mod Lent
 pub mod Demands

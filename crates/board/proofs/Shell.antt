@@ -28,15 +28,15 @@ use Rattle.board.specs.declared.Queried.{Queried}
 use Rattle.board.specs.Calls.{over, afterCall, workAfter, Answered, Refused, Accepted, placeFaultOf, groundOf, QueryIs, cleared, Admits, QuerySays}
 
 -- the first of two numbers
-first-some : (f g r : ℕ) → r ≡ f → r ≢ 0 → r ≡ firstOf f g
+pub first-some : (f g r : ℕ) → r ≡ f → r ≢ 0 → r ≡ firstOf f g
 first-some zero g r e d = absurd (d e)
 first-some (suc f) g r e d = e
 
-first-none : (f g : ℕ) → f ≡ 0 → firstOf f g ≡ g
+pub first-none : (f g : ℕ) → f ≡ 0 → firstOf f g ≡ g
 first-none zero g e = refl
 first-none (suc f) g e = absurd (omega arith)
 
-first-zero : (f g : ℕ) → firstOf f g ≡ 0 → (f ≡ 0) × (g ≡ 0)
+pub first-zero : (f g : ℕ) → firstOf f g ≡ 0 → (f ≡ 0) × (g ≡ 0)
 first-zero zero g e = (refl, e)
 first-zero (suc f) g e = absurd (omega arith)
 
@@ -46,16 +46,23 @@ first-three zero g i = refl
 first-three (suc f) g i = refl
 
 -- one number for either of two causes
-first-either : (f n : ℕ) (a b : Bool) → firstOf (firstOf f (when b (suc n))) (when a (suc n)) ≡ firstOf f (when (a || b) (suc n))
+pub first-either : (f n : ℕ) (a b : Bool) → firstOf (firstOf f (when b (suc n))) (when a (suc n)) ≡ firstOf f (when (a || b) (suc n))
 first-either zero n true true = refl
 first-either zero n true false = refl
 first-either zero n false true = refl
 first-either zero n false false = refl
 first-either (suc f) n a b = refl
 
-when-zero : (n : ℕ) (b : Bool) → when b (suc n) ≡ 0 → b ≡ false
+pub when-zero : (n : ℕ) (b : Bool) → when b (suc n) ≡ 0 → b ≡ false
 when-zero n true e = absurd (omega arith)
 when-zero n false e = refl
+
+-- a fault behind none: the place is n or more, or it is not
+pub place-late : (f n x : ℕ) → f ≡ 0 → n ≤ x → 10 ≡ firstOf f (when (leb n x) 10)
+place-late f n x z b = sym (first-none f _ z ∙ ap (λ (t : Bool). when t 10) (le-leb n x b))
+
+pub place-fine : (f n x : ℕ) → f ≡ 0 → x < n → 0 ≡ firstOf f (when (leb n x) 10)
+place-fine f n x z b = sym (first-none f _ z ∙ ap (λ (t : Bool). when t 10) (lt-leb n x b))
 
 -- the fault of a picture's arguments and the length of work
 abbrev pub workFaultOf : Picture → ℕ → ℕ
@@ -131,20 +138,13 @@ module _ (a w h l : ℕ) where
       unfolding workFault placeFault
       place-is = first-three (faultOf a w h l) (when (ltb work (5 * (w * h))) 9) (when (leb (w * h) x) 10)
 
-      pub place-first : (r : ℕ) → r ≡ workFault a w h l work → r ≢ 0 → r ≡ placeFault a w h l work x
-      place-first r e d = first-some (workFault a w h l work) _ r e d ∙ place-is
-
-      pub place-beyond : workFault a w h l work ≡ 0 → l ≤ x → 10 ≡ placeFault a w h l work x
-      place-beyond e b =
-          let s = work-size e in
-          let m : w * h ≤ x = omega arith in
-          sym (first-none (workFault a w h l work) _ e ∙ ap (λ (t : Bool). when t 10) (le-leb (w * h) x m)) ∙ place-is
-
-      pub place-none : workFault a w h l work ≡ 0 → x < l → 0 ≡ placeFault a w h l work x
-      place-none e b =
-          let s = work-size e in
-          let m : x < w * h = omega arith in
-          sym (first-none (workFault a w h l work) _ e ∙ ap (λ (t : Bool). when t 10) (lt-leb (w * h) x m)) ∙ place-is
+      -- the place counts from the number of pixels
+      pub place-behind : firstOf (workFault a w h l work) (when (leb l x) 10) ≡ placeFault a w h l work x
+      place-behind = counted (workFault a w h l work) (λ z. work-size z) ∙ place-is
+        where
+          counted : (f : ℕ) → (f ≡ 0 → l ≡ w * h) → firstOf f (when (leb l x) 10) ≡ firstOf f (when (leb (w * h) x) 10)
+          counted zero e = ap (λ (n : ℕ). when (leb n x) 10) (e refl)
+          counted (suc f) e = refl
 
       pub place-enough : placeFault a w h l work x ≡ 0 → (workFault a w h l work ≡ 0) × (x < w * h)
       place-enough e =

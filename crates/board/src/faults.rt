@@ -1,6 +1,10 @@
 // The fault of a call's arguments, from numbers and lengths alone; 0 for none.
 use picture::faults::picture_fault;
 ghost use mathlib.Core.Path.{_≡_};
+ghost use mathlib.Core.Bool.{_||_};
+ghost use Prim.Native.Nat.{min};
+ghost use lib.Dec.{leb};
+ghost use Rattle.picture.specs.Faults.{firstOf, when};
 ghost use Rattle.board.specs.Faults.{workFault, outputFault, placeFault};
 
 // A picture's arguments and the length of work.
@@ -31,16 +35,45 @@ pub fn output_fault(a: u32, w: u32, h: u32, length: usize, out: usize, work: usi
     0
 }
 
-// The same without output, and a place.
-pub fn place_fault(a: u32, w: u32, h: u32, length: usize, work: usize, place: u32) -> u8
-    ensures { λ r. ⌜ r ≡ placeFault a w h length work place ⌝ }
+// A fault, then 10 for a place that is n or more.
+fn place_after(fault: u8, n: usize, place: u32) -> u8
+    ensures { λ r. ⌜ r ≡ firstOf fault (when (leb n place) 10) ⌝ }
 {
-    let fault = work_fault(a, w, h, length, work);
     if fault != 0 {
         return fault;
     }
-    if length <= place as usize {
+    if n <= place as usize {
         return 10;
     }
     0
+}
+
+// A picture's arguments, the length of work, and a place.
+pub fn place_fault(a: u32, w: u32, h: u32, length: usize, work: usize, place: u32) -> u8
+    ensures { λ r. ⌜ r ≡ placeFault a w h length work place ⌝ }
+{
+    place_after(work_fault(a, w, h, length, work), length, place)
+}
+
+// A fault, then 10 for two places of which one is n or more.
+pub fn places_fault(fault: u8, n: usize, x: u32, y: u32) -> u8
+    ensures { λ r. ⌜ r ≡ firstOf fault (when (leb n x || leb n y) 10) ⌝ }
+{
+    place_after(place_after(fault, n, y), n, x)
+}
+
+fn lesser(a: usize, b: usize) -> usize
+    ensures { λ r. ⌜ r ≡ min a b ⌝ }
+{
+    if a < b {
+        return a;
+    }
+    b
+}
+
+// The least of four lengths.
+pub fn least(a: usize, b: usize, c: usize, d: usize) -> usize
+    ensures { λ r. ⌜ r ≡ min (min a b) (min c d) ⌝ }
+{
+    lesser(lesser(a, b), lesser(c, d))
 }

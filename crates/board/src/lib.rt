@@ -1,14 +1,20 @@
 // The public calls. Each has one function decide its refusal from numbers and lengths, lends exact parts to one core, and finishes.
+use faults::least;
 use faults::output_fault;
 use faults::place_fault;
+use faults::places_fault;
 use labels::lowerable::lowerable;
 use labels::scan::label;
 use patches::cores::query;
 use picture::clearing::clear;
+use tree::lists::tree_lists;
+use trees::tree_fault;
+use verify::climb::pass;
 use watershed::whole::watershed_core;
 
 pub mod faults;
 mod reading;
+mod trees;
 
 ghost use mathlib.Core.Path.{_≡_};
 ghost use Prim.Native.Nat.{_*_, _≤_};
@@ -17,6 +23,7 @@ ghost use Rattle.picture.specs.Lists.{pick};
 ghost use Rattle.labels.specs.Labels.{picture};
 ghost use Rattle.board.specs.Reads.{ReadSays, PixelsSay};
 ghost use Rattle.board.specs.Calls.{Refused, Accepted, Finished, LabelsSay, LowerSays, WaterSays, cleared, groundOf, Admits, QueryIs, QuerySays};
+ghost use Rattle.board.specs.Trees.{TreeSays, CheckSays, PassSays};
 ghost use Rattle.picture.specs.Patches.{patchAt};
 
 // The number of a refusal, or 0, with the refusal's place; of an accepted file the sides, the largest sample and the offset of the pixels.
@@ -111,6 +118,111 @@ pub fn label_section(
     let n = pixels.len();
     let count = label(a, w, h, pixels, k, &mut out[..n], &mut work[..n]);
     finish(work, n, count as u32)
+}
+
+// The component tree of a picture: heights, fathers, first places and map; answers the number of nodes.
+pub fn component_tree(
+    a: u32,
+    w: u32,
+    h: u32,
+    pixels: &[u8],
+    heights: &mut [u8],
+    fathers: &mut [u16],
+    firsts: &mut [u16],
+    map: &mut [u16],
+    work: &mut [u16],
+) -> Answer
+    ensures { λ r. ⌜ TreeSays (picture a w h (now (pixels .entry))) (now (heights .entry)) (now (heights .exit)) (now (fathers .entry)) (now (fathers .exit)) (now (firsts .entry)) (now (firsts .exit)) (now (map .entry)) (now (map .exit)) (now (work .entry)) (now (work .exit)) r ⌝ }
+{
+    let lists = least(heights.len(), fathers.len(), firsts.len(), map.len());
+    let fault = output_fault(a, w, h, pixels.len(), lists, work.len());
+    if fault != 0 {
+        return refused(fault);
+    }
+    let count = tree_lists(a, w, h, pixels, heights, fathers, firsts, map, work);
+    finish(work, pixels.len(), count as u32)
+}
+
+// Whether a lent tree of count nodes is that of the picture: 11 if it is not.
+pub fn check_tree(
+    a: u32,
+    w: u32,
+    h: u32,
+    pixels: &[u8],
+    count: u32,
+    heights: &[u8],
+    fathers: &[u16],
+    firsts: &[u16],
+    map: &[u16],
+    work: &mut [u16],
+) -> Answer
+    ensures { λ r. ⌜ CheckSays (picture a w h (now (pixels .entry))) count (now (heights .entry)) (now (fathers .entry)) (now (firsts .entry)) (now (map .entry)) (now (work .entry)) (now (work .exit)) r ⌝ }
+{
+    let lists = least(heights.len(), fathers.len(), firsts.len(), map.len());
+    let lengths = output_fault(a, w, h, pixels.len(), lists, work.len());
+    let fault = tree_fault(
+        lengths,
+        a,
+        w,
+        h,
+        pixels,
+        count,
+        heights,
+        fathers,
+        firsts,
+        map,
+    );
+    if fault != 0 {
+        return refused(fault);
+    }
+    finish(work, pixels.len(), 0)
+}
+
+// The pass between two places, read off a lent tree of count nodes.
+pub fn pass_between(
+    a: u32,
+    w: u32,
+    h: u32,
+    pixels: &[u8],
+    count: u32,
+    heights: &[u8],
+    fathers: &[u16],
+    firsts: &[u16],
+    map: &[u16],
+    x: u32,
+    y: u32,
+    work: &mut [u16],
+) -> Answer
+    ensures { λ r. ⌜ PassSays (picture a w h (now (pixels .entry))) count (now (heights .entry)) (now (fathers .entry)) (now (firsts .entry)) (now (map .entry)) x y (now (work .entry)) (now (work .exit)) r ⌝ }
+{
+    let lists = least(heights.len(), fathers.len(), firsts.len(), map.len());
+    let lengths = output_fault(a, w, h, pixels.len(), lists, work.len());
+    let places = places_fault(lengths, pixels.len(), x, y);
+    let fault = tree_fault(
+        places,
+        a,
+        w,
+        h,
+        pixels,
+        count,
+        heights,
+        fathers,
+        firsts,
+        map,
+    );
+    if fault != 0 {
+        return refused(fault);
+    }
+    let height = pass(
+        pixels,
+        count as usize,
+        heights,
+        fathers,
+        map,
+        x as usize,
+        y as usize,
+    );
+    finish(work, pixels.len(), height as u32)
 }
 
 // Whether the pixel at a place is lowerable: answers 1 for yes, 0 for no.

@@ -1,6 +1,9 @@
--- `board::faults::place_fault` meets its contract: each return is one law of the fault.
-use mathlib.Core.Path.{_≡_, sym, _∙_}
-use Rattle.board.proofs.Shell.{place-first, place-beyond, place-none}
+-- `board::faults::place_fault` meets its contract.
+use mathlib.Core.Path.{ap, _∙_}
+use Prim.Native.Nat.{ℕ}
+use lib.Dec.{leb}
+use Rattle.picture.specs.Faults.{firstOf, when}
+use Rattle.board.proofs.Shell.{place-behind}
 use borrow.Author.Needs.{needs}
 use Rattle.board.proofs.faults.place_fault.Statement.{statement}
 use Rattle.board.proofs.faults.place_fault.Tie as tie
@@ -8,20 +11,15 @@ use Rattle.board.proofs.faults.place_fault.Tie as tie
 work-fault-requires : tie.Need-work-fault-requires
 work-fault-requires c κs = search needs
 
+place-after-requires : tie.Need-place-after-requires
+place-after-requires c κs = search needs
+
 returns : tie.Need-returns
 returns c =
-    let t = c .before .work-fault in
-    place-first _ _ _ _ _ _ _ (t .ensures) (c .if1 .taken)
-
-returns-2 : tie.Need-returns-2
-returns-2 c =
-    let t = c .before .before .work-fault in
-    place-beyond _ _ _ _ _ _ (sym (t .ensures) ∙ c .before .if1 .left) (c .if2 .taken)
-
-returns-3 : tie.Need-returns-3
-returns-3 c =
-    let t = c .before .before .work-fault in
-    place-none _ _ _ _ _ _ (sym (t .ensures) ∙ c .before .if1 .left) (c .if2 .left)
+    let s = c .before .before .args in
+    c .place-after .ensures ∙
+    (ap (λ (f : ℕ). firstOf f (when (leb (s .length) (s .place)) 10)) (c .before .work-fault .ensures) ∙
+    place-behind (s .a) (s .w) (s .h) (s .length) (s .work) (s .place))
 
 pub place-fault-spec : {M : Type 1} → statement M
-place-fault-spec = tie.close (tie.spec work-fault-requires returns returns-2 returns-3)
+place-fault-spec = tie.close (tie.spec work-fault-requires place-after-requires returns)

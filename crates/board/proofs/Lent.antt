@@ -1,0 +1,215 @@
+-- The laws of the calls that lend a tree: its faults, and the tree entry by entry.
+use mathlib.Core.Path.{_≡_, refl, sym, ap, ap₂, subst, _∙_}
+use mathlib.Core.Bool.{Bool, true, false, _&&_, _||_, not}
+use mathlib.Core.Logic.{_≢_}
+use mathlib.Core.List.{List, [], _∷_}
+use Prim.Native.Nat.{ℕ, zero, suc, _+_, _-_, _≤_, _<_, min}
+use native.Mathlib.Omega.{arith}
+use lib.Dec.{eqb, leb}
+use lib.ListN.{length, getD, drop}
+use lib.Seq.{drop-drop}
+use borrow.Author.Tests.{eqb-true, eq-eqb, leb-false, le-leb, lt-leb}
+use Rattle.picture.specs.Pictures.{Picture, places, isPicture}
+use Rattle.picture.specs.Components.{pass}
+use Rattle.picture.specs.Trees.{nodes, treeOf}
+use Rattle.picture.specs.Faults.{firstOf, when}
+use Rattle.picture.proofs.Lists.{and-left, and-right}
+use Rattle.topology.proofs.Tests.{and-both, clash, on-test}
+use Rattle.topology.proofs.Accepted.{accepted-is}
+use Rattle.topology.proofs.Nodes.{nodes-few}
+use Rattle.topology.proofs.Grid.{pass-byte}
+use Rattle.topology.proofs.TreeLists.{length-heights, length-fathers, length-firsts, length-map-of, heights-at, fathers-at, firsts-at, map-at}
+use Rattle.tree.specs.Lists.{Rooms, InFront}
+use Rattle.verify.specs.Lent.{IsTree, Says}
+use Rattle.verify.specs.Climbs.{PassReady}
+use Rattle.board.specs.Faults.{outputFault}
+use Rattle.board.specs.Calls.{over, afterCall}
+use Rattle.board.specs.Trees.{begins, isTree, shortest, treeFaultOf, placesFaultOf, checkedFault, Lent}
+use Rattle.board.proofs.Shell.{Admitted, admitted, workFaultOf, output-enough, written-left, first-some, first-none, first-zero, when-zero}
+
+-- a list begins with another: entry by entry
+begins-at : (xs ys : List ℕ) → begins xs ys ≡ true → (i : ℕ) → i < length xs → getD ys i 0 ≡ getD xs i 0
+begins-at [] ys e i h = absurd (omega arith)
+begins-at (x ∷ xs) [] e i h = absurd (clash e refl)
+begins-at (x ∷ xs) (y ∷ ys) e zero h = sym (eqb-true x y (and-left (eqb x y) _ e))
+begins-at (x ∷ xs) (y ∷ ys) e (suc i) h = begins-at xs ys (and-right (eqb x y) _ e) i (omega arith)
+
+at-begins : (xs ys : List ℕ) → length xs ≤ length ys → ((i : ℕ) → i < length xs → getD ys i 0 ≡ getD xs i 0) → begins xs ys ≡ true
+at-begins [] ys h f = refl
+at-begins (x ∷ xs) [] h f = absurd (omega arith)
+at-begins (x ∷ xs) (y ∷ ys) h f =
+    and-both (eqb x y) _ (eq-eqb x y (sym (f 0 (omega arith)))) (at-begins xs ys (omega arith) (λ i l. f (suc i) (omega arith)))
+
+-- the same for a list xs of n entries
+entries : (xs ys : List ℕ) (n : ℕ) → length xs ≡ n → begins xs ys ≡ true → (i : ℕ) → i < n → getD ys i 0 ≡ getD xs i 0
+entries xs ys n e b i h = begins-at xs ys b i (omega arith)
+
+begun : (xs ys : List ℕ) (n : ℕ) → length xs ≡ n → n ≤ length ys → ((i : ℕ) → i < n → getD ys i 0 ≡ getD xs i 0) → begins xs ys ≡ true
+begun xs ys n e h f = at-begins xs ys (omega arith) (λ i l. f i (omega arith))
+
+-- the lists of a call with no fault
+pub lent-none : {f : ℕ} {p : Picture} {hs fs ss m : List ℕ} → f ≡ 0 → Lent f p hs fs ss m → Lent 0 p hs fs ss m
+lent-none {f} {p} {hs} {fs} {ss} {m} z l = subst (λ (g : ℕ). Lent g p hs fs ss m) z l
+
+module _ (p : Picture) (count : ℕ) (hs fs ss m : List ℕ) where
+  -- the test holds exactly for the tree
+  pub tree-entries : isTree p count hs fs ss m ≡ true → IsTree p count hs fs ss m
+  unfolding isTree
+  tree-entries e =
+      let n = length (nodes p) in
+      let e₁ = and-right (eqb count n) _ e in
+      let e₂ = and-right (begins (treeOf p .heights) hs) _ e₁ in
+      let e₃ = and-right (begins (treeOf p .fathers) fs) _ e₂ in
+      record {
+        total = eqb-true count n (and-left (eqb count n) _ e);
+        heights = λ i h. entries (treeOf p .heights) hs n (length-heights p) (and-left (begins (treeOf p .heights) hs) _ e₁) i h ∙ heights-at p i h;
+        fathers = λ i h. entries (treeOf p .fathers) fs n (length-fathers p) (and-left (begins (treeOf p .fathers) fs) _ e₂) i h ∙ fathers-at p i h;
+        firsts = λ i h. entries (treeOf p .firsts) ss n (length-firsts p) (and-left (begins (treeOf p .firsts) ss) _ e₃) i h ∙ firsts-at p i h;
+        map = λ x h. entries (treeOf p .map) m (places p) (length-map-of p) (and-right (begins (treeOf p .firsts) ss) _ e₃) x h ∙ map-at p x h;
+      }
+
+  module _ (lent : Lent 0 p hs fs ss m) where
+    pub entries-tree : IsTree p count hs fs ss m → isTree p count hs fs ss m ≡ true
+    unfolding isTree
+    entries-tree t =
+        let n = length (nodes p) in
+        let few = nodes-few p in
+        and-both (eqb count n) _ (eq-eqb count n (t .total))
+        (and-both (begins (treeOf p .heights) hs) _
+        (begun (treeOf p .heights) hs n (length-heights p) (omega (arith, few, lent .heights refl)) (λ i h. t .heights i h ∙ sym (heights-at p i h)))
+        (and-both (begins (treeOf p .fathers) fs) _
+        (begun (treeOf p .fathers) fs n (length-fathers p) (omega (arith, few, lent .fathers refl)) (λ i h. t .fathers i h ∙ sym (fathers-at p i h)))
+        (and-both (begins (treeOf p .firsts) ss) _
+        (begun (treeOf p .firsts) ss n (length-firsts p) (omega (arith, few, lent .firsts refl)) (λ i h. t .firsts i h ∙ sym (firsts-at p i h)))
+        (begun (treeOf p .map) m (places p) (length-map-of p) (lent .map refl) (λ x h. t .map x h ∙ sym (map-at p x h))))))
+
+    -- the answer of the check is the test
+    pub answer-tree : (b : Bool) → Says p count hs fs ss m b → b ≡ isTree p count hs fs ss m
+    answer-tree true s = sym (entries-tree (s .yes refl))
+    answer-tree false s =
+        on-test (isTree p count hs fs ss m) (λ e. absurd (s .never refl (tree-entries e))) (λ e. sym e)
+
+  -- the returns of the fault of a lent tree
+  pub tree-unchecked : (f : ℕ) → f ≢ 0 → f ≡ checkedFault f p count hs fs ss m
+  unfolding checkedFault
+  tree-unchecked f d = first-some f _ f refl d
+
+  pub tree-checked : (f r : ℕ) (b : Bool) → f ≡ 0 → b ≡ isTree p count hs fs ss m → r ≡ when (not b) 11 → r ≡ checkedFault f p count hs fs ss m
+  unfolding checkedFault
+  tree-checked f r b z e v = v ∙ (ap (λ (t : Bool). when (not t) 11) e ∙ sym (first-none f _ z))
+
+  -- no fault: the lent lists are the tree
+  pub no-checked-fault : (f : ℕ) → checkedFault f p count hs fs ss m ≡ 0 → (f ≡ 0) × (isTree p count hs fs ss m ≡ true)
+  unfolding checkedFault
+  no-checked-fault f e =
+      let z = first-zero f (when (not (isTree p count hs fs ss m)) 11) e in
+      (z .0, not-false (isTree p count hs fs ss m) (when-zero 10 (not (isTree p count hs fs ss m)) (z .1)))
+    where
+      not-false : (b : Bool) → not b ≡ false → b ≡ true
+      not-false true g = refl
+      not-false false g = absurd (clash refl g)
+
+-- the fault of two places
+module _ (n x y : ℕ) where
+  pub places-both : when (leb n x || leb n y) 10 ≡ 0 → (x < n) × (y < n)
+  places-both e =
+      on-test (leb n x)
+      (λ l. absurd (let g : 10 ≡ 0 = ap (λ (s : Bool). when (s || leb n y) 10) (sym l) ∙ e in omega arith))
+      (λ l.
+      on-test (leb n y)
+      (λ u. absurd (let g : 10 ≡ 0 = ap₂ (λ (s t : Bool). when (s || t) 10) (sym l) (sym u) ∙ e in omega arith))
+      (λ u. (leb-false n x l, leb-false n y u)))
+
+-- the fault of the lengths, from the least of them
+pub lists-fault :
+    (p : Picture) (hs fs ss m q : List ℕ) (l f : ℕ) → l ≡ shortest hs fs ss m →
+    f ≡ outputFault (p .adjacency) (p .width) (p .height) (length (p .pixels)) l (length q) → f ≡ treeFaultOf p hs fs ss m q
+unfolding treeFaultOf
+lists-fault p hs fs ss m q l f e g =
+    g ∙ ap (λ (k : ℕ). outputFault (p .adjacency) (p .width) (p .height) (length (p .pixels)) k (length q)) e
+
+-- what the calls lend
+module _ (p : Picture) (hs fs ss m q : List ℕ) (bytes : (i : ℕ) → getD (p .pixels) i 0 ≤ 255) where
+  pub tree-admitted : treeFaultOf p hs fs ss m q ≡ 0 → Admitted p (length q) × (places p ≤ shortest hs fs ss m)
+  unfolding treeFaultOf
+  tree-admitted z =
+      let e = output-enough (p .adjacency) (p .width) (p .height) (length (p .pixels)) (length q) (shortest hs fs ss m) z in
+      (admitted p (length q) (e .0) bytes, e .1)
+
+  -- the lists of a call whose fault f is no less than that of the lengths
+  pub lent-tree : (f : ℕ) → (f ≡ 0 → treeFaultOf p hs fs ss m q ≡ 0) → Lent f p hs fs ss m
+  lent-tree f g =
+      record {
+        accepted = λ z. tree-admitted (g z) .0 .picture;
+        few = λ z. tree-admitted (g z) .0 .few;
+        heights = λ z. let l = tree-admitted (g z) .1 in omega arith;
+        fathers = λ z. let l = tree-admitted (g z) .1 in omega arith;
+        firsts = λ z. let l = tree-admitted (g z) .1 in omega arith;
+        map = λ z. let l = tree-admitted (g z) .1 in omega arith;
+      }
+
+  -- the places count from the number of pixels
+  pub places-is :
+      (f x y : ℕ) → f ≡ treeFaultOf p hs fs ss m q →
+      firstOf f (when (leb (length (p .pixels)) x || leb (length (p .pixels)) y) 10) ≡ placesFaultOf p hs fs ss m q x y
+  unfolding placesFaultOf
+  places-is zero x y e =
+      let n = tree-admitted (sym e) .0 .size in
+      ap (λ (k : ℕ). firstOf 0 (when (leb k x || leb k y) 10)) n ∙ ap (λ (g : ℕ). firstOf g (when (leb (places p) x || leb (places p) y) 10)) e
+  places-is (suc f) x y e = ap (λ (g : ℕ). firstOf g (when (leb (places p) x || leb (places p) y) 10)) e
+
+-- no fault of the lengths and of two places
+pub no-places-fault :
+    (p : Picture) (hs fs ss m q : List ℕ) (x y : ℕ) → placesFaultOf p hs fs ss m q x y ≡ 0 →
+    (treeFaultOf p hs fs ss m q ≡ 0) × (x < places p) × (y < places p)
+unfolding placesFaultOf
+no-places-fault p hs fs ss m q x y e =
+    let z = first-zero (treeFaultOf p hs fs ss m q) _ e in
+    let b = places-both (places p) x y (z .1) in
+    (z .0, b .0, b .1)
+
+-- a tree and two places of its picture, ready for the pass
+pub pass-ready :
+    (p : Picture) (count : ℕ) (hs fs ss m : List ℕ) (x y : ℕ) → Lent 0 p hs fs ss m → isTree p count hs fs ss m ≡ true → x < places p → y < places p →
+    PassReady (p .pixels) count hs fs m x y
+pass-ready p count hs fs ss m x y l e bx by =
+    let t = tree-entries p count hs fs ss m e in
+    let few = nodes-few p in
+    let c = t .total in
+    record {
+      p = p;
+      ss = ss;
+      ok = l .accepted refl;
+      is = refl;
+      tree = t;
+      left = bx;
+      right = by;
+      heights = omega (arith, few, c, l .heights refl);
+      fathers = omega (arith, few, c, l .fathers refl);
+      map = l .map refl;
+    }
+
+pub pass-low : (p : Picture) (x y : ℕ) → isPicture p ≡ true → x < places p → y < places p → pass p x y ≤ 255
+pass-low p x y ok bx by = pass-byte p (accepted-is p ok) x y bx by
+
+-- lists that are equal from a on are so from b on
+pub drop-more : (a b : ℕ) (l m : List ℕ) → a ≤ b → drop a l ≡ drop a m → drop b l ≡ drop b m
+drop-more a b l m h e =
+    let s : a + (b - a) ≡ b = omega arith in
+    ap (λ (i : ℕ). drop i l) (sym s) ∙
+    (sym (drop-drop (b - a) a l) ∙ (ap (drop (b - a)) e ∙ (drop-drop (b - a) a m ∙ ap (λ (i : ℕ). drop i m) s)))
+
+-- the lists and the work of a call with no fault have room for the tree
+pub tree-rooms : (p : Picture) (hs fs ss m q : List ℕ) → Admitted p (length q) → places p ≤ shortest hs fs ss m → Rooms (places p) hs fs ss m q
+tree-rooms p hs fs ss m q a l =
+    record {
+      heights = omega arith;
+      fathers = omega arith;
+      firsts = omega arith;
+      map = omega arith;
+      work = omega (arith, a .size, a .room);
+    }
+
+-- a list of the tree in front of what was there, after a call with no fault
+pub list-left : (f : ℕ) (xs old new : List ℕ) → f ≡ 0 → InFront xs old new → new ≡ afterCall f (over xs old) old
+list-left f xs old new z i = i .is ∙ written-left f (over xs old) old z
