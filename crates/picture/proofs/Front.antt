@@ -1,22 +1,22 @@
 -- What stands in front of the cells while the neighbours are put there.
-use mathlib.Core.Path.{_≡_, refl, sym, ap, ap₂, _∙_}
+use mathlib.Core.Path.{_≡_, refl, sym, ap, ap₂, subst, _∙_}
 use mathlib.Core.Bool.{Bool, true, false, _&&_}
 use mathlib.Core.List.{List, [], _∷_, _++_, append-assoc, append-nil}
-use Prim.Native.Nat.{ℕ, _+_, _-_, _*_, _≤_, _<_}
+use Prim.Native.Nat.{ℕ, _+_, _-_, _*_, _/_, _%_, _≤_, _<_}
 use native.Mathlib.Numerals.{add-one}
-use native.Mathlib.Nat.{add-zero}
+use native.Mathlib.Nat.{add-zero, div-add-mod'}
 use native.Mathlib.Omega.{arith}
 use lib.Dec.{eqb}
 use lib.ListN.{length, take, drop, set, length-append, length-drop, take-append-drop, drop-of-length-le}
 use lib.Seq.{set-split, length-take-le, take-at, drop-at, drop-drop}
 use Rattle.picture.specs.declared.geometry.Step.{Step}
-use Rattle.picture.specs.Geometry.{steps, offset, used, within, stays, placeBy, reached, neighboursOf, Listed}
+use Rattle.picture.specs.Geometry.{steps, offset, used, within, stays, placeBy, reached, neighboursOf, Placed, Listed}
 use Rattle.picture.specs.Steps.{strideOf, stepAt, Leads, Put}
 use Rattle.picture.proofs.Lists.{and-both, on-pick}
 use Rattle.picture.proofs.Steps.{used-step, reached-step, reached-one, reached-none}
 
 -- a step that leaves the edge puts nothing, another puts its place
-module _ (w h x i c r : ℕ) (to : Leads w x i c r) (m : ℕ) (cells : List ℕ) where
+module _ (w h x i c r : ℕ) (to : Leads (x % w) (x / w) i c r) (m : ℕ) (cells : List ℕ) where
   stays-is : stays w h x (offset (stepAt i)) ≡ (within w c && within h r)
   stays-is = ap₂ (λ d e. within w d && within h e) (sym (to .column)) (sym (to .row))
 
@@ -39,6 +39,15 @@ module _ (w h x i c r : ℕ) (to : Leads w x i c r) (m : ℕ) (cells : List ℕ)
       ap₂ (λ k n. (n - 1) * w + (k - 1)) (to .column) (to .row) in
       rw (reached-one w h x (stepAt i) (stays-is ∙ and-both d e), at)
       (record { count = refl; whole = set-split cells m _ l ∙ rw add-one })
+
+-- a place by its row and column
+pub place-digits : (w h x : ℕ) → Placed w h x → Placed w h (x / w * w + x % w)
+place-digits w h x p = subst (Placed w h) (sym (div-add-mod' x w)) p
+
+pub put-digits :
+    (w h x : ℕ) (ss : List Step) (m : ℕ) (cells : List ℕ) (n : ℕ) (after : List ℕ) → Put (reached w h (x / w * w + x % w) ss) m cells n after →
+    Put (reached w h x ss) m cells n after
+put-digits w h x ss m cells n after p = subst (λ (y : ℕ). Put (reached w h y ss) m cells n after) (div-add-mod' x w) p
 
 -- a step puts one place at most
 pub put-most : (w h x : ℕ) (s : Step) → length (reached w h x (s ∷ [])) ≤ 1

@@ -1,12 +1,12 @@
 -- Laws of the steps of the table.
-use mathlib.Core.Path.{_≡_, refl}
+use mathlib.Core.Path.{_≡_, refl, sym, ap, _∙_}
 use mathlib.Core.Bool.{Bool, true, false, _&&_}
 use mathlib.Core.List.{List, [], _∷_, _++_}
-use Prim.Native.Nat.{ℕ, zero, suc, _+_, _-_, _*_, _≤_, _<_}
-use native.Mathlib.Nat.{not-suc-le-zero, le-of-suc-le-suc, lt-of-lt-of-le}
+use Prim.Native.Nat.{ℕ, zero, suc, _+_, _-_, _*_, _/_, _%_, _≤_, _<_}
+use native.Mathlib.Nat.{not-suc-le-zero, le-of-suc-le-suc, lt-of-lt-of-le, div-le-self}
 use native.Mathlib.Numerals.{add-one, add-two}
 use native.Mathlib.Omega.{arith}
-use lib.Arith.{digits-lt}
+use lib.Arith.{digits-lt, digits-div, digits-mod}
 use lib.Dec.{leb, eqb}
 use lib.IntN.{ℤ, pos, negsuc}
 use Rattle.picture.specs.declared.geometry.Step.{Step}
@@ -15,7 +15,7 @@ use lib.Seq.{drop-cons}
 use borrow.Author.Tests.{leb-true}
 use Rattle.picture.specs.Lists.{pick}
 use Rattle.picture.specs.Geometry.{step, steps, offset, everySecond, used, within, stays, placeBy, reached}
-use Rattle.picture.specs.Steps.{isUnit, strideOf, stepAt}
+use Rattle.picture.specs.Steps.{isUnit, strideOf, stepAt, Leads}
 use Rattle.picture.proofs.Lists.{and-left, and-right, all-at}
 use Rattle.picture.proofs.Sides.{area-most}
 
@@ -53,6 +53,20 @@ place-most w h c r p q d e =
     let r1 = within-some h r e in
     let r2 = within-most h r e in
     lt-of-lt-of-le (digits-lt {q = r - 1} {m = h} {r = c - 1} {c = w} (omega arith) (omega arith)) (area-most h w q p)
+
+-- a place by its column and row
+module _ (w column row : ℕ) (b : column < w) where
+  pub leads-from : (i c r : ℕ) → Leads column row i c r → Leads ((row * w + column) % w) ((row * w + column) / w) i c r
+  leads-from i c r l =
+      record {
+        column = l .column ∙ ap (λ (n : ℕ). n + offset (stepAt i) .column) (sym (digits-mod row b));
+        row = l .row ∙ ap (λ (n : ℕ). n + offset (stepAt i) .row) (sym (digits-div row b));
+      }
+
+  pub row-under : (m : ℕ) → row * w + column < m → row < m
+  row-under m h =
+      let e = digits-div row b in
+      let d = div-le-self (row * w + column) w in omega arith
 
 -- the steps used from an index on begin with the one there
 second : (l : List Step) (i : ℕ) (d : Step) → i < length l →

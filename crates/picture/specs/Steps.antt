@@ -2,7 +2,7 @@
 use mathlib.Core.Path.{_≡_}
 use mathlib.Core.Bool.{Bool}
 use mathlib.Core.List.{List, _++_}
-use Prim.Native.Nat.{ℕ, _+_, _/_, _%_}
+use Prim.Native.Nat.{ℕ, _+_}
 use lib.Dec.{eqb, leb}
 use lib.IntN.{ℤ, pos, negsuc}
 use Rattle.picture.specs.declared.geometry.Step.{Step}
@@ -23,10 +23,10 @@ strideOf a = pick (eqb a 4) 2 1
 abbrev pub stepAt : ℕ → Step
 stepAt i = getD steps i (step (pos 0) (pos 0))
 
--- the column and the row that a step leads to from the place x, each plus one
-pub record Leads (w x i c r : ℕ) : Type 0 where
-  pub column : c ≡ x % w + offset (stepAt i) .column
-  pub row : r ≡ x / w + offset (stepAt i) .row
+-- the column and the row that a step leads to from another column and row, each plus one
+pub record Leads (column₀ row₀ i c r : ℕ) : Type 0 where
+  pub column : c ≡ column₀ + offset (stepAt i) .column
+  pub row : r ≡ row₀ + offset (stepAt i) .row
 
 -- the places zs put behind the first m cells, and the number of cells then in front
 pub record Put (zs : List ℕ) (m : ℕ) (cells : List ℕ) (n : ℕ) (after : List ℕ) : Type 0 where

@@ -1,7 +1,7 @@
 // The neighbours of a place, from a table of eight steps.
 ghost use mathlib.Core.Path.{_≡_};
 ghost use mathlib.Core.List.{[], _∷_};
-ghost use Prim.Native.Nat.{_≤_, _<_};
+ghost use Prim.Native.Nat.{_+_, _*_, _≤_, _<_};
 ghost use mathlib.Core.Bool.{true};
 ghost use lib.ListN.{length};
 ghost use Rattle.picture.specs.Geometry.{plusOne, within, reached, neighboursOf, Placed, Listed};
@@ -52,17 +52,17 @@ fn stride(a: u32) -> usize
     1
 }
 
-// Where a step of the table leads from a place.
-fn target_of(w: usize, x: usize, i: usize) -> Target
-    requires { ⌜ (1 ≤ w) × (w ≤ 40) × (x < 1600) × (i < 8) ⌝ }
-    ensures { λ r. ⌜ Leads w x i (r .column) (r .row) ⌝ }
+// Where a step of the table leads from a column and a row.
+fn target_of(column: usize, row: usize, i: usize) -> Target
+    requires { ⌜ (column < 1600) × (row < 1600) × (i < 8) ⌝ }
+    ensures { λ r. ⌜ Leads column row i (r .column) (r .row) ⌝ }
 {
     let step = STEPS[i];
-    let column = plus_one(step.column);
-    let row = plus_one(step.row);
+    let right = plus_one(step.column);
+    let down = plus_one(step.row);
     Target {
-        column: x % w + column,
-        row: x / w + row,
+        column: column + right,
+        row: row + down,
     }
 }
 
@@ -77,20 +77,28 @@ pub fn inside(c: usize, side: usize) -> bool
 }
 
 // Puts the place that a step of the table leads to behind the first m cells, if there is one, and answers the number of cells in front.
-fn put_step(w: usize, h: usize, x: usize, i: usize, cells: &mut [u16], m: usize) -> usize
-    requires { ⌜ Placed w h x × (i < 8) × (m < length (now cells)) ⌝ }
-    ensures { λ r. ⌜ Put (reached w h x (stepAt i ∷ [])) m (now (cells .entry)) r (now (cells .exit)) ⌝ }
+fn put_step(
+    w: usize,
+    h: usize,
+    column: usize,
+    row: usize,
+    i: usize,
+    cells: &mut [u16],
+    m: usize,
+) -> usize
+    requires { ⌜ Placed w h (row * w + column) × (column < w) × (i < 8) × (m < length (now cells)) ⌝ }
+    ensures { λ r. ⌜ Put (reached w h (row * w + column) (stepAt i ∷ [])) m (now (cells .entry)) r (now (cells .exit)) ⌝ }
 {
-    let to = target_of(w, x, i);
-    let column = to.column;
-    let row = to.row;
-    if !inside(column, w) {
+    let to = target_of(column, row, i);
+    let right = to.column;
+    let down = to.row;
+    if !inside(right, w) {
         return m;
     }
-    if !inside(row, h) {
+    if !inside(down, h) {
         return m;
     }
-    cells[m] = ((row - 1) * w + (column - 1)) as u16;
+    cells[m] = ((down - 1) * w + (right - 1)) as u16;
     m + 1
 }
 
@@ -101,11 +109,13 @@ pub fn neighbours(a: u32, w: u32, h: u32, x: usize, cells: &mut [u16]) -> usize
 {
     let width = w as usize;
     let height = h as usize;
+    let column = x % width;
+    let row = x / width;
     let next = stride(a);
     let mut m = 0;
     let mut i = 0;
     while i < 8 {
-        m = put_step(width, height, x, i, cells, m);
+        m = put_step(width, height, column, row, i, cells, m);
         i += next;
     }
     m

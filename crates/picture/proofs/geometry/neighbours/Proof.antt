@@ -1,16 +1,25 @@
 -- `picture::geometry::neighbours` meets its contract. The invariant is Front: what stands in front of the cells.
+use mathlib.Core.List.{[], _∷_}
 use Prim.Native.Nat.{_-_}
+use native.Mathlib.Nat.{mod-lt}
 use native.Mathlib.Omega.{arith}
 use borrow.Author.Needs.{needs}
-use Rattle.picture.proofs.Front.{Front, stride-some, stride-most, front-start, front-turn, front-end}
+use Rattle.picture.specs.Steps.{stepAt}
+use Rattle.picture.proofs.Front.{Front, stride-some, stride-most, front-start, front-turn, front-end, place-digits, put-digits}
 use Rattle.picture.proofs.geometry.neighbours.Statement.{statement}
 use Rattle.picture.proofs.geometry.neighbours.Tie as tie
 
 abbrev Inv-loop : tie.InvT-loop
-Inv-loop a w h x cells₀ width height next m₀ i₀ cells m i = Front a w h x cells₀ cells m i
+Inv-loop a w h x cells₀ width height column row next m₀ i₀ cells m i = Front a w h x cells₀ cells m i
 
 abbrev μ-loop : tie.MeasureT-loop
-μ-loop a w h x cells₀ width height next m₀ i₀ cells m i = 8 - i
+μ-loop a w h x cells₀ width height column row next m₀ i₀ cells m i = 8 - i
+
+rem-column : tie.Need-rem-column Inv-loop μ-loop
+rem-column c = search needs
+
+div-row : tie.Need-div-row Inv-loop μ-loop
+div-row c = search needs
 
 stride-requires : tie.Need-stride-requires Inv-loop μ-loop
 stride-requires c κs = search needs
@@ -19,7 +28,10 @@ loop-holds : tie.Need-loop-holds Inv-loop μ-loop
 loop-holds c = front-start _ _ _ _ _ (search needs)
 
 put-step-requires : tie.Need-put-step-requires Inv-loop μ-loop
-put-step-requires c κs = (c .before .before .before .before .before .pre .0, search needs, search needs)
+put-step-requires c κs =
+    let s = c .before .before .before .before .before in
+    let p = s .pre .0 in
+    (place-digits _ _ _ p, mod-lt (s .args .x) (p .some), search needs, search needs)
 
 add-i : tie.Need-add-i Inv-loop μ-loop
 add-i c =
@@ -35,8 +47,9 @@ loop-again : tie.Need-loop-again Inv-loop μ-loop
 loop-again c =
     let test = c .before .before .before .before in
     let top = test .before in
+    let s = top .before .before .before .args in
     rw (top .before .stride .ensures)
-    (front-turn _ _ _ _ _ _ _ _ _ _ (top .loop .inv) (test .loop-test .taken) (c .before .before .put-step .ensures))
+    (front-turn _ _ _ _ _ _ _ _ _ _ (top .loop .inv) (test .loop-test .taken) (put-digits (s .w) (s .h) (s .x) (stepAt (top .loop .i) ∷ []) _ _ _ _ (c .before .before .put-step .ensures)))
 
 same-length : tie.Need-same-length Inv-loop μ-loop
 same-length c = search needs
@@ -50,6 +63,8 @@ neighbours-spec =
     (tie.spec
     Inv-loop
     μ-loop
+    rem-column
+    div-row
     stride-requires
     loop-holds
     put-step-requires

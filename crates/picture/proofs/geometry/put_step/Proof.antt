@@ -7,7 +7,7 @@ use borrow.Author.Needs.{needs}
 use borrow.Author.Tests.{not-true, not-false}
 use Rattle.picture.specs.Geometry.{within}
 use Rattle.picture.proofs.Sides.{area-most}
-use Rattle.picture.proofs.Steps.{within-some, place-most}
+use Rattle.picture.proofs.Steps.{within-some, place-most, leads-from, row-under}
 use Rattle.picture.proofs.Front.{put-beside, put-beyond, put-one}
 use Rattle.picture.proofs.geometry.put_step.Statement.{statement}
 use Rattle.picture.proofs.geometry.put_step.Tie as tie
@@ -53,7 +53,8 @@ target-of-requires : tie.Need-target-of-requires
 target-of-requires c κs =
     let s = c .before in
     let most = area-most (s .args .w) (s .args .h) (s .pre .0 .wide) (s .pre .0 .high) in
-    omega arith
+    let inside : s .args .row * s .args .w + s .args .column < 1600 = omega (arith, s .pre .0 .inside, most) in
+    (omega (arith, s .pre .1, s .pre .0 .wide), row-under (s .args .w) (s .args .column) (s .args .row) (s .pre .1) 1600 inside, s .pre .2)
 
 inside-requires : tie.Need-inside-requires
 inside-requires c κs = search needs
@@ -61,7 +62,7 @@ inside-requires c κs = search needs
 returns : tie.Need-returns
 returns c =
     let t = c .before .inside in
-    put-beside _ _ _ _ _ _ (c .before .before .target-of .ensures) _ _
+    put-beside _ _ _ _ _ _ (leads-from _ _ _ (c .before .before .before .before .pre .1) _ _ _ (c .before .before .target-of .ensures)) _ _
     (sym (t .ensures) ∙ not-true (t .result) (c .if1 .taken))
 
 inside-requires-2 : tie.Need-inside-requires-2
@@ -71,7 +72,7 @@ returns-2 : tie.Need-returns-2
 returns-2 c =
     let t = c .before .before .before .inside in
     let u = c .before .inside2 in
-    put-beyond _ _ _ _ _ _ (c .before .before .before .before .target-of .ensures) _ _
+    put-beyond _ _ _ _ _ _ (leads-from _ _ _ (c .before .before .before .before .before .before .pre .1) _ _ _ (c .before .before .before .before .target-of .ensures)) _ _
     (sym (t .ensures) ∙ not-false (t .result) (c .before .before .if1 .left))
     (sym (u .ensures) ∙ not-true (u .result) (c .if2 .taken))
 
@@ -104,7 +105,7 @@ same-length c = search needs
 
 returns-3 : tie.Need-returns-3
 returns-3 c =
-    put-one _ _ _ _ _ _ (c .before .before .before .before .target-of .ensures) _ _ (column-in c) (row-in c) (search needs)
+    put-one _ _ _ _ _ _ (leads-from _ _ _ (c .before .before .before .before .before .before .pre .1) _ _ _ (c .before .before .before .before .target-of .ensures)) _ _ (column-in c) (row-in c) (search needs)
 
 pub put-step-spec : {M : Type 1} → statement M
 put-step-spec =

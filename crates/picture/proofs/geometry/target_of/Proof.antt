@@ -1,7 +1,6 @@
 -- `picture::geometry::target_of` meets its contract: the table is that of the definition, each step with one added.
 use mathlib.Core.Path.{_≡_, refl, sym, ap, _∙_}
-use Prim.Native.Nat.{ℕ, _+_, _/_, _%_}
-use native.Mathlib.Nat.{mod-le, div-le-self}
+use Prim.Native.Nat.{ℕ, _+_}
 use native.Mathlib.Omega.{arith}
 use lib.IntN.{pos}
 use lib.ListN.{List·getD-map}
@@ -40,30 +39,24 @@ plus-one-requires-2 c κs =
     all-at (λ (s : Step). isUnit (toZ w8 (ofZ w8 (s .row)))) steps (step (pos 0) (pos 0)) refl refl
     (c .before .before .before .before .args .i)
 
-rem-t16 : tie.Need-rem-t16
-rem-t16 c = search needs
+add-t16 : tie.Need-add-t16
+add-t16 c =
+    let a = c .before .before .before .before .before .args in
+    let e = c .before .before .plus-one .ensures ∙ ap (λ o. o .column) (read-is (a .i)) in
+    omega (arith, column-most (a .i))
 
 add-t20 : tie.Need-add-t20
 add-t20 c =
     let a = c .before .before .before .before .before .args in
-    let e = c .before .before .plus-one .ensures ∙ ap (λ o. o .column) (read-is (a .i)) in
-    omega (arith, mod-le (a .x) (a .w), column-most (a .i))
-
-div-t21 : tie.Need-div-t21
-div-t21 c = search needs
-
-add-t22 : tie.Need-add-t22
-add-t22 c =
-    let a = c .before .before .before .before .before .args in
     let e = c .plus-one2 .ensures ∙ ap (λ o. o .row) (read-is (a .i)) in
-    omega (arith, div-le-self (a .x) (a .w), row-most (a .i))
+    omega (arith, row-most (a .i))
 
 returns : tie.Need-returns
 returns c =
     let a = c .before .before .before .before .before .args in
     record {
-      column = ap (λ n. a .x % a .w + n) (c .before .before .plus-one .ensures ∙ ap (λ o. o .column) (read-is (a .i)));
-      row = ap (λ n. a .x / a .w + n) (c .plus-one2 .ensures ∙ ap (λ o. o .row) (read-is (a .i)));
+      column = ap (λ n. a .column + n) (c .before .before .plus-one .ensures ∙ ap (λ o. o .column) (read-is (a .i)));
+      row = ap (λ n. a .row + n) (c .plus-one2 .ensures ∙ ap (λ o. o .row) (read-is (a .i)));
     }
 
 pub target-of-spec : {M : Type 1} → statement M
@@ -74,8 +67,6 @@ target-of-spec =
     array-copy-out-step
     plus-one-requires
     plus-one-requires-2
-    rem-t16
+    add-t16
     add-t20
-    div-t21
-    add-t22
     returns)
