@@ -3,3 +3,4 @@ pub mod Files
 pub mod Shell
 pub mod Lent
 pub mod Demands
+pub mod Answers

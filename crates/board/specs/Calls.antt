@@ -24,7 +24,7 @@ over xs ys = xs ++ drop (length xs) ys
 abbrev pub afterCall : ℕ → List ℕ → List ℕ → List ℕ
 afterCall f new old = pick (eqb f 0) new old
 
--- work is zero over its named length after success, as before a refusal
+-- work is zero over its named length after success, and as it was after a refusal
 abbrev pub workAfter : ℕ → Picture → List ℕ → List ℕ
 workAfter f p q = afterCall f (over (replicate (5 * places p) 0) q) q
 

@@ -8,7 +8,7 @@ use Rattle.picture.specs.Faults.{firstOf, when, faultOf}
 unfoldable pub workFault : ℕ → ℕ → ℕ → ℕ → ℕ → ℕ
 workFault a w h l work = firstOf (faultOf a w h l) (when (ltb work (5 * (w * h))) 9)
 
--- the same with output of fewer than n entries
+-- the same with output or lent lists of fewer than n entries
 unfoldable pub outputFault : ℕ → ℕ → ℕ → ℕ → ℕ → ℕ → ℕ
 outputFault a w h l out work = firstOf (faultOf a w h l) (when (ltb out (w * h) || ltb work (5 * (w * h))) 9)
 

@@ -3,3 +3,4 @@ pub mod Reads
 pub mod Faults
 pub mod Calls
 pub mod Trees
+pub mod Answers

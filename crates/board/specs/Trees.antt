@@ -13,7 +13,7 @@ use Rattle.board.specs.declared.Answer.{Answer}
 use Rattle.board.specs.Faults.{outputFault}
 use Rattle.board.specs.Calls.{over, afterCall, workAfter, Answered}
 
--- a list begins with the entries of another
+-- the first list is a prefix of the second
 abbrev pub begins : List ℕ → List ℕ → Bool
 begins [] ys = true
 begins (x ∷ xs) [] = false
@@ -53,7 +53,7 @@ pub record TreeSays (p : Picture) (hs hs′ fs fs′ ss ss′ m m′ q q′ : Li
   pub map : m′ ≡ afterCall (treeFaultOf p hs fs ss m q) (over (treeOf p .map) m) m
   pub work : q′ ≡ workAfter (treeFaultOf p hs fs ss m q) p q
 
--- no refusal exactly for the picture's tree
+-- past the earlier refusals, 11 exactly if the lent tree is not the picture's
 pub record CheckSays (p : Picture) (count : ℕ) (hs fs ss m q q′ : List ℕ) (r : Answer) : Type 0 where
   pub answer : Answered (checkedFault (treeFaultOf p hs fs ss m q) p count hs fs ss m) 0 r
   pub work : q′ ≡ workAfter (checkedFault (treeFaultOf p hs fs ss m q) p count hs fs ss m) p q

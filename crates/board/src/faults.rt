@@ -21,7 +21,7 @@ pub fn work_fault(a: u32, w: u32, h: u32, length: usize, work: usize) -> u8
     0
 }
 
-// The same with the least length of the lent outputs.
+// The same with the least length of the lent outputs or lists.
 pub fn output_fault(a: u32, w: u32, h: u32, length: usize, out: usize, work: usize) -> u8
     ensures { λ r. ⌜ r ≡ outputFault a w h length out work ⌝ }
 {

@@ -1,4 +1,5 @@
-// The public calls. Each has one function decide its refusal from numbers and lengths, lends exact parts to one core, and finishes.
+// The public calls; a is the adjacency. Each has its refusal decided first, from numbers and lengths and for a lent tree from its entries,
+// then one core do the work, and finishes by clearing work.
 use faults::least;
 use faults::output_fault;
 use faults::place_fault;
@@ -56,7 +57,7 @@ pub fn file_pixels<'a>(file: &'a [u8]) -> &'a [u8]
     }
 }
 
-// The number of a refusal, or 0 with the number of labels, nodes or patches, the pass, or 1 for yes.
+// The number of a refusal, or 0 with the number of components or nodes, the pass, 1 for yes, or 0 where nothing is counted.
 pub struct Answer {
     pub number: u8,
     pub value: u32,
@@ -134,8 +135,8 @@ pub fn component_tree(
 ) -> Answer
     ensures { λ r. ⌜ TreeSays (picture a w h (now (pixels .entry))) (now (heights .entry)) (now (heights .exit)) (now (fathers .entry)) (now (fathers .exit)) (now (firsts .entry)) (now (firsts .exit)) (now (map .entry)) (now (map .exit)) (now (work .entry)) (now (work .exit)) r ⌝ }
 {
-    let lists = least(heights.len(), fathers.len(), firsts.len(), map.len());
-    let fault = output_fault(a, w, h, pixels.len(), lists, work.len());
+    let shortest = least(heights.len(), fathers.len(), firsts.len(), map.len());
+    let fault = output_fault(a, w, h, pixels.len(), shortest, work.len());
     if fault != 0 {
         return refused(fault);
     }
@@ -143,7 +144,7 @@ pub fn component_tree(
     finish(work, pixels.len(), count as u32)
 }
 
-// Whether a lent tree of count nodes is that of the picture: 11 if it is not.
+// Refuses with 11 a lent tree of count nodes that is not the picture's; answers number and value 0 for the picture's.
 pub fn check_tree(
     a: u32,
     w: u32,
@@ -158,10 +159,10 @@ pub fn check_tree(
 ) -> Answer
     ensures { λ r. ⌜ CheckSays (picture a w h (now (pixels .entry))) count (now (heights .entry)) (now (fathers .entry)) (now (firsts .entry)) (now (map .entry)) (now (work .entry)) (now (work .exit)) r ⌝ }
 {
-    let lists = least(heights.len(), fathers.len(), firsts.len(), map.len());
-    let lengths = output_fault(a, w, h, pixels.len(), lists, work.len());
+    let shortest = least(heights.len(), fathers.len(), firsts.len(), map.len());
+    let length_fault = output_fault(a, w, h, pixels.len(), shortest, work.len());
     let fault = tree_fault(
-        lengths,
+        length_fault,
         a,
         w,
         h,
@@ -195,11 +196,11 @@ pub fn pass_between(
 ) -> Answer
     ensures { λ r. ⌜ PassSays (picture a w h (now (pixels .entry))) count (now (heights .entry)) (now (fathers .entry)) (now (firsts .entry)) (now (map .entry)) x y (now (work .entry)) (now (work .exit)) r ⌝ }
 {
-    let lists = least(heights.len(), fathers.len(), firsts.len(), map.len());
-    let lengths = output_fault(a, w, h, pixels.len(), lists, work.len());
-    let places = places_fault(lengths, pixels.len(), x, y);
+    let shortest = least(heights.len(), fathers.len(), firsts.len(), map.len());
+    let length_fault = output_fault(a, w, h, pixels.len(), shortest, work.len());
+    let early_fault = places_fault(length_fault, pixels.len(), x, y);
     let fault = tree_fault(
-        places,
+        early_fault,
         a,
         w,
         h,

@@ -1,4 +1,4 @@
--- The component tree.
+-- The component tree of the lower sections (min-tree), without its vertices of one child (document 003, definition 7).
 use mathlib.Core.Bool.{Bool, true, false, _&&_, not}
 use mathlib.Core.List.{List, [], _∷_, _++_, map}
 use Prim.Native.Nat.{ℕ, zero, suc, _-_}
@@ -73,7 +73,7 @@ downFrom (suc k) p c =
     elim (isBranch p (suc k) c)
     [ true ↦ downFrom k p (getD (below p (suc k) c) 0 []) | false ↦ numberOf p (suc k) c ]
 
--- the map (standard term: component mapping): the number of a pixel's node, down from its component of its own value
+-- the map (standard term: component mapping): the number of the node that a pixel's component of its own value goes down to; that node need not hold the pixel
 unfoldable pub mapOf : Picture → ℕ → ℕ
 mapOf p x = downFrom (valueAt p x) p (componentAt p (valueAt p x) x)
 

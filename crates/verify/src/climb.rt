@@ -1,4 +1,4 @@
-// The pass between two places, by the nearest common ancestor of their nodes in a lent tree.
+// The pass between two places: the largest of both values and the height of their nodes' nearest common ancestor in a lent tree.
 use tree::absorb::height;
 use tree::union_find::wide;
 ghost use mathlib.Core.Path.{_≡_};

@@ -1,0 +1,168 @@
+-- Demand 3 in what the tree call and the pass call answer for a picture and for its watershed.
+use mathlib.Core.Path.{_≡_, refl, sym, ap, ap₂, subst, _∙_}
+use mathlib.Core.Bool.{Bool, true, false}
+use mathlib.Core.Logic.{_⊎_, ⊎-elim}
+use mathlib.Core.List.{List, _++_, map, List·Memᴰ}
+use Prim.Native.Nat.{ℕ, _+_, _≤_, _<_}
+use native.Mathlib.Omega.{arith}
+use lib.ListN.{length, getD, drop, length-map, List·getD-append}
+use lib.Seq.{ext-getD}
+use borrow.Author.Tests.{eq-eqb}
+use Rattle.picture.specs.Lists.{pick, tally, range}
+use Rattle.picture.specs.Pictures.{Picture, places, allBytes, isPicture}
+use Rattle.picture.specs.Components.{pass}
+use Rattle.picture.specs.Trees.{Node, nodes, nodeAt, fatherOf, treeOf}
+use Rattle.picture.specs.Patches.{patchAt}
+use Rattle.picture.specs.Kept.{partners, Kept}
+use Rattle.topology.proofs.Lists.{tally-map, tally-same, length-range, range-mem, getD-map-range}
+use Rattle.topology.proofs.Nodes.{node-is}
+use Rattle.topology.proofs.Fathers.{father-found}
+use Rattle.topology.proofs.TreeLists.{length-heights, length-fathers, length-firsts, heights-at, fathers-at, firsts-at}
+use Rattle.board.specs.declared.Answer.{Answer}
+use Rattle.board.specs.Calls.{over, afterCall}
+use Rattle.board.specs.Trees.{treeFaultOf, placesFaultOf, checkedFault, TreeSays, PassSays}
+use Rattle.board.specs.Answers.{answeredNode, TreesKept}
+use Rattle.board.proofs.Lent.{no-places-fault, no-checked-fault}
+
+-- a list by its indices
+by-index : {A : Type 0} (d : A) (l : List A) → map (λ i. getD l i d) (range 0 (length l)) ≡ l
+by-index d l =
+    let n = length-map (range 0 (length l)) (λ i. getD l i d) ∙ length-range 0 (length l) in
+    ext-getD d (map (λ i. getD l i d) (range 0 (length l))) l n
+    (λ i h.
+    getD-map-range (λ i. getD l i d) d 0 (length l) i (omega arith) ∙ ap (λ (j : ℕ). getD l j d) {y = i} (omega arith))
+
+-- an entry of a list that a call without a fault left in front of another
+in-front : (f : ℕ) (xs old new : List ℕ) → f ≡ 0 → new ≡ afterCall f (over xs old) old → (i : ℕ) → i < length xs → getD new i 0 ≡ getD xs i 0
+in-front f xs old new z e i h =
+    ap (λ (l : List ℕ). getD l i 0) (e ∙ ap (λ (t : Bool). pick t (over xs old) old) (eq-eqb f 0 z)) ∙
+    List·getD-append xs (drop (length xs) old) 0 i h
+
+-- what an unrefused tree call answers, node by node
+module _ (p : Picture) (hs hs′ fs fs′ ss ss′ m m′ q q′ : List ℕ) (r : Answer) (says : TreeSays p hs hs′ fs fs′ ss ss′ m m′ q q′ r) (unrefused : r .number ≡ 0) where
+  fine : treeFaultOf p hs fs ss m q ≡ 0
+  fine = sym (says .answer .number) ∙ unrefused
+
+  pub answered-count : r .value ≡ length (nodes p)
+  answered-count = says .answer .value ∙ ap (λ (t : Bool). pick t (length (nodes p)) 0) (eq-eqb (treeFaultOf p hs fs ss m q) 0 fine)
+
+  pub answered-node : (i : ℕ) → i < length (nodes p) → answeredNode hs′ ss′ i ≡ nodeAt p i
+  answered-node i h =
+      let f = treeFaultOf p hs fs ss m q in
+      ap₂ (λ (a b : ℕ). record { height = a; first = b })
+      (in-front f (treeOf p .heights) hs hs′ fine (says .heights) i (omega (arith, length-heights p, h)) ∙ heights-at p i h)
+      (in-front f (treeOf p .firsts) ss ss′ fine (says .firsts) i (omega (arith, length-firsts p, h)) ∙ firsts-at p i h)
+
+  pub answered-father : (i : ℕ) → i < length (nodes p) → getD fs′ i 0 ≡ fatherOf p (nodeAt p i)
+  answered-father i h =
+      in-front (treeFaultOf p hs fs ss m q) (treeOf p .fathers) fs fs′ fine (says .fathers) i (omega (arith, length-fathers p, h)) ∙ fathers-at p i h
+
+-- answered lists that hold the nodes and the fathers of a picture's tree
+pub record AnsweredTree (p : Picture) (n : ℕ) (hs fs ss : List ℕ) : Type 0 where
+  pub count : n ≡ length (nodes p)
+  pub node : (i : ℕ) → i < length (nodes p) → answeredNode hs ss i ≡ nodeAt p i
+  pub father : (i : ℕ) → i < length (nodes p) → getD fs i 0 ≡ fatherOf p (nodeAt p i)
+
+-- a father that is not 65535 is a node
+father-in : (p : Picture) (i : ℕ) → i < length (nodes p) → fatherOf p (nodeAt p i) < 65535 → fatherOf p (nodeAt p i) < length (nodes p)
+father-in p i h l =
+    ⊎-elim (λ b. b) (λ e. absurd (let g = e .0 in omega arith)) (father-found p (nodeAt p i) (node-is p i h))
+
+module _ (f a : Picture) (n : ℕ) (hs fs ss : List ℕ) (l : ℕ) (gs es ts : List ℕ) (F : AnsweredTree f n hs fs ss) (A : AnsweredTree a l gs es ts) (kept : Kept f a) where
+  left : (i : ℕ) → i < n → i < length (nodes f)
+  left i h = subst (λ (k : ℕ). i < k) (F .count) h
+
+  right : (j : ℕ) → j < l → j < length (nodes a)
+  right j h = subst (λ (k : ℕ). j < k) (A .count) h
+
+  both : (i j : ℕ) → i < length (nodes f) → j < length (nodes a) → partners f a (answeredNode hs ss i) (answeredNode gs ts j) ≡ partners f a (nodeAt f i) (nodeAt a j)
+  both i j bi bj = ap₂ (partners f a) (F .node i bi) (A .node j bj)
+
+  pub trees-kept : TreesKept f a n hs fs ss l gs es ts
+  trees-kept =
+      record {
+        one-partner =
+            λ i h.
+            let b = left i h in
+            ap (λ (k : ℕ). tally (λ j. partners f a (answeredNode hs ss i) (answeredNode gs ts j)) (range 0 k)) (A .count) ∙
+            (tally-same (λ j. partners f a (answeredNode hs ss i) (answeredNode gs ts j)) (λ j. partners f a (nodeAt f i) (nodeAt a j))
+            (range 0 (length (nodes a)))
+            (λ j m. both i j b (let c = range-mem 0 (length (nodes a)) m in omega (arith, c .1))) ∙
+            (sym (tally-map (partners f a (nodeAt f i)) (nodeAt a) (range 0 (length (nodes a)))) ∙
+            (ap (tally (partners f a (nodeAt f i))) (by-index (record { height = 0; first = 0 }) (nodes a)) ∙ kept .one-partner i b)));
+        of-each =
+            λ j h.
+            let b = right j h in
+            ap (λ (k : ℕ). tally (λ i. partners f a (answeredNode hs ss i) (answeredNode gs ts j)) (range 0 k)) (F .count) ∙
+            (tally-same (λ i. partners f a (answeredNode hs ss i) (answeredNode gs ts j)) (λ i. partners f a (nodeAt f i) (nodeAt a j))
+            (range 0 (length (nodes f)))
+            (λ i m. both i j (let c = range-mem 0 (length (nodes f)) m in omega (arith, c .1)) b) ∙
+            (sym (tally-map (λ n. partners f a n (nodeAt a j)) (nodeAt f) (range 0 (length (nodes f)))) ∙
+            (ap (tally (λ n. partners f a n (nodeAt a j))) (by-index (record { height = 0; first = 0 }) (nodes f)) ∙ kept .of-each j b)));
+        fathers =
+            λ i j hi hj e s.
+            let bi = left i hi in
+            let bj = right j hj in
+            let ei = F .father i bi in
+            let ej = A .father j bj in
+            let si : fatherOf f (nodeAt f i) < 65535 = omega (arith, s, ei) in
+            let (sj, t) = kept .fathers i j bi bj (sym (both i j bi bj) ∙ e) si in (
+              omega (arith, sj, ej),
+              ap₂ (λ (u v : ℕ). partners f a (answeredNode hs ss u) (answeredNode gs ts v)) ei ej ∙
+                  (both (fatherOf f (nodeAt f i)) (fatherOf a (nodeAt a j)) (father-in f i bi si) (father-in a j bj sj) ∙ t),
+            );
+        root-partners =
+            λ i j hi hj ri rj.
+            let bi = left i hi in
+            let bj = right j hj in
+            both i j bi bj ∙ kept .root-partners i j bi bj (sym (F .father i bi) ∙ ri) (sym (A .father j bj) ∙ rj);
+        roots =
+            λ i j hi hj e r.
+            let bi = left i hi in
+            let bj = right j hj in
+            A .father j bj ∙ kept .roots i j bi bj (sym (both i j bi bj) ∙ e) (sym (F .father i bi) ∙ r);
+      }
+
+-- the trees that two unrefused calls answer, for a picture and for one that keeps it
+pub demand-3-of-trees :
+    (f a : Picture) → Kept f a →
+    (hs hs′ fs fs′ ss ss′ m m′ q q′ : List ℕ) (r : Answer) → TreeSays f hs hs′ fs fs′ ss ss′ m m′ q q′ r → r .number ≡ 0 →
+    (gs gs′ es es′ ts ts′ k k′ w w′ : List ℕ) (s : Answer) → TreeSays a gs gs′ es es′ ts ts′ k k′ w w′ s → s .number ≡ 0 →
+    TreesKept f a (r .value) hs′ fs′ ss′ (s .value) gs′ es′ ts′
+demand-3-of-trees f a kept hs hs′ fs fs′ ss ss′ m m′ q q′ r says z gs gs′ es es′ ts ts′ k k′ w w′ s tells y =
+    trees-kept f a (r .value) hs′ fs′ ss′ (s .value) gs′ es′ ts′
+    (record {
+      count = answered-count f hs hs′ fs fs′ ss ss′ m m′ q q′ r says z;
+      node = answered-node f hs hs′ fs fs′ ss ss′ m m′ q q′ r says z;
+      father = answered-father f hs hs′ fs fs′ ss ss′ m m′ q q′ r says z;
+    })
+    (record {
+      count = answered-count a gs gs′ es es′ ts ts′ k k′ w w′ s tells y;
+      node = answered-node a gs gs′ es es′ ts ts′ k k′ w w′ s tells y;
+      father = answered-father a gs gs′ es es′ ts ts′ k k′ w w′ s tells y;
+    })
+    kept
+
+-- what an unrefused call of the pass answers
+answered-pass :
+    (p : Picture) (count : ℕ) (hs fs ss m : List ℕ) (x y : ℕ) (q q′ : List ℕ) (r : Answer) → PassSays p count hs fs ss m x y q q′ r → r .number ≡ 0 →
+    (r .value ≡ pass p x y) × (x < places p) × (y < places p)
+answered-pass p count hs fs ss m x y q q′ r says z =
+    let fine = sym (says .answer .number) ∙ z in
+    let f = placesFaultOf p hs fs ss m q x y in
+    let b = no-places-fault p hs fs ss m q x y (no-checked-fault p count hs fs ss m f fine .0) in (
+      says .answer .value ∙ ap (λ (t : Bool). pick t (pass p x y) 0) (eq-eqb (checkedFault f p count hs fs ss m) 0 fine),
+      b .1,
+      b .2,
+    )
+
+-- the passes that two unrefused calls answer between pixels of minima, for a picture and for one that keeps it
+pub demand-3-of-passes :
+    (f a : Picture) → Kept f a → (x y : ℕ) → 1 ≤ patchAt f x → 1 ≤ patchAt f y →
+    (n : ℕ) (hs fs ss m q q′ : List ℕ) (r : Answer) → PassSays f n hs fs ss m x y q q′ r → r .number ≡ 0 →
+    (l : ℕ) (gs es ts k w w′ : List ℕ) (s : Answer) → PassSays a l gs es ts k x y w w′ s → s .number ≡ 0 →
+    r .value ≡ s .value
+demand-3-of-passes f a kept x y px py n hs fs ss m q q′ r says z l gs es ts k w w′ s tells u =
+    let b = answered-pass f n hs fs ss m x y q q′ r says z in
+    let c = answered-pass a l gs es ts k x y w w′ s tells u in
+    b .0 ∙ (kept .passes x y (b .1) (b .2) px py ∙ sym (c .0))
