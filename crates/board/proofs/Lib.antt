@@ -2,3 +2,4 @@
 pub mod Files
 pub mod Shell
 pub mod Demands
+pub mod PatchLists

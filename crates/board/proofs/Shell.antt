@@ -28,15 +28,15 @@ use Rattle.board.specs.declared.Queried.{Queried}
 use Rattle.board.specs.Calls.{over, afterCall, workAfter, Answered, Refused, Accepted, placeFaultOf, groundOf, QueryIs, cleared, Admits, QuerySays}
 
 -- the first of two numbers
-first-some : (f g r : ℕ) → r ≡ f → r ≢ 0 → r ≡ firstOf f g
+pub first-some : (f g r : ℕ) → r ≡ f → r ≢ 0 → r ≡ firstOf f g
 first-some zero g r e d = absurd (d e)
 first-some (suc f) g r e d = e
 
-first-none : (f g : ℕ) → f ≡ 0 → firstOf f g ≡ g
+pub first-none : (f g : ℕ) → f ≡ 0 → firstOf f g ≡ g
 first-none zero g e = refl
 first-none (suc f) g e = absurd (omega arith)
 
-first-zero : (f g : ℕ) → firstOf f g ≡ 0 → (f ≡ 0) × (g ≡ 0)
+pub first-zero : (f g : ℕ) → firstOf f g ≡ 0 → (f ≡ 0) × (g ≡ 0)
 first-zero zero g e = (refl, e)
 first-zero (suc f) g e = absurd (omega arith)
 
@@ -46,14 +46,14 @@ first-three zero g i = refl
 first-three (suc f) g i = refl
 
 -- one number for either of two causes
-first-either : (f n : ℕ) (a b : Bool) → firstOf (firstOf f (when b (suc n))) (when a (suc n)) ≡ firstOf f (when (a || b) (suc n))
+pub first-either : (f n : ℕ) (a b : Bool) → firstOf (firstOf f (when b (suc n))) (when a (suc n)) ≡ firstOf f (when (a || b) (suc n))
 first-either zero n true true = refl
 first-either zero n true false = refl
 first-either zero n false true = refl
 first-either zero n false false = refl
 first-either (suc f) n a b = refl
 
-when-zero : (n : ℕ) (b : Bool) → when b (suc n) ≡ 0 → b ≡ false
+pub when-zero : (n : ℕ) (b : Bool) → when b (suc n) ≡ 0 → b ≡ false
 when-zero n true e = absurd (omega arith)
 when-zero n false e = refl
 

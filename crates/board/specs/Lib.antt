@@ -2,3 +2,4 @@
 pub mod Reads
 pub mod Faults
 pub mod Calls
+pub mod PatchLists

@@ -8,6 +8,7 @@ use picture::clearing::clear;
 use watershed::whole::watershed_core;
 
 pub mod faults;
+mod listing;
 mod reading;
 
 ghost use mathlib.Core.Path.{_≡_};
