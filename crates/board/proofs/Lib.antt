@@ -1,5 +1,6 @@
 -- Laws of what the public calls promise.
 pub mod Files
 pub mod Shell
+pub mod Lending
 pub mod Demands
 pub mod PatchLists
