@@ -3,33 +3,31 @@ use mathlib.Core.Path.{_≡_, refl, sym, ap, ap₂, subst, _∙_}
 use mathlib.Core.Bool.{Bool, true, false}
 use mathlib.Core.Logic.{_≢_, by-cases}
 use mathlib.Core.List.{List, [], _∷_, _++_, map}
-use Prim.Native.Nat.{ℕ, zero, suc, _+_, _*_, _≤_, _<_}
+use Prim.Native.Nat.{ℕ, suc, _+_, _*_, _≤_, _<_}
 use native.Mathlib.Decide.{decLt}
 use native.Mathlib.Omega.{arith}
 use lib.Dec.{eqb, ltb, leb}
 use lib.ListN.{length, getD, take, drop, replicate, length-replicate, length-map, List·getD-append, List·getD-map, List·getD-eq-default}
 use lib.Seq.{length-front, ext-getD}
 use borrow.Author.Tests.{lt-ltb, le-ltb, ltb-false, ne-eqb}
-use Rattle.picture.specs.Lists.{pick, range, tally, highest}
-use Rattle.picture.specs.Pictures.{Picture, places, valueAt, isPicture}
+use Rattle.picture.specs.Lists.{pick, range, highest}
+use Rattle.picture.specs.Pictures.{Picture, places, isPicture}
 use Rattle.picture.specs.Faults.{firstOf, when, pictureFault}
 use Rattle.picture.specs.Trees.{Node, nodes, nodeAt, fatherOf, mapOf}
-use Rattle.picture.specs.Patches.{Patch, patches, depthOf}
+use Rattle.picture.specs.Patches.{patches, depthOf}
 use Rattle.picture.proofs.Sides.{area-most}
-use Rattle.topology.proofs.Tests.{on-pick, on-test}
+use Rattle.topology.proofs.Tests.{on-pick}
 use Rattle.topology.proofs.Lists.{length-range, getD-map-range}
 use Rattle.topology.proofs.Accepted.{Accepted, accepted-is, byte-at}
 use Rattle.topology.proofs.Nodes.{node-is}
-use Rattle.topology.proofs.Leaves.{bottom}
 use Rattle.topology.proofs.PatchSums.{patch-begins, count-few, patch-height, patch-depth}
-use Rattle.tree.specs.Arrays.{row}
 use Rattle.patches.specs.Figures.{noPatch, Figures}
 use Rattle.patch_records.specs.declared.Patch.{Patch as PatchRecord}
 use Rattle.patch_records.specs.Records.{Entry, Entries, recordAt, records}
 use Rattle.board.specs.declared.Answer.{Answer}
 use Rattle.board.specs.Faults.{workFault}
-use Rattle.board.specs.Calls.{afterCall, workAfter, cleared, Answered, Refused, Accepted as Accepting}
-use Rattle.board.specs.PatchLists.{listFault, recordOf, listAfter, PatchesSay, Figured, Gathered}
+use Rattle.board.specs.Calls.{afterCall, workAfter, cleared, Refused, Accepted as Accepting}
+use Rattle.board.specs.PatchLists.{listFault, recordOf, PatchesSay, Figured, Gathered}
 use Rattle.board.proofs.Shell.{first-some, first-none, first-zero, first-either, when-zero, workFaultOf, refused-answer, refused-left, accepted-answer, cleared-left, lent-length, behind-lent}
 
 -- the fault, after that of the picture and of work

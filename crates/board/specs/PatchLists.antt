@@ -34,7 +34,7 @@ recordOf x =
 abbrev pub listAfter : ℕ → Picture → List PatchRecord → List PatchRecord
 listAfter f p o = pick (eqb f 0) (map recordOf (patches p) ++ drop (length (patches p)) o) o
 
--- the records of the patches and their number; on a refusal the number is 0
+-- the records of the patches and how many there are; a refusal answers 0 of them and leaves the list and work as they were
 pub record PatchesSay (p : Picture) (o o′ : List PatchRecord) (q q′ : List ℕ) (r : Answer) : Type 0 where
   pub answer : Answered (listFault p (length o) (length q)) (length (patches p)) r
   pub output : o′ ≡ listAfter (listFault p (length o) (length q)) p o

@@ -5,7 +5,6 @@ use native.Mathlib.Omega.{arith}
 use lib.ListN.{length}
 use Rattle.picture.specs.Pictures.{Picture}
 use Rattle.labels.specs.Labels.{picture}
-use Rattle.patches.specs.Numbers.{Sizes}
 use Rattle.board.proofs.Shell.{lent-length}
 use Rattle.board.proofs.PatchLists.{pixels-few, cells-lent, pixels-places, figured}
 use borrow.Author.Needs.{needs}

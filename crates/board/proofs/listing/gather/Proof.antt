@@ -1,6 +1,5 @@
 -- `board::listing::gather` meets its contract: a refusal leaves work as it was, and else the figures are in it.
 use mathlib.Core.Path.{_≡_, sym, _∙_}
-use Prim.Native.Nat.{ℕ}
 use native.Mathlib.Omega.{arith}
 use lib.ListN.{length}
 use Rattle.picture.specs.Pictures.{Picture}

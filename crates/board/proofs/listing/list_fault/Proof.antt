@@ -1,9 +1,8 @@
 -- `board::listing::list_fault` meets its contract: each return is one law of the fault.
 use mathlib.Core.Path.{_≡_, sym, subst, _∙_}
-use mathlib.Core.Bool.{true}
 use Prim.Native.Nat.{ℕ, _≤_, _<_}
 use native.Mathlib.Omega.{arith}
-use Rattle.picture.specs.Pictures.{Picture, isPicture}
+use Rattle.picture.specs.Pictures.{Picture}
 use Rattle.labels.specs.Labels.{picture}
 use Rattle.board.proofs.Shell.{workFaultOf, admitted}
 use Rattle.board.proofs.PatchLists.{list-first, list-short, list-none}
