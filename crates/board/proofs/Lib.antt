@@ -4,3 +4,6 @@ pub mod Shell
 pub mod Lent
 pub mod Demands
 pub mod Answers
+pub mod Lending
+pub mod Demands
+pub mod PatchLists

@@ -4,3 +4,4 @@ pub mod Faults
 pub mod Calls
 pub mod Trees
 pub mod Answers
+pub mod PatchLists

@@ -6,6 +6,10 @@ use faults::place_fault;
 use faults::places_fault;
 use labels::lowerable::lowerable;
 use labels::scan::label;
+use listing::clear_accepted;
+use listing::gather;
+use patch_records::Patch;
+use patch_records::write_records;
 use patches::cores::query;
 use picture::clearing::clear;
 use tree::lists::tree_lists;
@@ -14,6 +18,7 @@ use verify::climb::pass;
 use watershed::whole::watershed_core;
 
 pub mod faults;
+mod listing;
 mod reading;
 mod trees;
 
@@ -26,6 +31,7 @@ ghost use Rattle.board.specs.Reads.{ReadSays, PixelsSay};
 ghost use Rattle.board.specs.Calls.{Refused, Accepted, Finished, LabelsSay, LowerSays, WaterSays, cleared, groundOf, Admits, QueryIs, QuerySays};
 ghost use Rattle.board.specs.Trees.{TreeSays, CheckSays, PassSays};
 ghost use Rattle.picture.specs.Patches.{patchAt};
+ghost use Rattle.board.specs.PatchLists.{PatchesSay};
 
 // The number of a refusal, or 0, with the refusal's place; of an accepted file the sides, the largest sample and the offset of the pixels.
 pub struct Read {
@@ -316,4 +322,21 @@ pub fn query_place(a: u32, w: u32, h: u32, pixels: &[u8], place: u32, work: &mut
     }
     let number = query_cleared(a, w, h, pixels, place as usize, work);
     answer_query(0, pixels[place as usize], number)
+}
+
+// The patches of a picture in their order, a record each in the lent list; answers how many there are.
+pub fn list_patches(
+    a: u32,
+    w: u32,
+    h: u32,
+    pixels: &[u8],
+    out: &mut [Patch],
+    work: &mut [u16],
+) -> Answer
+    ensures { λ r. ⌜ PatchesSay (picture a w h (now (pixels .entry))) (now (out .entry)) (now (out .exit)) (now (work .entry)) (now (work .exit)) r ⌝ }
+{
+    let answer = gather(a, w, h, pixels, out.len(), work);
+    write_records(out, work, pixels.len(), answer.value as usize);
+    clear_accepted(work, pixels.len(), answer.number);
+    answer
 }

@@ -1,0 +1,75 @@
+// The list of patches before and after its records are written: the refusal, the figures in work, the clearing.
+use crate::Answer;
+use crate::accepted;
+use crate::faults::work_fault;
+use crate::refused;
+use patches::cores::patch_figures;
+use patches::minima::count_minima;
+use picture::clearing::clear;
+ghost use mathlib.Core.Path.{_≡_};
+ghost use mathlib.Core.Bool.{true};
+ghost use Prim.Native.Nat.{_*_, _≤_};
+ghost use lib.ListN.{length};
+ghost use Rattle.picture.specs.Pictures.{isPicture};
+ghost use Rattle.picture.specs.Patches.{patches};
+ghost use Rattle.labels.specs.Labels.{picture};
+ghost use Rattle.board.specs.Calls.{afterCall, cleared};
+ghost use Rattle.board.specs.PatchLists.{listFault, Figured, Gathered};
+
+// The number of patches of a picture.
+fn count_patches(a: u32, w: u32, h: u32, pixels: &[u8]) -> usize
+    requires { ⌜ isPicture (picture a w h (now pixels)) ≡ true ⌝ }
+    ensures { λ r. ⌜ r ≡ length (patches (picture a w h (now (pixels .entry)))) ⌝ }
+{
+    let n = pixels.len();
+    let mut cells = [0u16; 1600];
+    count_minima(a, w, h, pixels, &mut cells[..n])
+}
+
+// The fault of the call, from the picture and the two lengths; 0 for none. Nothing lent is written.
+fn list_fault(a: u32, w: u32, h: u32, pixels: &[u8], room: usize, work: usize) -> u8
+    ensures { λ r. ⌜ r ≡ listFault (picture a w h (now (pixels .entry))) room work ⌝ }
+{
+    let fault = work_fault(a, w, h, pixels.len(), work);
+    if fault != 0 {
+        return fault;
+    }
+    if room < count_patches(a, w, h, pixels) {
+        return 9;
+    }
+    0
+}
+
+// Leaves the figures of the patches in the first 5 n entries of work, and answers how many patches there are.
+fn fill_figures(a: u32, w: u32, h: u32, pixels: &[u8], work: &mut [u16]) -> usize
+    requires { ⌜ (isPicture (picture a w h (now pixels)) ≡ true) × (5 * length (now pixels) ≤ length (now work)) ⌝ }
+    ensures { λ r. ⌜ Figured (picture a w h (now (pixels .entry))) (now (work .entry)) (now (work .exit)) r ⌝ }
+{
+    let n = pixels.len();
+    let whole = 5 * n;
+    let mut cells = [0u16; 1600];
+    patch_figures(a, w, h, pixels, &mut work[..whole], &mut cells[..n])
+}
+
+// The answer of the call. Without a refusal it leaves the figures of the patches in work.
+pub fn gather(a: u32, w: u32, h: u32, pixels: &[u8], room: usize, work: &mut [u16]) -> Answer
+    ensures { λ r. ⌜ Gathered (picture a w h (now (pixels .entry))) room (now (work .entry)) (now (work .exit)) r ⌝ }
+{
+    let fault = list_fault(a, w, h, pixels, room, work.len());
+    if fault != 0 {
+        return refused(fault);
+    }
+    let count = fill_figures(a, w, h, pixels, work);
+    accepted(count as u32)
+}
+
+// Clears the first 5 n entries of work if the number is 0, as no refusal.
+pub fn clear_accepted(work: &mut [u16], n: usize, number: u8)
+    requires { ⌜ (number ≡ 0 → (n ≤ 1600) × (5 * n ≤ length (now work))) ⌝ }
+    ensures { λ _. ⌜ now (work .exit) ≡ afterCall number (cleared n (now (work .entry))) (now (work .entry)) ⌝ }
+{
+    if number != 0 {
+        return;
+    }
+    clear(work, 5 * n);
+}

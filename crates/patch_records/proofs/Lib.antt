@@ -1,0 +1,2 @@
+-- Laws of the list of records that the proofs of the functions cite.
+pub mod Written

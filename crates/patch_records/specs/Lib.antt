@@ -1,0 +1,2 @@
+-- What the functions on records of patches promise.
+pub mod Records
