@@ -1,7 +1,8 @@
 -- How long the lines of the hold list can be.
 use mathlib.Core.Path.{_≡_, ap, sym, subst, _∙_}
 use mathlib.Core.List.{List, [], _∷_, _++_, append-nil, append-assoc}
-use Prim.Native.Nat.{ℕ, zero, suc, _+_, _≤_, _<_}
+use Prim.Native.Nat.{ℕ, zero, suc, _+_, _*_, _≤_, _<_}
+use native.Mathlib.Nat.{div-le-self, lt-of-le-of-lt}
 use native.Mathlib.Omega.{arith}
 use native.Mathlib.Numerals.{add-one}
 use lib.ListN.{length, length-append}
@@ -50,6 +51,10 @@ line-length a b c d e g ha hb hc hd he hg =
     let t = next-length e g [] in
     let u = last-length g in
     omega arith
+
+-- a centre has at most six digits
+pub centre-most : (c s : ℕ) → c ≤ 65535 → centre c s < 1000000
+centre-most c s h = let b : 10 * c < 1000000 = omega arith in lt-of-le-of-lt (div-le-self (10 * c) s) b
 
 -- the numbers of a line, each equal to the figure it stands for
 pub line-is :

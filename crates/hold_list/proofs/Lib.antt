@@ -1,1 +1,3 @@
 pub mod Lengths
+pub mod Figured
+pub mod Texts
