@@ -55,7 +55,7 @@ pub fn put_lines(
 }
 
 // Writes a word, then numbers as a line, and answers the place behind them.
-fn put_word(out: &mut [u8], at: usize, word: &[u8], ns: &[u32]) -> usize
+pub fn put_word(out: &mut [u8], at: usize, word: &[u8], ns: &[u32]) -> usize
     requires { ⌜ (1 ≤ length (now ns)) × (at + length (now word) + length (fields (now ns)) ≤ length (now out)) ⌝ }
     ensures { λ q. ⌜ Written at (now (word .entry) ++ fields (now (ns .entry))) (now (out .entry)) q (now (out .exit)) ⌝ }
 {
