@@ -92,17 +92,20 @@ module _ (p : Picture) (r n : ℕ) (work cells : List ℕ) (ok : Accepted p) (si
       let z : 0 + i ≡ i = omega arith in
       getD-take n work i 0 (omega arith) ∙ (sym (ap (λ (j : ℕ). getD work j 0) z) ∙ f .size i h)
 
-  pub figured-lists : Lists r (take n work) (from (4 * n) work) (from (3 * n) work) (from n work) (from (2 * n) work)
-  figured-lists =
+  -- the first block and any parts that begin by the last block serve as lists
+  pub figured-lists :
+      (h d c t : ℕ) → h ≤ 4 * n → d ≤ 4 * n → c ≤ 4 * n → t ≤ 4 * n →
+      Lists r (take n work) (from h work) (from d work) (from c work) (from t work)
+  figured-lists h d c t bh bd bc bt =
       let m = count-most in
       record {
         few = omega arith;
         sizes = omega (arith, length-take-le n work (omega arith));
-        heights = omega (arith, from-length (4 * n) work);
-        depths = omega (arith, from-length (3 * n) work);
-        columns = omega (arith, from-length n work);
-        rows = omega (arith, from-length (2 * n) work);
-        some = λ i h. let a = first i h in let b = size-some i h in omega arith;
+        heights = omega (arith, from-length h work);
+        depths = omega (arith, from-length d work);
+        columns = omega (arith, from-length c work);
+        rows = omega (arith, from-length t work);
+        some = λ i b. let e = first i b in let k = size-some i b in omega arith;
       }
 
   line-at :

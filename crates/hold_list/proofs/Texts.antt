@@ -60,14 +60,14 @@ module _ (f : List ℕ) where
       ap (picture w h) (rest-is o f ∙ ap (λ (i : ℕ). drop i f) eo) ∙
       ap₂ (λ (a b : ℕ). picture a b (drop (headerOf (readFile f) .offset) f)) ew eh
 
-module _ (p : Picture) (h : isPicture p ≡ true) where
-  -- the watershed as a picture with the same sides
-  pub water-is : watershed p ≡ withPixels p (watershed p .pixels)
-  water-is = watershed-shape p (accepted-is p h .size)
+-- bytes that are the pixels of the watershed of an accepted picture
+module _ (p : Picture) (h : isPicture p ≡ true) (xs : List ℕ) (e : xs ≡ watershed p .pixels) where
+  water-is : withPixels p xs ≡ watershed p
+  water-is = ap (withPixels p) e ∙ sym (watershed-shape p (accepted-is p h .size))
 
-  pub water-picture : isPicture (withPixels p (watershed p .pixels)) ≡ true
-  water-picture = sym (ap isPicture water-is) ∙ demand-3 p h .accepted
+  pub water-picture : isPicture (withPixels p xs) ≡ true
+  water-picture = ap isPicture water-is ∙ demand-3 p h .accepted
 
-  pub holds-are : patchList (withPixels p (watershed p .pixels)) ≡ holdList p
+  pub holds-are : patchList (withPixels p xs) ≡ holdList p
   unfolding holdList
-  holds-are = sym (ap patchList water-is)
+  holds-are = ap patchList water-is

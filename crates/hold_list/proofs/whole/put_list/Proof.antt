@@ -61,8 +61,8 @@ put-head-requires c κs =
     let k = ok s in
     let m = most s in
     let l = c .before .count-line .ensures (pictured s) (mapped s) in (
-      omega (arith, k .narrow),
-      omega (arith, k .short),
+      omega (arith, k .narrow, k .short),
+      omega (arith, k .narrow, k .short),
       omega (arith, m .0, m .1),
       omega (arith, l, line-few (pictured s), k .size, m .1),
       omega (arith, s .pre .3),
@@ -126,7 +126,7 @@ put-lines-requires c κs =
     let h = c .before .before .before .before .before .before .before .before .put-head .ensures in
     let m = most s in
     let k = written-length (omega (arith, s .pre .3, h .1)) (h .0) in (
-      figured-lists (pictured s) (s .args .count) (size s) (s .args .work .now) (s .args .cells .now) (ok s) (ok s .size) (long s) (s .pre .2),
+      figured-lists (pictured s) (s .args .count) (size s) (s .args .work .now) (s .args .cells .now) (ok s) (ok s .size) (long s) (s .pre .2) _ _ _ _ (omega arith) (omega arith) (omega arith) (omega arith),
       omega (arith, s .pre .3, h .1, k, m .0, m .1),
     )
 

@@ -1,20 +1,19 @@
 -- `hold_list::whole::put_watershed` meets its contract: the patches of the watershed are those of the bytes that the core leaves.
-use mathlib.Core.Path.{ap, subst, _∙_}
+use mathlib.Core.Path.{subst, _∙_}
 use mathlib.Core.List.{List}
 use Prim.Native.Nat.{ℕ}
 use native.Mathlib.Omega.{arith}
-use Rattle.picture.specs.Pictures.{Picture, isPicture}
+use Rattle.picture.specs.Pictures.{Picture}
 use Rattle.tree.specs.Frame.{pictureOf}
 use Rattle.text.specs.Writing.{Written}
-use Rattle.hold_list.specs.HoldText.{patchList}
 use Rattle.hold_list.proofs.Texts.{water-picture, holds-are}
 use borrow.Author.Needs.{needs}
 use Rattle.hold_list.proofs.whole.put_watershed.Statement.{statement}
 use Rattle.hold_list.proofs.whole.put_watershed.Tie as tie
 
--- the picture of the arguments with other pixels
-abbrev pictured : tie.Start → List ℕ → Picture
-pictured s xs = pictureOf 4 (s .args .w) (s .args .h) xs
+-- the picture of the arguments
+abbrev pictured : tie.Start → Picture
+pictured s = pictureOf 4 (s .args .w) (s .args .h) (s .args .pixels .now)
 
 watershed-core-requires : tie.Need-watershed-core-requires
 watershed-core-requires c κs = search needs
@@ -23,7 +22,7 @@ put-patches-requires : tie.Need-put-patches-requires
 put-patches-requires c κs =
     let s = c .before .before .before .before .before .before .before .before .before .before .before .before .before .before .before .before in
     let t = c .before .before .before .before .before .before .before .before .watershed-core in (
-      ap (λ (xs : List ℕ). isPicture (pictured s xs)) (t .ensures) ∙ water-picture (pictured s (s .args .pixels .now)) (s .pre .0),
+      water-picture (pictured s) (s .pre .0) (t .last .1 .1 .1 .1 .0) (t .ensures),
       record { few = s .pre .2 .few; blocks = t .kept .1 .1 .1 .1 .1 .0 ∙ s .pre .2 .blocks; beside = s .pre .2 .beside },
       omega (arith, s .pre .3),
     )
@@ -46,7 +45,7 @@ returns c =
     let t = c .before .before .before .before .before .before .before .before .before .before .before .before .before .before .before .watershed-core in
     let p = c .before .before .before .before .before .before .put-patches in
     subst (λ (xs : List ℕ). Written 0 xs (s .args .out .now) (p .result) (p .last .1 .1 .1 .1 .1 .0))
-    (ap (λ (xs : List ℕ). patchList (pictured s xs)) (t .ensures) ∙ holds-are (pictured s (s .args .pixels .now)) (s .pre .0))
+    (holds-are (pictured s) (s .pre .0) (t .last .1 .1 .1 .1 .0) (t .ensures))
     (p .ensures)
 
 pub put-watershed-spec : {M : Type 1} → statement M
