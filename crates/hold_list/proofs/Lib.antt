@@ -1,3 +1,4 @@
 pub mod Lengths
 pub mod Figured
 pub mod Texts
+pub mod Worked
