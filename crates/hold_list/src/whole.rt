@@ -30,6 +30,7 @@ fn put_list(
     requires { ⌜ (isPicture (pictureOf 4 w h (now pixels)) ≡ true) × Sizes (w * h) (now work) (now cells) × Figures (pictureOf 4 w h (now pixels)) count (now work) (now cells) × (59264 ≤ length (now out)) ⌝ }
     ensures { λ r. ⌜ Written 0 (patchList (pictureOf 4 w h (now (pixels .entry)))) (now (out .entry)) r (now (out .exit)) ⌝ }
 {
+    // where the blocks of row sums, depths and heights begin; sizes are at 0, column sums at n
     let n = pixels.len();
     let rows = 2 * n;
     let depths = 3 * n;
