@@ -1,4 +1,8 @@
-.PHONY: test
+.PHONY: run test
+# Builds `holds` and prints the hold list of the example wall; what the build says goes to standard error.
+run:
+	@rt check holds >&2
+	@target/bin/holds < examples/wall.pgm
 # The whole gate: tests, proofs, must-fail edits, programs.
 test:
 	bash .ci/run

@@ -1,15 +1,17 @@
 -- How long the lines of the hold list can be.
 use mathlib.Core.Path.{_≡_, ap, sym, subst, _∙_}
 use mathlib.Core.List.{List, [], _∷_, _++_, append-nil, append-assoc}
-use Prim.Native.Nat.{ℕ, zero, suc, _+_, _≤_, _<_}
+use Prim.Native.Nat.{ℕ, zero, suc, _+_, _*_, _≤_, _<_}
+use native.Mathlib.Nat.{div-le-self, lt-of-le-of-lt}
 use native.Mathlib.Omega.{arith}
 use native.Mathlib.Numerals.{add-one}
-use lib.ListN.{length, length-append}
+use lib.ListN.{length, take, drop, length-append}
 use Rattle.picture.specs.Lists.{range}
 use Rattle.picture.specs.Patches.{centre}
 use Rattle.text.specs.Decimal.{decimal, fields}
 use Rattle.hold_list.specs.Figures.{flat, lineOf}
 use Rattle.text.specs.Writing.{Written}
+use Rattle.board.proofs.Shell.{lent-length}
 use Rattle.text.proofs.Decimals.{tens, decimal-length}
 use Rattle.text.proofs.Writings.{written-then}
 
@@ -51,6 +53,10 @@ line-length a b c d e g ha hb hc hd he hg =
     let u = last-length g in
     omega arith
 
+-- a centre has at most six digits
+pub centre-most : (c s : ℕ) → c ≤ 65535 → centre c s < 1000000
+centre-most c s h = let b : 10 * c < 1000000 = omega arith in lt-of-le-of-lt (div-le-self (10 * c) s) b
+
 -- the numbers of a line, each equal to the figure it stands for
 pub line-is :
     (i s h d c r a b k m e g : ℕ) → a ≡ i + 1 → b ≡ s → k ≡ h → m ≡ d → e ≡ centre c s → g ≡ centre r s →
@@ -91,3 +97,11 @@ two-length n m h g = let l = five-digits n h in let e = next-length n m [] in le
 -- the parts of the two lines above the patches, as they are written
 pub head-is : (a b c d e f : List ℕ) → ((a ++ b) ++ (c ++ d)) ++ (e ++ f) ≡ a ++ (b ++ (c ++ (d ++ (e ++ f))))
 head-is a b c d e f = append-assoc (a ++ b) (c ++ d) (e ++ f) ∙ (append-assoc a b ((c ++ d) ++ (e ++ f)) ∙ ap (λ (l : List ℕ). a ++ (b ++ l)) (append-assoc c d (e ++ f)))
+
+-- a text written from the beginning lies within the memory
+pub text-within : {to : ℕ} {xs a b : List ℕ} → Written 0 xs a to b → (to ≤ length b) × (to ≡ length (take to b))
+text-within {to} {xs} {a} {b} w =
+    let e = w .end in
+    let l = ap length (w .whole) ∙ length-append xs (drop to a) in
+    let h : to ≤ length b = omega arith in
+    (h, lent-length to b h)

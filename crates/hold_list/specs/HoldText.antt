@@ -39,11 +39,13 @@ abbrev pub headLines : ℕ → ℕ → ℕ → ℕ → List ℕ
 headLines w h count line =
     pictureWord ++ (fields (w ∷ h ∷ []) ++ (patchesWord ++ (decimal count ++ (lineWord ++ fields (line ∷ [])))))
 
+-- the list of the patches of a picture under its two lines
+unfoldable pub patchList : Picture → List ℕ
+patchList a = headLines (a .width) (a .height) (length (patches a)) (lineCount a) ++ patchLines (patches a)
+
 -- the hold list of a picture: the patches and the line of its watershed
 unfoldable pub holdList : Picture → List ℕ
-holdList p =
-    let a = watershed p in
-    headLines (p .width) (p .height) (length (patches a)) (lineCount a) ++ patchLines (patches a)
+holdList p = patchList (watershed p)
 
 -- the line of a refusal
 abbrev pub refusedLine : ℕ → List ℕ

@@ -1,2 +1,3 @@
 // The hold list as text.
 pub mod lines;
+pub mod whole;

@@ -1,4 +1,5 @@
 // Lines of patches from their figures.
+use patches::figures::centre;
 use text::put_bytes;
 use text::put_fields;
 use text::put_number;
@@ -7,7 +8,6 @@ ghost use mathlib.Core.List.{_++_};
 ghost use Prim.Native.Nat.{_+_, _*_, _<_, _≤_};
 ghost use lib.ListN.{length};
 ghost use Rattle.picture.specs.Lists.{range};
-ghost use Rattle.picture.specs.Patches.{centre};
 ghost use Rattle.text.specs.Writing.{Written};
 ghost use Rattle.hold_list.specs.Figures.{flat, lineOf, lineAt, Lists};
 ghost use Rattle.hold_list.specs.HoldText.{patchesWord, headLines, refusedLine};
@@ -19,22 +19,15 @@ fn wide(n: u16) -> u32
     n as u32
 }
 
-// The centre in tenths of a sum over a patch.
-pub fn centre_of(sum: u16, size: u16) -> u32
-    requires { ⌜ 1 ≤ size ⌝ }
-    ensures { λ r. ⌜ (r ≡ centre sum size) × (r < 1000000) ⌝ }
-{
-    10 * wide(sum) / wide(size)
-}
-
 // Writes the line of a patch and answers the place behind it; a line has at most 37 bytes.
 fn put_line(out: &mut [u8], at: usize, i: usize, s: u16, h: u16, d: u16, c: u16, r: u16) -> usize
     requires { ⌜ (i < 1600) × (1 ≤ s) × (at + 37 ≤ length (now out)) ⌝ }
     ensures { λ q. ⌜ Written at (lineOf i s h d c r) (now (out .entry)) q (now (out .exit)) × (q ≤ at + 37) ⌝ }
 {
-    let column = centre_of(c, s);
-    let row = centre_of(r, s);
-    let numbers = [i as u32 + 1, wide(s), wide(h), wide(d), column, row];
+    let size = wide(s);
+    let column = centre(wide(c), size);
+    let row = centre(wide(r), size);
+    let numbers = [i as u32 + 1, size, wide(h), wide(d), column, row];
     put_fields(out, at, &numbers)
 }
 
@@ -62,7 +55,7 @@ pub fn put_lines(
 }
 
 // Writes a word, then numbers as a line, and answers the place behind them.
-fn put_word(out: &mut [u8], at: usize, word: &[u8], ns: &[u32]) -> usize
+pub fn put_word(out: &mut [u8], at: usize, word: &[u8], ns: &[u32]) -> usize
     requires { ⌜ (1 ≤ length (now ns)) × (at + length (now word) + length (fields (now ns)) ≤ length (now out)) ⌝ }
     ensures { λ q. ⌜ Written at (now (word .entry) ++ fields (now (ns .entry))) (now (out .entry)) q (now (out .exit)) ⌝ }
 {

@@ -1,0 +1,2 @@
+-- The files of the edge cases.
+pub mod EdgeFiles

@@ -1,0 +1,73 @@
+// The files of the edge cases.
+use text::put;
+use text::put_bytes;
+use text::put_fields;
+ghost use mathlib.Core.Path.{_≡_};
+ghost use Prim.Native.Nat.{_+_, _≤_, _<_};
+ghost use lib.ListN.{length, replicate};
+ghost use Rattle.text.specs.Writing.{Written};
+ghost use Rattle.edges.specs.EdgeFiles.{valuesOf, edgePixel, edgePixels, numberLines, edgeFile};
+
+// How many values a pixel can have at a largest sample.
+fn values_of(largest: u32) -> u32
+    ensures { λ r. ⌜ r ≡ valuesOf largest ⌝ }
+    ensures { λ r. ⌜ (1 ≤ r) × (r ≤ 256) ⌝ }
+{
+    if largest < 256 {
+        return largest + 1;
+    }
+    256
+}
+
+// A pixel, one of some values.
+fn edge_pixel(values: u32, i: u32) -> u8
+    requires { ⌜ (1 ≤ values) × (values ≤ 256) × (i < 2000) ⌝ }
+    ensures { λ r. ⌜ r ≡ edgePixel values i ⌝ }
+{
+    ((i * i * 31 + i * 17) % values) as u8
+}
+
+// Writes the pixels of a file and answers the place behind them.
+fn put_pixels(out: &mut [u8], at: usize, values: u32, count: u32) -> usize
+    requires { ⌜ (1 ≤ values) × (values ≤ 256) × (count ≤ 2000) × (at + count ≤ length (now out)) ⌝ }
+    ensures { λ r. ⌜ Written at (edgePixels values count) (now (out .entry)) r (now (out .exit)) ⌝ }
+{
+    let mut to = at;
+    let mut i = 0;
+    while i < count {
+        to = put(out, to, edge_pixel(values, i));
+        i += 1;
+    }
+    to
+}
+
+// Writes spaces and answers the place behind them.
+fn put_spaces(out: &mut [u8], at: usize, count: usize) -> usize
+    requires { ⌜ (count ≤ 2500) × (at + count ≤ length (now out)) ⌝ }
+    ensures { λ r. ⌜ Written at (replicate count 32) (now (out .entry)) r (now (out .exit)) ⌝ }
+{
+    let spaces = [b' '; 2500];
+    put_bytes(out, at, &spaces[..count])
+}
+
+// Writes the sides and the largest sample in two lines and answers the place behind them; they have at most 18 bytes.
+fn put_numbers(out: &mut [u8], at: usize, w: u32, h: u32, largest: u32) -> usize
+    requires { ⌜ (w < 100000) × (h < 100000) × (largest < 100000) × (at + 18 ≤ length (now out)) ⌝ }
+    ensures { λ r. ⌜ Written at (numberLines w h largest) (now (out .entry)) r (now (out .exit)) × (r ≤ at + 18) ⌝ }
+{
+    let sides = [w, h];
+    let next = put_fields(out, at, &sides);
+    let sample = [largest];
+    put_fields(out, next, &sample)
+}
+
+// Writes a file and answers its length.
+pub fn put_file(out: &mut [u8], w: u32, h: u32, largest: u32, count: u32, spaces: usize) -> usize
+    requires { ⌜ (w < 100000) × (h < 100000) × (largest < 100000) × (count ≤ 2000) × (spaces ≤ 2500) × (21 + spaces + count ≤ length (now out)) ⌝ }
+    ensures { λ r. ⌜ Written 0 (edgeFile w h largest count spaces) (now (out .entry)) r (now (out .exit)) ⌝ }
+{
+    let first = put_bytes(out, 0, b"P5\n");
+    let second = put_spaces(out, first, spaces);
+    let third = put_numbers(out, second, w, h, largest);
+    put_pixels(out, third, values_of(largest), count)
+}

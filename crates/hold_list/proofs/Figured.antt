@@ -1,0 +1,146 @@
+-- The lines of the patches of a picture are those of the lists of its figures.
+use mathlib.Core.Path.{_≡_, refl, sym, ap, ap₂, _∙_}
+use mathlib.Core.Logic.{by-cases}
+use mathlib.Core.List.{List, [], _∷_, _++_}
+use Prim.Native.Nat.{ℕ, zero, suc, _+_, _-_, _*_, _≤_, _<_}
+use native.Mathlib.Decide.{ℕ-discrete}
+use native.Mathlib.Omega.{arith}
+use lib.Dec.{eqb}
+use lib.ListN.{length, getD, take, drop, length-drop}
+use lib.Seq.{length-take-le, getD-take, getD-drop}
+use Rattle.picture.specs.Lists.{range}
+use Rattle.picture.specs.Pictures.{Picture, places}
+use Rattle.picture.specs.Patches.{Patch, patches, patchAt, lineCount, centre}
+use Rattle.topology.proofs.Lists.{tally-length, length-range}
+use Rattle.topology.proofs.Accepted.{Accepted, places-bound}
+use Rattle.topology.proofs.PatchFigures.{bottom-number}
+use Rattle.topology.proofs.PatchSums.{sumAt, sum-in, sum-out, patch-begins, count-few, patch-size}
+use Rattle.tree.specs.Arrays.{row}
+use Rattle.p5.proofs.Answers.{rest-is}
+use Rattle.patches.specs.Figures.{noPatch, Figures}
+use Rattle.hold_list.specs.Figures.{flat, lineAt, Lists}
+use Rattle.hold_list.specs.HoldText.{patchLine, patchLines, headLines, patchList}
+use Rattle.hold_list.proofs.Lengths.{line-is}
+
+-- lines one by one
+pub lines-from :
+    (d : Patch) (f : ℕ → List ℕ) (qs : List Patch) (x : ℕ) → ((i : ℕ) → i < length qs → f (x + i) ≡ patchLine (getD qs i d)) →
+    flat f (range x (length qs)) ≡ patchLines qs
+lines-from d f [] x h = refl
+lines-from d f (q ∷ qs) x h =
+    let z : x + 0 ≡ x = omega arith in
+    ap₂ (λ (a b : List ℕ). a ++ b) (sym (ap f z) ∙ h 0 (omega arith))
+    (lines-from d f qs (suc x)
+    (λ i b. let e : suc x + i ≡ x + suc i = omega arith in ap f e ∙ h (suc i) (omega arith)))
+
+-- a sum is at least what each place with the number adds
+sum-least : (g : ℕ → ℕ) (numbers : List ℕ) (c z m : ℕ) → z < m → getD numbers z 0 ≡ c → g z ≤ sumAt g numbers c m
+sum-least g numbers c z zero b e = absurd (omega arith)
+sum-least g numbers c z (suc m) b e =
+    by-cases (ℕ-discrete z m)
+    (λ q.
+    let s = sum-in g numbers c m (sym (ap (λ (y : ℕ). getD numbers y 0) q) ∙ e) in
+    let t = ap g q in
+    omega arith)
+    (λ d.
+    let r = sum-least g numbers c z m (omega arith) e in
+    by-cases (ℕ-discrete (getD numbers m 0) c)
+    (λ q. let s = sum-in g numbers c m q in omega arith)
+    (λ q. let s = sum-out g numbers c m q in omega arith))
+
+-- the part of a list from b on
+abbrev pub from : ℕ → List ℕ → List ℕ
+from b l = take (length l - b) (drop b l)
+
+from-at : (b i : ℕ) (l : List ℕ) → getD (from b l) i 0 ≡ row l b i
+from-at b i l = ap (λ (m : List ℕ). getD m i 0) (rest-is b l) ∙ getD-drop b l i 0
+
+from-length : (b : ℕ) (l : List ℕ) → length (from b l) ≡ length l - b
+from-length b l = ap length (rest-is b l) ∙ length-drop b l
+
+-- the line pixels are places
+pub line-few : (p : Picture) → lineCount p ≤ places p
+unfolding lineCount
+line-few p = omega (arith, tally-length (λ x. eqb (patchAt p x) 0) (range 0 (places p)), length-range 0 (places p))
+
+module _ (p : Picture) (r n : ℕ) (work cells : List ℕ) (ok : Accepted p) (size : n ≡ places p) (long : length work ≡ 5 * n) (f : Figures p r work cells) where
+  pub count-most : (r ≤ n) × (n ≤ 1600)
+  count-most =
+      let c = f .count in
+      let m = count-few p ok in
+      let b = places-bound p ok in
+      (omega arith, omega arith)
+
+  -- each patch has a pixel
+  size-some : (i : ℕ) → i < r → 1 ≤ getD (patches p) i noPatch .size
+  size-some i h =
+      let c = f .count in
+      let b : i < length (patches p) = omega arith in
+      let (z, w, t, e) = patch-begins p ok i b in
+      let s = patch-size p ok i noPatch b cells (f .map) in
+      let q = f .map z w ∙ (bottom-number p ok z w t ∙ ap suc e) in
+      let l = sum-least (λ x. 1) cells (suc i) z (places p) w q in
+      omega arith
+
+  -- the entry of a block
+  at : (k b i : ℕ) → b ≡ k → (q : ℕ) → row work k i ≡ q → getD (from b work) i 0 ≡ q
+  at k b i e q h = from-at b i work ∙ (ap (λ (m : ℕ). row work m i) e ∙ h)
+
+  first : (i : ℕ) → i < r → getD (take n work) i 0 ≡ getD (patches p) i noPatch .size
+  first i h =
+      let m = count-most in
+      let z : 0 + i ≡ i = omega arith in
+      getD-take n work i 0 (omega arith) ∙ (sym (ap (λ (j : ℕ). getD work j 0) z) ∙ f .size i h)
+
+  -- the first block and any parts that begin by the last block serve as lists
+  pub figured-lists :
+      (h d c t : ℕ) → h ≤ 4 * n → d ≤ 4 * n → c ≤ 4 * n → t ≤ 4 * n →
+      Lists r (take n work) (from h work) (from d work) (from c work) (from t work)
+  figured-lists h d c t bh bd bc bt =
+      let m = count-most in
+      record {
+        few = omega arith;
+        sizes = omega (arith, length-take-le n work (omega arith));
+        heights = omega (arith, from-length h work);
+        depths = omega (arith, from-length d work);
+        columns = omega (arith, from-length c work);
+        rows = omega (arith, from-length t work);
+        some = λ i b. let e = first i b in let k = size-some i b in omega arith;
+      }
+
+  line-at :
+      (i : ℕ) → i < r →
+      lineAt (take n work) (from (4 * n) work) (from (3 * n) work) (from n work) (from (2 * n) work) i ≡
+      patchLine (getD (patches p) i noPatch)
+  line-at i h =
+      let s = first i h in
+      let four : 4 * n ≡ 4 * places p = omega arith in
+      let three : 3 * n ≡ 3 * places p = omega arith in
+      let two : 2 * n ≡ 2 * places p = omega arith in
+      let u = at (4 * places p) (4 * n) i four _ (f .height i h) in
+      let d = at (3 * places p) (3 * n) i three _ (f .depth i h) in
+      let c = at (places p) n i size _ (f .columns i h) in
+      let t = at (2 * places p) (2 * n) i two _ (f .rows i h) in
+      sym
+      (line-is i _ _ _ _ _ _ _ _ _ _ _ (sym (f .number i h)) (sym s) (sym u) (sym d) (sym (ap₂ centre c s)) (sym (ap₂ centre t s)))
+
+  -- the lines of the lists are those of the patches
+  pub lines-are :
+      flat (lineAt (take n work) (from (4 * n) work) (from (3 * n) work) (from n work) (from (2 * n) work)) (range 0 r) ≡
+      patchLines (patches p)
+  lines-are =
+      let g = lineAt (take n work) (from (4 * n) work) (from (3 * n) work) (from n work) (from (2 * n) work) in
+      let c = f .count in
+      ap (λ (m : ℕ). flat g (range 0 m)) c ∙
+      lines-from noPatch g (patches p) 0
+      (λ i b. let z : 0 + i ≡ i = omega arith in ap g z ∙ line-at i (omega arith))
+
+  -- the whole list, with the number of line pixels
+  pub list-is :
+      (line : ℕ) → line ≡ lineCount p →
+      headLines (p .width) (p .height) r line ++
+      flat (lineAt (take n work) (from (4 * n) work) (from (3 * n) work) (from n work) (from (2 * n) work)) (range 0 r) ≡
+      patchList p
+  unfolding patchList
+  list-is line e =
+      ap₂ (λ (a b : List ℕ). a ++ b) (ap₂ (λ (c l : ℕ). headLines (p .width) (p .height) c l) (f .count) e) lines-are
