@@ -5,5 +5,4 @@ pub mod Lent
 pub mod Demands
 pub mod Answers
 pub mod Lending
-pub mod Demands
 pub mod PatchLists
