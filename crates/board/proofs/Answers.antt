@@ -22,7 +22,7 @@ use Rattle.board.specs.declared.Answer.{Answer}
 use Rattle.board.specs.Calls.{over, afterCall}
 use Rattle.board.specs.Trees.{treeFaultOf, placesFaultOf, checkedFault, TreeSays, PassSays}
 use Rattle.board.specs.Answers.{answeredNode, TreesKept}
-use Rattle.board.proofs.Lent.{no-places-fault, no-checked-fault}
+use Rattle.board.proofs.LentTrees.{no-places-fault, no-checked-fault}
 
 -- a list by its indices
 by-index : {A : Type 0} (d : A) (l : List A) → map (λ i. getD l i d) (range 0 (length l)) ≡ l

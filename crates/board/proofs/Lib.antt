@@ -1,7 +1,7 @@
 -- Laws of what the public calls promise.
 pub mod Files
 pub mod Shell
-pub mod Lent
+pub mod LentTrees
 pub mod Demands
 pub mod Answers
 pub mod Lending

@@ -40,10 +40,14 @@ Refused f r = r ≡ record { number = f; value = 0 }
 abbrev pub Accepted : ℕ → Answer → Type 0
 Accepted v r = r ≡ record { number = 0; value = v }
 
+-- work with its first 5 n entries cleared
+abbrev pub cleared : ℕ → List ℕ → List ℕ
+cleared n q = replicate {A = ℕ} (5 * n) 0 ++ drop (5 * n) q
+
 -- the end of a call that is not refused: the value, and work cleared over 5 n entries
 pub record Finished (n v : ℕ) (q q′ : List ℕ) (r : Answer) : Type 0 where
   pub answer : Accepted v r
-  pub work : q′ ≡ replicate {A = ℕ} (5 * n) 0 ++ drop (5 * n) q
+  pub work : q′ ≡ cleared n q
 
 -- the fault of a call that lends output and work, and of one that lends work and names a place
 abbrev pub outputFaultOf : Picture → List ℕ → List ℕ → ℕ
@@ -78,10 +82,6 @@ groundOf (suc n) = G.Patch (suc n)
 -- the record of a place query: number, value, and the line or the patch
 abbrev pub QueryIs : ℕ → ℕ → ℕ → Queried → Type 0
 QueryIs f v n r = r ≡ record { number = f; value = v; ground = groundOf n }
-
--- work with its first 5 n entries cleared
-abbrev pub cleared : ℕ → List ℕ → List ℕ
-cleared n q = replicate {A = ℕ} (5 * n) 0 ++ drop (5 * n) q
 
 -- an accepted picture, a place of it, and work of 5 n entries at least
 pub record Admits (p : Picture) (q : List ℕ) (x : ℕ) : Type 0 where

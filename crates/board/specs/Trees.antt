@@ -64,7 +64,7 @@ pub record PassSays (p : Picture) (count : ℕ) (hs fs ss m : List ℕ) (x y : �
   pub work : q′ ≡ workAfter (checkedFault (placesFaultOf p hs fs ss m q x y) p count hs fs ss m) p q
 
 -- an accepted picture and four lists with an entry a place, unless there is a fault
-pub record Lent (f : ℕ) (p : Picture) (hs fs ss m : List ℕ) : Type 0 where
+pub record TreeLent (f : ℕ) (p : Picture) (hs fs ss m : List ℕ) : Type 0 where
   pub accepted : f ≡ 0 → isPicture p ≡ true
   pub few : f ≡ 0 → places p ≤ 1600
   pub heights : f ≡ 0 → places p ≤ length hs

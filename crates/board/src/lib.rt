@@ -26,7 +26,7 @@ ghost use mathlib.Core.Path.{_≡_};
 ghost use Prim.Native.Nat.{_*_, _≤_};
 ghost use lib.ListN.{length};
 ghost use Rattle.picture.specs.Lists.{pick};
-ghost use Rattle.labels.specs.Labels.{picture};
+ghost use Rattle.picture.specs.Pictures.{pictureOf};
 ghost use Rattle.board.specs.Reads.{ReadSays, PixelsSay};
 ghost use Rattle.board.specs.Calls.{Refused, Accepted, Finished, LabelsSay, LowerSays, WaterSays, cleared, groundOf, Admits, QueryIs, QuerySays};
 ghost use Rattle.board.specs.Trees.{TreeSays, CheckSays, PassSays};
@@ -116,7 +116,7 @@ pub fn label_section(
     out: &mut [u16],
     work: &mut [u16],
 ) -> Answer
-    ensures { λ r. ⌜ LabelsSay (picture a w h (now (pixels .entry))) k (now (out .entry)) (now (out .exit)) (now (work .entry)) (now (work .exit)) r ⌝ }
+    ensures { λ r. ⌜ LabelsSay (pictureOf a w h (now (pixels .entry))) k (now (out .entry)) (now (out .exit)) (now (work .entry)) (now (work .exit)) r ⌝ }
 {
     let fault = output_fault(a, w, h, pixels.len(), out.len(), work.len());
     if fault != 0 {
@@ -139,7 +139,7 @@ pub fn component_tree(
     map: &mut [u16],
     work: &mut [u16],
 ) -> Answer
-    ensures { λ r. ⌜ TreeSays (picture a w h (now (pixels .entry))) (now (heights .entry)) (now (heights .exit)) (now (fathers .entry)) (now (fathers .exit)) (now (firsts .entry)) (now (firsts .exit)) (now (map .entry)) (now (map .exit)) (now (work .entry)) (now (work .exit)) r ⌝ }
+    ensures { λ r. ⌜ TreeSays (pictureOf a w h (now (pixels .entry))) (now (heights .entry)) (now (heights .exit)) (now (fathers .entry)) (now (fathers .exit)) (now (firsts .entry)) (now (firsts .exit)) (now (map .entry)) (now (map .exit)) (now (work .entry)) (now (work .exit)) r ⌝ }
 {
     let shortest = least(heights.len(), fathers.len(), firsts.len(), map.len());
     let fault = output_fault(a, w, h, pixels.len(), shortest, work.len());
@@ -163,7 +163,7 @@ pub fn check_tree(
     map: &[u16],
     work: &mut [u16],
 ) -> Answer
-    ensures { λ r. ⌜ CheckSays (picture a w h (now (pixels .entry))) count (now (heights .entry)) (now (fathers .entry)) (now (firsts .entry)) (now (map .entry)) (now (work .entry)) (now (work .exit)) r ⌝ }
+    ensures { λ r. ⌜ CheckSays (pictureOf a w h (now (pixels .entry))) count (now (heights .entry)) (now (fathers .entry)) (now (firsts .entry)) (now (map .entry)) (now (work .entry)) (now (work .exit)) r ⌝ }
 {
     let shortest = least(heights.len(), fathers.len(), firsts.len(), map.len());
     let length_fault = output_fault(a, w, h, pixels.len(), shortest, work.len());
@@ -200,7 +200,7 @@ pub fn pass_between(
     y: u32,
     work: &mut [u16],
 ) -> Answer
-    ensures { λ r. ⌜ PassSays (picture a w h (now (pixels .entry))) count (now (heights .entry)) (now (fathers .entry)) (now (firsts .entry)) (now (map .entry)) x y (now (work .entry)) (now (work .exit)) r ⌝ }
+    ensures { λ r. ⌜ PassSays (pictureOf a w h (now (pixels .entry))) count (now (heights .entry)) (now (fathers .entry)) (now (firsts .entry)) (now (map .entry)) x y (now (work .entry)) (now (work .exit)) r ⌝ }
 {
     let shortest = least(heights.len(), fathers.len(), firsts.len(), map.len());
     let length_fault = output_fault(a, w, h, pixels.len(), shortest, work.len());
@@ -234,7 +234,7 @@ pub fn pass_between(
 
 // Whether the pixel at a place is lowerable: answers 1 for yes, 0 for no.
 pub fn is_lowerable(a: u32, w: u32, h: u32, pixels: &[u8], place: u32, work: &mut [u16]) -> Answer
-    ensures { λ r. ⌜ LowerSays (picture a w h (now (pixels .entry))) place (now (work .entry)) (now (work .exit)) r ⌝ }
+    ensures { λ r. ⌜ LowerSays (pictureOf a w h (now (pixels .entry))) place (now (work .entry)) (now (work .exit)) r ⌝ }
 {
     let fault = place_fault(a, w, h, pixels.len(), work.len(), place);
     if fault != 0 {
@@ -254,7 +254,7 @@ pub fn watershed_of(
     out: &mut [u8],
     work: &mut [u16],
 ) -> Answer
-    ensures { λ r. ⌜ WaterSays (picture a w h (now (pixels .entry))) (now (out .entry)) (now (out .exit)) (now (work .entry)) (now (work .exit)) r ⌝ }
+    ensures { λ r. ⌜ WaterSays (pictureOf a w h (now (pixels .entry))) (now (out .entry)) (now (out .exit)) (now (work .entry)) (now (work .exit)) r ⌝ }
 {
     let fault = output_fault(a, w, h, pixels.len(), out.len(), work.len());
     if fault != 0 {
@@ -301,8 +301,8 @@ fn answer_query(number: u8, value: u8, patch: u16) -> Queried
 
 // The patch number of a place, from work of 5 n entries that is cleared after it.
 fn query_cleared(a: u32, w: u32, h: u32, pixels: &[u8], place: usize, work: &mut [u16]) -> u16
-    requires { ⌜ Admits (picture a w h (now pixels)) (now work) place ⌝ }
-    ensures { λ r. ⌜ (r ≡ patchAt (picture a w h (now (pixels .entry))) place) × (now (work .exit) ≡ cleared (length (now (pixels .entry))) (now (work .entry))) ⌝ }
+    requires { ⌜ Admits (pictureOf a w h (now pixels)) (now work) place ⌝ }
+    ensures { λ r. ⌜ (r ≡ patchAt (pictureOf a w h (now (pixels .entry))) place) × (now (work .exit) ≡ cleared (length (now (pixels .entry))) (now (work .entry))) ⌝ }
 {
     let n = pixels.len();
     let whole = 5 * n;
@@ -314,7 +314,7 @@ fn query_cleared(a: u32, w: u32, h: u32, pixels: &[u8], place: usize, work: &mut
 
 // The value of the pixel at a place, and the line or the number of its patch.
 pub fn query_place(a: u32, w: u32, h: u32, pixels: &[u8], place: u32, work: &mut [u16]) -> Queried
-    ensures { λ r. ⌜ QuerySays (picture a w h (now (pixels .entry))) place (now (work .entry)) (now (work .exit)) r ⌝ }
+    ensures { λ r. ⌜ QuerySays (pictureOf a w h (now (pixels .entry))) place (now (work .entry)) (now (work .exit)) r ⌝ }
 {
     let fault = place_fault(a, w, h, pixels.len(), work.len(), place);
     if fault != 0 {
@@ -333,7 +333,7 @@ pub fn list_patches(
     out: &mut [Patch],
     work: &mut [u16],
 ) -> Answer
-    ensures { λ r. ⌜ PatchesSay (picture a w h (now (pixels .entry))) (now (out .entry)) (now (out .exit)) (now (work .entry)) (now (work .exit)) r ⌝ }
+    ensures { λ r. ⌜ PatchesSay (pictureOf a w h (now (pixels .entry))) (now (out .entry)) (now (out .exit)) (now (work .entry)) (now (work .exit)) r ⌝ }
 {
     let answer = gather(a, w, h, pixels, out.len(), work);
     write_records(out, work, pixels.len(), answer.value as usize);

@@ -1,8 +1,8 @@
 // The fault of a lent tree.
 use verify::check::is_tree;
 ghost use mathlib.Core.Path.{_≡_};
-ghost use Rattle.labels.specs.Labels.{picture};
-ghost use Rattle.board.specs.Trees.{checkedFault, Lent};
+ghost use Rattle.picture.specs.Pictures.{pictureOf};
+ghost use Rattle.board.specs.Trees.{checkedFault, TreeLent};
 
 // A fault, then 11 for a lent tree that is not the picture's. The cells are a local: work must be as it was on a refusal.
 pub fn tree_fault(
@@ -17,8 +17,8 @@ pub fn tree_fault(
     firsts: &[u16],
     map: &[u16],
 ) -> u8
-    requires { ⌜ Lent fault (picture a w h (now pixels)) (now heights) (now fathers) (now firsts) (now map) ⌝ }
-    ensures { λ r. ⌜ r ≡ checkedFault fault (picture a w h (now (pixels .entry))) count (now (heights .entry)) (now (fathers .entry)) (now (firsts .entry)) (now (map .entry)) ⌝ }
+    requires { ⌜ TreeLent fault (pictureOf a w h (now pixels)) (now heights) (now fathers) (now firsts) (now map) ⌝ }
+    ensures { λ r. ⌜ r ≡ checkedFault fault (pictureOf a w h (now (pixels .entry))) count (now (heights .entry)) (now (fathers .entry)) (now (firsts .entry)) (now (map .entry)) ⌝ }
 {
     if fault != 0 {
         return fault;

@@ -9,7 +9,7 @@ ghost use mathlib.Core.Path.{_≡_};
 ghost use mathlib.Core.List.{_++_};
 ghost use Prim.Native.Nat.{_+_, _*_, _≤_};
 ghost use lib.ListN.{length, drop, replicate};
-ghost use Rattle.labels.specs.Labels.{picture};
+ghost use Rattle.picture.specs.Pictures.{pictureOf};
 ghost use Rattle.text.specs.Writing.{Written};
 ghost use Rattle.board_c.specs.CalledByC.{pair, ReadForC, waterFaultForC, WaterForC, placeFaultForC, PlaceForC};
 ghost use Rattle.picture.specs.Patches.{patchAt};
@@ -64,7 +64,7 @@ pub extern "C" fn board_watershed(
     out: &mut [u8],
     work: &mut [u8],
 ) -> u32
-    ensures { λ r. ⌜ WaterForC (picture adjacency width height (now (pixels .entry))) (now (out .entry)) (now (out .exit)) (now (work .entry)) (now (work .exit)) r ⌝ }
+    ensures { λ r. ⌜ WaterForC (pictureOf adjacency width height (now (pixels .entry))) (now (out .entry)) (now (out .exit)) (now (work .entry)) (now (work .exit)) r ⌝ }
 {
     let fault = output_fault(
         adjacency,
@@ -110,8 +110,8 @@ fn place_fault_for_c(
 
 // The patch number of a place, with locals for the 16-bit work.
 fn patch_number(a: u32, w: u32, h: u32, pixels: &[u8], place: usize) -> u16
-    requires { ⌜ Admits (picture a w h (now pixels)) (replicate 8000 0) place ⌝ }
-    ensures { λ r. ⌜ r ≡ patchAt (picture a w h (now (pixels .entry))) place ⌝ }
+    requires { ⌜ Admits (pictureOf a w h (now pixels)) (replicate 8000 0) place ⌝ }
+    ensures { λ r. ⌜ r ≡ patchAt (pictureOf a w h (now (pixels .entry))) place ⌝ }
 {
     let n = pixels.len();
     let whole = 5 * n;
@@ -131,7 +131,7 @@ pub extern "C" fn board_place(
     out: &mut [u8],
     work: &mut [u8],
 ) -> u32
-    ensures { λ r. ⌜ PlaceForC (picture adjacency width height (now (pixels .entry))) place (now (out .entry)) (now (out .exit)) (now (work .entry)) (now (work .exit)) r ⌝ }
+    ensures { λ r. ⌜ PlaceForC (pictureOf adjacency width height (now (pixels .entry))) place (now (out .entry)) (now (out .exit)) (now (work .entry)) (now (work .exit)) r ⌝ }
 {
     let fault = place_fault_for_c(
         adjacency,

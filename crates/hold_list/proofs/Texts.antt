@@ -8,7 +8,7 @@ use native.Mathlib.Omega.{arith}
 use lib.ListN.{length, getD, take, drop, length-drop}
 use lib.Seq.{getD-drop}
 use borrow.Author.Tests.{eq-eqb, ne-eqb, lt-ltb, le-ltb}
-use Rattle.picture.specs.Pictures.{Picture, withPixels, isPicture}
+use Rattle.picture.specs.Pictures.{Picture, withPixels, isPicture, pictureOf}
 use Rattle.picture.specs.Watersheds.{watershed}
 use Rattle.topology.proofs.Accepted.{accepted-is, is-accepted, at-byte}
 use Rattle.topology.proofs.Water.{watershed-shape}
@@ -16,12 +16,11 @@ use Rattle.topology.proofs.Demand.{demand-3}
 use Rattle.p5.specs.Files.{readFile, numberOf, headerOf}
 use Rattle.p5.proofs.Accepted.{accepted-number}
 use Rattle.p5.proofs.Answers.{rest-is}
-use Rattle.tree.specs.Frame as frame
-use Rattle.hold_list.specs.HoldText.{patchList, holdList, refusedLine, pictureOf, holdText}
+use Rattle.hold_list.specs.HoldText.{patchList, holdList, refusedLine, pictureIn, holdText}
 
 -- a picture with adjacency 4
 abbrev picture : ℕ → ℕ → List ℕ → Picture
-picture = frame.pictureOf 4
+picture = pictureOf 4
 
 module _ (f : List ℕ) where
   pub text-long : 4096 < length f → holdText f ≡ refusedLine 12
@@ -32,16 +31,16 @@ module _ (f : List ℕ) where
   unfolding holdText
   text-refused h d = rw (le-ltb 4096 (length f) h, ne-eqb (numberOf (readFile f)) 0 d, holdText)
 
-  pub text-list : length f ≤ 4096 → numberOf (readFile f) ≡ 0 → holdText f ≡ holdList (pictureOf f)
+  pub text-list : length f ≤ 4096 → numberOf (readFile f) ≡ 0 → holdText f ≡ holdList (pictureIn f)
   unfolding holdText
   text-list h e = rw (le-ltb 4096 (length f) h, eq-eqb (numberOf (readFile f)) 0 e, holdText)
 
   -- an accepted file holds an accepted picture
-  pub file-picture : numberOf (readFile f) ≡ 0 → ((i : ℕ) → getD f i 0 ≤ 255) → isPicture (pictureOf f) ≡ true
+  pub file-picture : numberOf (readFile f) ≡ 0 → ((i : ℕ) → getD f i 0 ≤ 255) → isPicture (pictureIn f) ≡ true
   file-picture e b =
       let h = headerOf (readFile f) in
       let a = accepted-number f .0 e in
-      is-accepted (pictureOf f)
+      is-accepted (pictureIn f)
       (record {
         adjacency = inl refl;
         wide = a .width .0;
@@ -55,7 +54,7 @@ module _ (f : List ℕ) where
   -- the sides and the pixels that reading answers are those of that picture
   pub read-picture :
       (w h o : ℕ) → w ≡ headerOf (readFile f) .width → h ≡ headerOf (readFile f) .height → o ≡ headerOf (readFile f) .offset →
-      picture w h (take (length f - o) (drop o f)) ≡ pictureOf f
+      picture w h (take (length f - o) (drop o f)) ≡ pictureIn f
   read-picture w h o ew eh eo =
       ap (picture w h) (rest-is o f ∙ ap (λ (i : ℕ). drop i f) eo) ∙
       ap₂ (λ (a b : ℕ). picture a b (drop (headerOf (readFile f) .offset) f)) ew eh

@@ -52,8 +52,8 @@ abbrev pub refusedLine : ℕ → List ℕ
 refusedLine n = refusedWord ++ fields (n ∷ [])
 
 -- the picture of an accepted file, with adjacency 4
-abbrev pub pictureOf : List ℕ → Picture
-pictureOf f =
+abbrev pub pictureIn : List ℕ → Picture
+pictureIn f =
     let h = headerOf (readFile f) in
     record { adjacency = 4; width = h .width; height = h .height; pixels = drop (h .offset) f }
 
@@ -62,5 +62,5 @@ unfoldable pub holdText : List ℕ → List ℕ
 holdText f =
     elim (ltb 4096 (length f)) [
       | true ↦ refusedLine 12
-      | false ↦ elim (eqb (numberOf (readFile f)) 0) [ true ↦ holdList (pictureOf f) | false ↦ refusedLine (numberOf (readFile f)) ]
+      | false ↦ elim (eqb (numberOf (readFile f)) 0) [ true ↦ holdList (pictureIn f) | false ↦ refusedLine (numberOf (readFile f)) ]
     ]

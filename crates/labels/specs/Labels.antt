@@ -8,10 +8,6 @@ use Rattle.picture.specs.Pictures.{Picture, places, isPicture}
 use Rattle.picture.specs.Components.{components, labels}
 use Rattle.topology.proofs.Labelled.{Labelled}
 
--- the picture of a call's arguments
-abbrev pub picture : ℕ → ℕ → ℕ → List ℕ → Picture
-picture a w h xs = record { adjacency = a; width = w; height = h; pixels = xs }
-
 -- an accepted picture with a label for each place, and a stack of as many cells at least
 pub record Ready (p : Picture) (l stack : List ℕ) : Type 0 where
   pub accepted : isPicture p ≡ true

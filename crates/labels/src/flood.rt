@@ -8,7 +8,7 @@ ghost use lib.Dec.{leb};
 ghost use lib.ListN.{length};
 ghost use Rattle.picture.specs.Geometry.{Placed, neighboursOf};
 ghost use Rattle.labels.specs.Floods.{Room, Visited, Spread, Seed, Floods};
-ghost use Rattle.labels.specs.Labels.{picture};
+ghost use Rattle.picture.specs.Pictures.{pictureOf};
 
 // A place as an index.
 pub fn wide(x: u16) -> usize
@@ -62,7 +62,7 @@ fn spread(
     top: usize,
 ) -> usize
     requires { ⌜ Placed w h x × Room (w * h) (now pixels) (now labels) (now stack) top × (c ≢ 0) ⌝ }
-    ensures { λ r. ⌜ Spread (picture a w h (now (pixels .entry))) k c x (neighboursOf a w h x) [] (now (labels .entry)) (now (stack .entry)) top (now (labels .exit)) (now (stack .exit)) r ⌝ }
+    ensures { λ r. ⌜ Spread (pictureOf a w h (now (pixels .entry))) k c x (neighboursOf a w h x) [] (now (labels .entry)) (now (stack .entry)) top (now (labels .exit)) (now (stack .exit)) r ⌝ }
 {
     let mut near = [0u16; 8];
     let count = neighbours(a, w, h, x, &mut near);
@@ -87,8 +87,8 @@ pub fn flood(
     labels: &mut [u16],
     stack: &mut [u16],
 )
-    requires { ⌜ Placed w h x × Room (w * h) (now pixels) (now labels) (now stack) 0 × Seed (picture a w h (now pixels)) k x c (now labels) ⌝ }
-    ensures { λ _. ⌜ Floods (picture a w h (now (pixels .entry))) k x c (now (labels .entry)) (now (stack .entry)) (now (labels .exit)) (now (stack .exit)) ⌝ }
+    requires { ⌜ Placed w h x × Room (w * h) (now pixels) (now labels) (now stack) 0 × Seed (pictureOf a w h (now pixels)) k x c (now labels) ⌝ }
+    ensures { λ _. ⌜ Floods (pictureOf a w h (now (pixels .entry))) k x c (now (labels .entry)) (now (stack .entry)) (now (labels .exit)) (now (stack .exit)) ⌝ }
 {
     labels[x] = c;
     stack[0] = x as u16;

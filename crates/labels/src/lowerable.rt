@@ -7,11 +7,10 @@ ghost use mathlib.Core.Logic.{_≢_};
 ghost use mathlib.Core.Bool.{true};
 ghost use Prim.Native.Nat.{ℕ, _*_, _<_};
 ghost use lib.ListN.{length, getD};
-ghost use Rattle.picture.specs.Pictures.{isPicture};
+ghost use Rattle.picture.specs.Pictures.{isPicture, pictureOf};
 ghost use Rattle.picture.specs.Geometry.{Placed, neighboursOf};
 ghost use Rattle.picture.specs.Watersheds.{lowerable as isLowerable};
 ghost use Rattle.topology.proofs.Agreeing.{agreed, isSingle, Common};
-ghost use Rattle.labels.specs.Labels.{picture};
 
 // Stands for labels that differ.
 const SEVERAL: u16 = 65535;
@@ -61,8 +60,8 @@ fn common_label(a: u32, w: u32, h: u32, x: usize, labels: &[u16]) -> u16
 
 // The pixel at the place x is adjacent to exactly one component of the height below its value. The labels of that height are left behind.
 pub fn lowerable(a: u32, w: u32, h: u32, pixels: &[u8], x: usize, labels: &mut [u16]) -> bool
-    requires { ⌜ (isPicture (picture a w h (now pixels)) ≡ true) × (length (now labels) ≡ w * h) × (x < w * h) ⌝ }
-    ensures { λ r. ⌜ r ≡ isLowerable (picture a w h (now (pixels .entry))) x ⌝ }
+    requires { ⌜ (isPicture (pictureOf a w h (now pixels)) ≡ true) × (length (now labels) ≡ w * h) × (x < w * h) ⌝ }
+    ensures { λ r. ⌜ r ≡ isLowerable (pictureOf a w h (now (pixels .entry))) x ⌝ }
 {
     let value = pixels[x];
     if value == 0 {

@@ -3,7 +3,8 @@ use crate::flood::flood;
 use crate::flood::in_section;
 use picture::clearing::clear;
 ghost use Prim.Native.Nat.{_+_, _*_, _<_};
-ghost use Rattle.labels.specs.Labels.{picture, Ready, Scanned, LabelsHold};
+ghost use Rattle.labels.specs.Labels.{Ready, Scanned, LabelsHold};
+ghost use Rattle.picture.specs.Pictures.{pictureOf};
 ghost use Rattle.topology.proofs.Labelled.{Labelled};
 
 // Floods the component of the place x, if it begins there, with the number after c; answers the number of components that begin up to x.
@@ -18,8 +19,8 @@ fn label_place(
     labels: &mut [u16],
     stack: &mut [u16],
 ) -> u16
-    requires { ⌜ Ready (picture a w h (now pixels)) (now labels) (now stack) × Labelled (picture a w h (now pixels)) k x c (now labels) × (x < w * h) ⌝ }
-    ensures { λ r. ⌜ Scanned (picture a w h (now (pixels .entry))) k (x + 1) r (now (labels .exit)) (now (stack .entry)) (now (stack .exit)) ⌝ }
+    requires { ⌜ Ready (pictureOf a w h (now pixels)) (now labels) (now stack) × Labelled (pictureOf a w h (now pixels)) k x c (now labels) × (x < w * h) ⌝ }
+    ensures { λ r. ⌜ Scanned (pictureOf a w h (now (pixels .entry))) k (x + 1) r (now (labels .exit)) (now (stack .entry)) (now (stack .exit)) ⌝ }
 {
     if !in_section(pixels[x], k) {
         return c;
@@ -41,8 +42,8 @@ pub fn label(
     labels: &mut [u16],
     stack: &mut [u16],
 ) -> u16
-    requires { ⌜ Ready (picture a w h (now pixels)) (now labels) (now stack) ⌝ }
-    ensures { λ r. ⌜ LabelsHold (picture a w h (now (pixels .entry))) k r (now (labels .exit)) (now (stack .entry)) (now (stack .exit)) ⌝ }
+    requires { ⌜ Ready (pictureOf a w h (now pixels)) (now labels) (now stack) ⌝ }
+    ensures { λ r. ⌜ LabelsHold (pictureOf a w h (now (pixels .entry))) k r (now (labels .exit)) (now (stack .entry)) (now (stack .exit)) ⌝ }
 {
     let n = pixels.len();
     clear(labels, n);

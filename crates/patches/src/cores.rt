@@ -5,9 +5,8 @@ use tree::build::build;
 ghost use mathlib.Core.Path.{_≡_};
 ghost use mathlib.Core.Bool.{true};
 ghost use Prim.Native.Nat.{_*_, _<_};
-ghost use Rattle.picture.specs.Pictures.{isPicture};
+ghost use Rattle.picture.specs.Pictures.{isPicture, pictureOf};
 ghost use Rattle.picture.specs.Patches.{patchAt};
-ghost use Rattle.tree.specs.Frame.{pictureOf};
 ghost use Rattle.patches.specs.Numbers.{Sizes};
 ghost use Rattle.patches.specs.Figures.{Figures};
 

@@ -12,7 +12,7 @@ ghost use lib.ListN.{length};
 ghost use lib.Dec.{leb};
 ghost use Rattle.picture.specs.Lists.{pick, highest};
 ghost use Rattle.picture.specs.Patches.{centre};
-ghost use Rattle.tree.specs.Frame.{pictureOf};
+ghost use Rattle.picture.specs.Pictures.{pictureOf};
 ghost use Rattle.patches.specs.Numbers.{Sizes, Mapped};
 ghost use Rattle.patches.specs.Figures.{Tree, depthIn, Put, Patched, Frame, Sums, Figures};
 

@@ -7,11 +7,10 @@ ghost use mathlib.Core.Bool.{true};
 ghost use mathlib.Core.Logic.{_≢_};
 ghost use Prim.Native.Nat.{_+_, _*_, _≤_, _<_};
 ghost use lib.ListN.{length, getD};
-ghost use Rattle.picture.specs.Pictures.{isPicture};
+ghost use Rattle.picture.specs.Pictures.{isPicture, pictureOf};
 ghost use Rattle.picture.specs.Geometry.{Placed};
 ghost use Rattle.picture.specs.Patches.{patches};
 ghost use Rattle.topology.proofs.Zones.{Flooded};
-ghost use Rattle.tree.specs.Frame.{pictureOf};
 ghost use Rattle.patches.specs.Minima.{Sizes, Room, Visit, Turn, Seed, Counting};
 
 // The cell of a place that no flood has visited.

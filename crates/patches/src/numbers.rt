@@ -5,9 +5,8 @@ use crate::cells::wide;
 ghost use mathlib.Core.Path.{_≡_};
 ghost use Prim.Native.Nat.{ℕ, _+_, _*_, _≤_, _<_};
 ghost use lib.ListN.{length, getD};
-ghost use Rattle.picture.specs.Pictures.{Picture};
+ghost use Rattle.picture.specs.Pictures.{Picture, pictureOf};
 ghost use Rattle.picture.specs.Patches.{patchAt, lineCount};
-ghost use Rattle.tree.specs.Frame.{pictureOf};
 ghost use Rattle.patches.specs.Figures.{Tree, PatchMap};
 ghost use Rattle.patches.specs.Numbers.{Sizes, Mapped, Cleared, Mark, Marks, Number, Numbers, Leaves, patchIn};
 

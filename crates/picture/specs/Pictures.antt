@@ -13,6 +13,10 @@ pub record Picture : Type 0 where
   pub height : ℕ
   pub pixels : List ℕ
 
+-- the picture of an adjacency, two sides and the pixels
+abbrev pub pictureOf : ℕ → ℕ → ℕ → List ℕ → Picture
+pictureOf a w h xs = record { adjacency = a; width = w; height = h; pixels = xs }
+
 -- n, the number of places; a place is a number below it
 abbrev pub places : Picture → ℕ
 places p = p .width * p .height

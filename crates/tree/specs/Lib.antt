@@ -1,5 +1,4 @@
 -- What the arrays of the tree hold.
 pub mod Arrays
-pub mod Frame
 pub mod Built
 pub mod Lists

@@ -5,11 +5,10 @@ use crate::union_find::wide;
 ghost use mathlib.Core.Path.{_≡_};
 ghost use Prim.Native.Nat.{_<_, _≤_, _+_, _*_};
 ghost use lib.ListN.{length, getD};
-ghost use Rattle.picture.specs.Pictures.{places};
+ghost use Rattle.picture.specs.Pictures.{places, pictureOf};
 ghost use Rattle.topology.proofs.Forests.{Block};
 ghost use Rattle.topology.proofs.Chains.{Comes, EdgeReady, EdgeDone};
 ghost use Rattle.topology.proofs.Walks.{Ready, Absorbed};
-ghost use Rattle.tree.specs.Frame.{pictureOf};
 
 // A pixel as a height.
 pub fn height(x: u8) -> usize

@@ -6,10 +6,9 @@ ghost use mathlib.Core.Path.{_≡_};
 ghost use mathlib.Core.Bool.{true};
 ghost use Prim.Native.Nat.{_<_, _≤_, _+_, _*_};
 ghost use lib.ListN.{length, getD, drop};
-ghost use Rattle.picture.specs.Pictures.{isPicture};
+ghost use Rattle.picture.specs.Pictures.{isPicture, pictureOf};
 ghost use Rattle.picture.specs.Trees.{nodes};
 ghost use Rattle.topology.proofs.Settling.{SettledOne, SettleBounds, SettleReady, SettleWalk};
-ghost use Rattle.tree.specs.Frame.{pictureOf};
 ghost use Rattle.tree.specs.Arrays.{TreeIn};
 ghost use Rattle.tree.specs.Built.{Built};
 

@@ -4,10 +4,9 @@ ghost use mathlib.Core.Path.{_≡_};
 ghost use mathlib.Core.Bool.{true};
 ghost use Prim.Native.Nat.{_≤_, _+_, _*_};
 ghost use lib.ListN.{length};
-ghost use Rattle.picture.specs.Pictures.{isPicture};
+ghost use Rattle.picture.specs.Pictures.{isPicture, pictureOf};
 ghost use Rattle.picture.specs.Trees.{treeOf};
 ghost use Rattle.topology.proofs.Copies.{Copied};
-ghost use Rattle.tree.specs.Frame.{pictureOf};
 ghost use Rattle.tree.specs.Lists.{Bytes, Rooms, InFront, Handed};
 
 // Copies m entries from b on to the front of a list.

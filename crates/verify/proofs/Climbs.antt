@@ -11,7 +11,7 @@ use Rattle.picture.specs.Trees.{nodes, nodeAt, fatherOf, mapOf}
 use Rattle.topology.proofs.Accepted.{Accepted, accepted-is}
 use Rattle.topology.proofs.Fathers.{map-found}
 use Rattle.topology.proofs.Climb.{Meet, same, left, right, father, father-of, father-greater, pass-meet}
-use Rattle.verify.specs.Lent.{IsTree}
+use Rattle.verify.specs.Lent.{HoldsTree}
 use Rattle.verify.specs.Climbs.{Rises, Climbed, Met, PassReady, PassOf}
 
 -- the climb from a and b has come to u and v
@@ -59,7 +59,7 @@ pub climb-end : (count : ℕ) (fs : List ℕ) (a b u v : ℕ) → Climbing count
 climb-end count fs a b u v s e =
     record { meet = s .back u (subst (λ (z : ℕ). Meet (λ i. getD fs i 0) u z u) e same); number = s .in-u }
 
-module _ (p : Picture) (count : ℕ) (hs fs ss m : List ℕ) (ok : isPicture p ≡ true) (t : IsTree p count hs fs ss m) where
+module _ (p : Picture) (count : ℕ) (hs fs ss m : List ℕ) (ok : isPicture p ≡ true) (t : HoldsTree p count hs fs ss m) where
   pub tree-rises : Rises count fs
   tree-rises =
       let total = t .total in

@@ -24,7 +24,7 @@ use Rattle.topology.proofs.Counts.{soFar, so-few}
 use Rattle.topology.proofs.Numbering.{Member, Listed, Numbered, joined-root, root-first, free-fork, fork-free, number-new, count-next, next-level, named-all, edges-next}
 use Rattle.topology.proofs.Forests.{Forest, Found, Parents, forest-parents, root-cell, forest-state}
 use Rattle.topology.proofs.Checks.{Agree, Checking}
-use Rattle.verify.specs.Lent.{IsTree}
+use Rattle.verify.specs.Lent.{HoldsTree}
 use Rattle.verify.specs.Steps.{Run, Counted, Fits}
 use Rattle.verify.proofs.Places.{height-least, firsts-rise}
 
@@ -129,7 +129,7 @@ module _ (p : Picture) (k c i : ℕ) (l fs ss m : List ℕ) (s : Counted p k c i
       each P a f j h g =
           by-cases (ℕ-discrete j i) (λ e. subst (λ (z : ℕ). P (getD ss z 0)) (sym e) a) (λ e. f j h (omega arith))
 
-  module _ (d count : ℕ) (hs : List ℕ) (run : Run k c d count hs) (below : i < d) (tree : IsTree p count hs fs ss m) where
+  module _ (d count : ℕ) (hs : List ℕ) (run : Run k c d count hs) (below : i < d) (tree : HoldsTree p count hs fs ss m) where
     number : i < length (nodes p)
     number = let a = run .most in let b = tree .total in omega arith
 

@@ -28,7 +28,7 @@ use Rattle.topology.proofs.Numbering.{Member, Listed, Numbered, joined-root, ro
 use Rattle.topology.proofs.LastFathers.{LastFather, missing, pixel, last-father}
 use Rattle.topology.proofs.Forests.{Forest, Found, Parents, forest-parents}
 use Rattle.topology.proofs.Checks.{Differs, Agree, Checking}
-use Rattle.verify.specs.Lent.{IsTree}
+use Rattle.verify.specs.Lent.{HoldsTree}
 use Rattle.verify.specs.Steps.{Run, Counted, Matched}
 use Rattle.verify.proofs.Places.{height-least, before-is}
 
@@ -166,7 +166,7 @@ module _ (p : Picture) (k c d : ℕ) (l fs ss m : List ℕ) (s : Counted p k c d
 
 -- the tree's own lists are complete
 pub tree-complete :
-    (p : Picture) (k c d count : ℕ) (l hs fs ss m : List ℕ) (s : Counted p k c d l fs ss m) → Run k c d count hs → IsTree p count hs fs ss m →
+    (p : Picture) (k c d count : ℕ) (l hs fs ss m : List ℕ) (s : Counted p k c d l fs ss m) → Run k c d count hs → HoldsTree p count hs fs ss m →
     (y : ℕ) → At p k y → s .root y ≡ y → 65534 ≤ s .st y → Member (λ j. getD ss j 0) c d y
 tree-complete p k c d count l hs fs ss m s run tree y at r h =
     let fork = free-fork p (s .ok) k c (s .low) (s .root) (s .st) (s .fa) (s .level) (s .edges) y at r h in
@@ -208,7 +208,7 @@ tree-complete p k c d count l hs fs ss m s run tree y at r h =
 -- under the tree a pixel's root says its lent node
 pub matched-cell :
     (p : Picture) (k c d x r : ℕ) (l o fs ss m : List ℕ) (s : Matched p k c d x l fs ss m) (f : Found l x r o) (b : x < places p) (value : valueAt p x ≡ k) →
-    (count : ℕ) (hs : List ℕ) → Run k c d count hs → IsTree p count hs fs ss m → (getD o r 0 ≡ 2048 + getD m x 0) × (getD m x 0 < 1600)
+    (count : ℕ) (hs : List ℕ) → Run k c d count hs → HoldsTree p count hs fs ss m → (getD o r 0 ≡ 2048 + getD m x 0) × (getD m x 0 < 1600)
 matched-cell p k c d x r l o fs ss m s f b value count hs run tree =
     let g = s .counted in
     let e = says p k c d l fs ss m g (tree-complete p k c d count l hs fs ss m g run tree) x (record { within = b; low = omega arith }) in

@@ -12,7 +12,7 @@ use Rattle.picture.specs.Pictures.{Picture, places, valueAt}
 use Rattle.topology.proofs.Tests.{clash}
 use Rattle.topology.proofs.Descent.{under, map-under}
 use Rattle.topology.proofs.Forests.{Found, Parents, forest-parents}
-use Rattle.verify.specs.Lent.{IsTree}
+use Rattle.verify.specs.Lent.{HoldsTree}
 use Rattle.verify.specs.Steps.{Run, Counted, Matched, Fit, CountReady, NodesChecked, MapReady, MapChecked}
 use Rattle.verify.proofs.Counted.{counted-turn, tree-fits}
 use Rattle.verify.proofs.Matched.{matched-pass, matched-turn, matched-cell, says, tree-complete}
@@ -159,7 +159,7 @@ module _ (pixels : List ℕ) (k x v : ℕ) (l m : List ℕ) (b : x < length l) (
     -- under the tree the cell says the lent node
     tree-cell :
         (p : Picture) (c d : ℕ) (fs ss : List ℕ) → p .pixels ≡ pixels → Matched p k c d x l fs ss m → (count : ℕ) (hs : List ℕ) → Run k c d count hs →
-        IsTree p count hs fs ss m → (getD o r 0 ≡ 2048 + getD m x 0) × (getD m x 0 < 1600)
+        HoldsTree p count hs fs ss m → (getD o r 0 ≡ 2048 + getD m x 0) × (getD m x 0 < 1600)
     tree-cell p c d fs ss g s count hs run tree =
         let size = s .counted .size in
         let inside : x < places p = omega arith in

@@ -24,13 +24,13 @@ use Rattle.topology.proofs.Numbering.{Member, joined-root, free-fork}
 use Rattle.topology.proofs.LastFathers.{LastFather, missing, pixel, last-father}
 use Rattle.topology.proofs.Forests.{Found, Parents, forest-parents}
 use Rattle.topology.proofs.Checks.{Differs, Agree, Checking}
-use Rattle.verify.specs.Lent.{IsTree}
+use Rattle.verify.specs.Lent.{HoldsTree}
 use Rattle.verify.specs.Steps.{Run, Matched, Verified}
 use Rattle.verify.proofs.Counted.{counted-start, counted-turn, tree-fits}
 use Rattle.verify.proofs.Matched.{matched-start, matched-pass, matched-turn, says, count-is, node-new, checking-next, tree-complete}
 
 -- a lent node whose father and a pixel's node differ is no tree's
-pub differs-tree : (p : Picture) (count : ℕ) (hs fs ss m : List ℕ) → Differs p fs m → IsTree p count hs fs ss m → ⊥
+pub differs-tree : (p : Picture) (count : ℕ) (hs fs ss m : List ℕ) → Differs p fs m → HoldsTree p count hs fs ss m → ⊥
 differs-tree p count hs fs ss m d t =
     d .differs (t .fathers (d .at) (d .number) ∙ (d .father ∙ sym (t .map (d .pixel) (d .place))))
 
@@ -85,7 +85,7 @@ verified-next p k c d count o l hs fs ss m v run x s h =
 
 -- all heights are checked, the count is used up, and the last node has no father
 pub verified-tree :
-    (p : Picture) (count : ℕ) (l hs fs ss m : List ℕ) → Verified p 256 count count l hs fs ss m → getD fs (count - 1) 0 ≡ 65535 → IsTree p count hs fs ss m
+    (p : Picture) (count : ℕ) (l hs fs ss m : List ℕ) → Verified p 256 count count l hs fs ss m → getD fs (count - 1) 0 ≡ 65535 → HoldsTree p count hs fs ss m
 verified-tree p count l hs fs ss m v last =
     record {
       total = total;
@@ -123,7 +123,7 @@ verified-tree p count l hs fs ss m v last =
 
 -- the tree's count is used up, and its last node has no father
 pub tree-ends :
-    (p : Picture) (c count : ℕ) (l hs fs ss m : List ℕ) → Verified p 256 c count l hs fs ss m → IsTree p count hs fs ss m → (c ≡ count) × (getD fs (count - 1) 0 ≡ 65535)
+    (p : Picture) (c count : ℕ) (l hs fs ss m : List ℕ) → Verified p 256 c count l hs fs ss m → HoldsTree p count hs fs ss m → (c ≡ count) × (getD fs (count - 1) 0 ≡ 65535)
 tree-ends p c count l hs fs ss m v t =
     let e : c ≡ count = v .number ∙ (so-all p ∙ sym (t .total)) in
     let z : ℕ = length (nodes p) - 1 in

@@ -7,7 +7,7 @@ use lib.ListN.{length, getD}
 use Rattle.picture.specs.Pictures.{Picture, places, isPicture}
 use Rattle.picture.specs.Components.{pass}
 use Rattle.topology.proofs.Climb.{Meet}
-use Rattle.verify.specs.Lent.{IsTree}
+use Rattle.verify.specs.Lent.{HoldsTree}
 
 -- every node but the last has a father of a greater number
 pub record Rises (count : ℕ) (fs : List ℕ) : Type 0 where
@@ -30,7 +30,7 @@ pub record PassReady (pixels : List ℕ) (count : ℕ) (hs fs m : List ℕ) (x y
   pub ss : List ℕ
   pub ok : isPicture p ≡ true
   pub is : p .pixels ≡ pixels
-  pub tree : IsTree p count hs fs ss m
+  pub tree : HoldsTree p count hs fs ss m
   pub left : x < places p
   pub right : y < places p
   pub heights : count ≤ length hs
@@ -40,4 +40,4 @@ pub record PassReady (pixels : List ℕ) (count : ℕ) (hs fs m : List ℕ) (x y
 -- r is the pass between two places
 pub record PassOf (pixels : List ℕ) (count : ℕ) (hs fs m : List ℕ) (x y r : ℕ) : Type 0 where
   pub is :
-      (p : Picture) (ss : List ℕ) → isPicture p ≡ true → p .pixels ≡ pixels → IsTree p count hs fs ss m → x < places p → y < places p → r ≡ pass p x y
+      (p : Picture) (ss : List ℕ) → isPicture p ≡ true → p .pixels ≡ pixels → HoldsTree p count hs fs ss m → x < places p → y < places p → r ≡ pass p x y

@@ -4,7 +4,7 @@ use mathlib.Core.List.{List}
 use Prim.Native.Nat.{ℕ, _+_, _≤_, _<_}
 use lib.ListN.{length, getD}
 use Rattle.picture.specs.Pictures.{Picture}
-use Rattle.verify.specs.Lent.{IsTree}
+use Rattle.verify.specs.Lent.{HoldsTree}
 use Rattle.verify.specs.Steps.{Verified}
 
 -- the lists are long enough for the cells, and the count is no greater
@@ -20,7 +20,7 @@ pub record Sizes (n : ℕ) (xs hs fs ss m l : List ℕ) : Type 0 where
 -- after the height k: d nodes, or more than the count if the lists are not the tree
 pub record LevelChecked (p : Picture) (k count : ℕ) (l hs fs ss m : List ℕ) (d : ℕ) : Type 0 where
   pub yes : d ≤ count → Verified p (k + 1) d count l hs fs ss m
-  pub never : count < d → IsTree p count hs fs ss m → ⊥
+  pub never : count < d → HoldsTree p count hs fs ss m → ⊥
 
 -- the first i cells are 65535
 pub record Fresh (i : ℕ) (o l : List ℕ) : Type 0 where

@@ -8,7 +8,7 @@ use Rattle.picture.specs.Pictures.{Picture, places}
 use Rattle.picture.specs.Trees.{nodes, nodeAt, fatherOf, mapOf}
 
 -- the count is the tree's, the lists begin with the tree's entries, and the map with its map
-pub record IsTree (p : Picture) (count : ℕ) (hs fs ss m : List ℕ) : Type 0 where
+pub record HoldsTree (p : Picture) (count : ℕ) (hs fs ss m : List ℕ) : Type 0 where
   pub total : count ≡ length (nodes p)
   pub heights : (i : ℕ) → i < length (nodes p) → getD hs i 0 ≡ nodeAt p i .height
   pub fathers : (i : ℕ) → i < length (nodes p) → getD fs i 0 ≡ fatherOf p (nodeAt p i)
@@ -17,5 +17,5 @@ pub record IsTree (p : Picture) (count : ℕ) (hs fs ss m : List ℕ) : Type 0 w
 
 -- the answer is true exactly for the tree
 pub record Says (p : Picture) (count : ℕ) (hs fs ss m : List ℕ) (b : Bool) : Type 0 where
-  pub yes : b ≡ true → IsTree p count hs fs ss m
-  pub never : b ≡ false → IsTree p count hs fs ss m → ⊥
+  pub yes : b ≡ true → HoldsTree p count hs fs ss m
+  pub never : b ≡ false → HoldsTree p count hs fs ss m → ⊥

@@ -14,7 +14,7 @@ use Rattle.topology.proofs.Counts.{soFar}
 use Rattle.topology.proofs.Numbering.{Member}
 use Rattle.topology.proofs.Forests.{Forest}
 use Rattle.topology.proofs.Checks.{Agree, Checking}
-use Rattle.verify.specs.Lent.{IsTree}
+use Rattle.verify.specs.Lent.{HoldsTree}
 
 -- the lent heights from c on, before d, are k, and d is the count or has another
 pub record Run (k c d count : ℕ) (hs : List ℕ) : Type 0 where
@@ -81,7 +81,7 @@ pub record NodesChecked (pixels : List ℕ) (k c d : ℕ) (o ss l : List ℕ) (b
   pub yes : b ≡ true → (p : Picture) (fs m : List ℕ) → p .pixels ≡ pixels → Counted p k c c o fs ss m → Counted p k c d l fs ss m
   pub never :
       b ≡ false → (p : Picture) (fs m : List ℕ) → p .pixels ≡ pixels → Counted p k c c o fs ss m →
-      (count : ℕ) (hs : List ℕ) → Run k c d count hs → IsTree p count hs fs ss m → ⊥
+      (count : ℕ) (hs : List ℕ) → Run k c d count hs → HoldsTree p count hs fs ss m → ⊥
 
 pub record MapReady (pixels : List ℕ) (k x : ℕ) (l m : List ℕ) : Type 0 where
   pub p : Picture
@@ -98,7 +98,7 @@ pub record MapChecked (pixels : List ℕ) (k x z : ℕ) (l m o : List ℕ) (b : 
       b ≡ true → (p : Picture) (c d : ℕ) (fs ss : List ℕ) → p .pixels ≡ pixels → Matched p k c d x l fs ss m → Matched p k c d z o fs ss m
   pub never :
       b ≡ false → (p : Picture) (c d : ℕ) (fs ss : List ℕ) → p .pixels ≡ pixels → Matched p k c d x l fs ss m →
-      (count : ℕ) (hs : List ℕ) → Run k c d count hs → IsTree p count hs fs ss m → ⊥
+      (count : ℕ) (hs : List ℕ) → Run k c d count hs → HoldsTree p count hs fs ss m → ⊥
 
 -- the heights below k are checked: c nodes
 pub record Verified (p : Picture) (k c count : ℕ) (l hs fs ss m : List ℕ) : Type 0 where

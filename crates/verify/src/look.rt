@@ -9,7 +9,7 @@ ghost use lib.ListN.{length, getD, set};
 ghost use Rattle.topology.proofs.Marks.{Names};
 ghost use Rattle.topology.proofs.Checks.{Agrees, Joint, LookReady, Looked, Checking};
 ghost use Rattle.topology.proofs.Looks.{Passed};
-ghost use Rattle.tree.specs.Frame.{pictureOf};
+ghost use Rattle.picture.specs.Pictures.{pictureOf};
 
 // The lent father of the node that a state names is the lent node of the pixel x.
 fn agrees(fathers: &[u16], map: &[u16], state: u16, x: usize) -> bool

@@ -13,9 +13,8 @@ ghost use mathlib.Core.Bool.{true};
 ghost use mathlib.Core.List.{[]};
 ghost use Prim.Native.Nat.{_*_};
 ghost use lib.ListN.{length, take, drop};
-ghost use Rattle.picture.specs.Pictures.{isPicture};
+ghost use Rattle.picture.specs.Pictures.{isPicture, pictureOf};
 ghost use Rattle.picture.specs.Watersheds.{watershed};
-ghost use Rattle.tree.specs.Frame.{pictureOf};
 ghost use Rattle.tree.specs.Arrays.{TreeIn};
 ghost use Rattle.topology.proofs.Running.{Settling, Settled, Turning, Turned};
 

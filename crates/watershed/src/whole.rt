@@ -5,9 +5,8 @@ ghost use mathlib.Core.Path.{_≡_};
 ghost use mathlib.Core.Bool.{true};
 ghost use Prim.Native.Nat.{_*_};
 ghost use lib.ListN.{length};
-ghost use Rattle.picture.specs.Pictures.{isPicture};
+ghost use Rattle.picture.specs.Pictures.{isPicture, pictureOf};
 ghost use Rattle.picture.specs.Watersheds.{watershed};
-ghost use Rattle.tree.specs.Frame.{pictureOf};
 ghost use Rattle.tree.specs.Arrays.{TreeIn};
 
 // Copies bytes to memory of the same length.

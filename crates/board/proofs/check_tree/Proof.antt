@@ -3,18 +3,17 @@ use mathlib.Core.Path.{_≡_, refl, sym, ap, _∙_}
 use Prim.Native.Nat.{ℕ, _≤_}
 use native.Mathlib.Omega.{arith}
 use lib.ListN.{length, getD}
-use Rattle.picture.specs.Pictures.{Picture}
-use Rattle.labels.specs.Labels.{picture}
-use Rattle.board.specs.Trees.{treeFaultOf, checkedFault, Lent}
+use Rattle.picture.specs.Pictures.{Picture, pictureOf}
+use Rattle.board.specs.Trees.{treeFaultOf, checkedFault, TreeLent}
 use Rattle.board.proofs.Shell.{Admitted, refused-answer, refused-left, accepted-answer, cleared-left}
-use Rattle.board.proofs.Lent.{lists-fault, tree-admitted, lent-tree, no-checked-fault}
+use Rattle.board.proofs.LentTrees.{lists-fault, tree-admitted, lent-tree, no-checked-fault}
 use borrow.Author.Needs.{needs}
 use Rattle.board.proofs.check_tree.Statement.{statement}
 use Rattle.board.proofs.check_tree.Tie as tie
 
 -- the picture of the arguments
 abbrev pictured : tie.Start → Picture
-pictured s = picture (s .args .a) (s .args .w) (s .args .h) (s .args .pixels .now)
+pictured s = pictureOf (s .args .a) (s .args .w) (s .args .h) (s .args .pixels .now)
 
 -- the fault of the lengths, and the whole fault behind a fault f
 abbrev lengths : tie.Start → ℕ

@@ -3,19 +3,18 @@ use mathlib.Core.Path.{_≡_, refl, sym, ap, _∙_}
 use Prim.Native.Nat.{ℕ, _*_, _≤_}
 use native.Mathlib.Omega.{arith}
 use lib.ListN.{length, getD}
-use Rattle.picture.specs.Pictures.{Picture, places}
+use Rattle.picture.specs.Pictures.{Picture, places, pictureOf}
 use Rattle.topology.proofs.Nodes.{nodes-few}
-use Rattle.labels.specs.Labels.{picture}
 use Rattle.board.specs.Trees.{shortest, treeFaultOf}
 use Rattle.board.proofs.Shell.{Admitted, refused-answer, refused-left, accepted-answer, cleared-left}
-use Rattle.board.proofs.Lent.{lists-fault, tree-admitted, tree-rooms, list-left, drop-more}
+use Rattle.board.proofs.LentTrees.{lists-fault, tree-admitted, tree-rooms, list-left, drop-more}
 use borrow.Author.Needs.{needs}
 use Rattle.board.proofs.component_tree.Statement.{statement}
 use Rattle.board.proofs.component_tree.Tie as tie
 
 -- the picture of the arguments
 abbrev pictured : tie.Start → Picture
-pictured s = picture (s .args .a) (s .args .w) (s .args .h) (s .args .pixels .now)
+pictured s = pictureOf (s .args .a) (s .args .w) (s .args .h) (s .args .pixels .now)
 
 -- the fault
 abbrev lengths : tie.Start → ℕ

@@ -5,8 +5,7 @@ use Prim.Native.Nat.{ℕ, _*_, _<_}
 use native.Mathlib.Omega.{arith}
 use lib.ListN.{length}
 use Rattle.picture.specs.Lists.{pick}
-use Rattle.picture.specs.Pictures.{Picture, places}
-use Rattle.labels.specs.Labels.{picture}
+use Rattle.picture.specs.Pictures.{Picture, places, pictureOf}
 use Rattle.board.specs.Calls.{placeFaultOf}
 use Rattle.board.proofs.Shell.{workFaultOf, place-enough, Admitted, admitted, refused-answer, refused-left, accepted-answer, lent-length, back-room, behind-lent, cleared-left}
 use borrow.Author.Needs.{needs}
@@ -15,7 +14,7 @@ use Rattle.board.proofs.is_lowerable.Tie as tie
 
 -- the picture of the arguments
 abbrev pictured : tie.Start → Picture
-pictured s = picture (s .args .a) (s .args .w) (s .args .h) (s .args .pixels .now)
+pictured s = pictureOf (s .args .a) (s .args .w) (s .args .h) (s .args .pixels .now)
 
 -- the fault, and the number of pixels
 abbrev fault : tie.Start → ℕ

@@ -43,8 +43,7 @@ use denote.Triple.Spec.{Meets, tripleOf}
 use denote.Triple.Table.{entered, cited}
 use denote.Triple.Walked.{says, Stays, gave-slice, stay-none-slice, stay-none, walkOf, AllGo, goes-gave-slice, goes-none-slice, goes-none, Walks, ends-at, walked, walk-meets}
 use denote.Exit.{yes}
-use Rattle.picture.specs.Pictures.{Picture}
-use Rattle.labels.specs.Labels.{picture}
+use Rattle.picture.specs.Pictures.{Picture, pictureOf}
 use Rattle.patch_records.specs.declared.Patch.{Patch}
 use Rattle.patch_records.specs.Records.{Entries, records}
 use Rattle.patch_records.proofs.Patch as T
@@ -118,7 +117,7 @@ module _ {M : Type 1} (𝓤 : URA M) (H : Heap 𝓤) (A : Atoms 𝓤) (mem : Mem
 module _ {M : Type 1} (𝓤 : URA M) (H : Heap 𝓤) (A : Atoms 𝓤) (W : Given 𝓤 H A) (mem : Memory → SProp 𝓤) (run : Routine → Fun 𝓤) (κ₁ κ₂ κ₃ : Lft) (q₁ q₂ q₃ : Share) (a w h : ℕ) (g : RefT (List ℕ)) (b₂ o₂ : ℕ) (γ₂ : GName) (xs : List Patch) (b₃ o₃ : ℕ) (γ₃ : GName) (ws : List ℕ)
     (a-fits : a < 2 ^ 32) (w-fits : w < 2 ^ 32) (h-fits : h < 2 ^ 32) (room₁ : Room u8 (length (now g))) (room₂ : Room R (length xs)) (room₃ : Room u16 (length ws)) where
   abbrev p : Picture
-  p = picture a w h (now g)
+  p = pictureOf a w h (now g)
 
   -- the number of pixels, and of records in the list
   abbrev n : ℕ

@@ -4,19 +4,18 @@ use mathlib.Core.Bool.{true}
 use Prim.Native.Nat.{ℕ, _≤_, _<_}
 use native.Mathlib.Omega.{arith}
 use lib.ListN.{length, getD}
-use Rattle.picture.specs.Pictures.{Picture, places}
+use Rattle.picture.specs.Pictures.{Picture, places, pictureOf}
 use Rattle.picture.specs.Components.{pass}
-use Rattle.labels.specs.Labels.{picture}
-use Rattle.board.specs.Trees.{treeFaultOf, placesFaultOf, checkedFault, isTree, Lent}
+use Rattle.board.specs.Trees.{treeFaultOf, placesFaultOf, checkedFault, isTree, TreeLent}
 use Rattle.board.proofs.Shell.{Admitted, refused-answer, refused-left, accepted-answer, cleared-left}
-use Rattle.board.proofs.Lent.{lists-fault, tree-admitted, lent-tree, lent-none, places-is, no-places-fault, no-checked-fault, pass-ready, pass-low, tree-entries}
+use Rattle.board.proofs.LentTrees.{lists-fault, tree-admitted, lent-tree, lent-none, places-is, no-places-fault, no-checked-fault, pass-ready, pass-low, tree-entries}
 use borrow.Author.Needs.{needs}
 use Rattle.board.proofs.pass_between.Statement.{statement}
 use Rattle.board.proofs.pass_between.Tie as tie
 
 -- the picture of the arguments
 abbrev pictured : tie.Start → Picture
-pictured s = picture (s .args .a) (s .args .w) (s .args .h) (s .args .pixels .now)
+pictured s = pictureOf (s .args .a) (s .args .w) (s .args .h) (s .args .pixels .now)
 
 -- the fault of the lengths and places, and the whole fault behind a fault f
 abbrev places-of : tie.Start → ℕ
@@ -60,7 +59,7 @@ lends c = tree-admitted _ _ _ _ _ _ (bytes (c .before .before)) (placed c .0) .0
 ready :
     (c : tie.Else1) →
     let s = origin (c .before .before) in
-    Lent 0 (pictured s) (s .args .heights .now) (s .args .fathers .now) (s .args .firsts .now) (s .args .map .now) ×
+    TreeLent 0 (pictured s) (s .args .heights .now) (s .args .fathers .now) (s .args .firsts .now) (s .args .map .now) ×
     (isTree (pictured s) (s .args .count) (s .args .heights .now) (s .args .fathers .now) (s .args .firsts .now) (s .args .map .now) ≡ true)
 ready c =
     (lent-none (placed c .0) (lent-tree _ _ _ _ _ _ (bytes (c .before .before)) _ (λ z. z)), no-checked-fault _ _ _ _ _ _ _ (none c) .1)

@@ -2,8 +2,7 @@
 use mathlib.Core.Path.{_≡_, refl, sym, _∙_}
 use Prim.Native.Nat.{ℕ}
 use native.Mathlib.Omega.{arith}
-use Rattle.picture.specs.Pictures.{Picture}
-use Rattle.labels.specs.Labels.{picture}
+use Rattle.picture.specs.Pictures.{Picture, pictureOf}
 use Rattle.board.specs.Calls.{placeFaultOf, Admits}
 use Rattle.board.proofs.Shell.{admits, refused-query, answered-query}
 use borrow.Author.Needs.{needs}
@@ -12,7 +11,7 @@ use Rattle.board.proofs.query_place.Tie as tie
 
 -- the picture of the arguments
 abbrev pictured : tie.Start → Picture
-pictured s = picture (s .args .a) (s .args .w) (s .args .h) (s .args .pixels .now)
+pictured s = pictureOf (s .args .a) (s .args .w) (s .args .h) (s .args .pixels .now)
 
 -- past the refusal there is no fault
 abbrev origin : tie.Else1 → tie.Start

@@ -3,9 +3,8 @@ use mathlib.Core.Path.{_≡_, refl, sym, _∙_}
 use Prim.Native.Nat.{ℕ, _*_, _≤_}
 use native.Mathlib.Omega.{arith}
 use lib.ListN.{length}
-use Rattle.picture.specs.Pictures.{Picture, places}
+use Rattle.picture.specs.Pictures.{Picture, places, pictureOf}
 use Rattle.topology.proofs.Water.{watershed-watered}
-use Rattle.labels.specs.Labels.{picture}
 use Rattle.board.specs.Calls.{outputFaultOf}
 use Rattle.board.proofs.Shell.{workFaultOf, output-enough, Admitted, admitted, refused-answer, refused-left, accepted-answer, written-over, lent-length, back-room, behind-lent, cleared-left}
 use borrow.Author.Needs.{needs}
@@ -14,7 +13,7 @@ use Rattle.board.proofs.watershed_of.Tie as tie
 
 -- the picture of the arguments
 abbrev pictured : tie.Start → Picture
-pictured s = picture (s .args .a) (s .args .w) (s .args .h) (s .args .pixels .now)
+pictured s = pictureOf (s .args .a) (s .args .w) (s .args .h) (s .args .pixels .now)
 
 -- the fault, and the number of pixels
 abbrev fault : tie.Start → ℕ

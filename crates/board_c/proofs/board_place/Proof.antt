@@ -3,8 +3,7 @@ use mathlib.Core.Path.{_≡_, refl, sym, _∙_}
 use Prim.Native.Nat.{ℕ, _≤_}
 use native.Mathlib.Omega.{arith}
 use lib.ListN.{getD, replicate}
-use Rattle.picture.specs.Pictures.{Picture}
-use Rattle.labels.specs.Labels.{picture}
+use Rattle.picture.specs.Pictures.{Picture, pictureOf}
 use Rattle.board.specs.Calls.{Admits}
 use Rattle.board_c.specs.CalledByC.{placeFaultForCOf}
 use Rattle.board_c.proofs.ForC.{place-refused, place-room, place-admits, place-clears, place-done}
@@ -14,7 +13,7 @@ use Rattle.board_c.proofs.board_place.Tie as tie
 
 -- the picture of the arguments
 abbrev pictured : tie.Start → Picture
-pictured s = picture (s .args .adjacency) (s .args .width) (s .args .height) (s .args .pixels .now)
+pictured s = pictureOf (s .args .adjacency) (s .args .width) (s .args .height) (s .args .pixels .now)
 
 -- past the refusal there is no fault
 abbrev origin : tie.Else1 → tie.Start

@@ -1,7 +1,6 @@
 -- `board::listing::count_patches` meets its contract: the local array has a cell for each pixel.
 use mathlib.Core.Path.{sym, _∙_}
-use Rattle.picture.specs.Pictures.{Picture}
-use Rattle.labels.specs.Labels.{picture}
+use Rattle.picture.specs.Pictures.{Picture, pictureOf}
 use Rattle.board.proofs.PatchLists.{pixels-few, cells-lent, pixels-places}
 use borrow.Author.Needs.{needs}
 use Rattle.board.proofs.listing.count_patches.Statement.{statement}
@@ -9,7 +8,7 @@ use Rattle.board.proofs.listing.count_patches.Tie as tie
 
 -- the picture of the arguments
 abbrev pictured : tie.Start → Picture
-pictured s = picture (s .args .a) (s .args .w) (s .args .h) (s .args .pixels .now)
+pictured s = pictureOf (s .args .a) (s .args .w) (s .args .h) (s .args .pixels .now)
 
 array-borrow-prefix-cells : tie.Need-array-borrow-prefix-cells
 array-borrow-prefix-cells c = let s = c .before in pixels-few (pictured s) (s .pre)

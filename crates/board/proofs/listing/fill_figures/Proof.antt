@@ -3,8 +3,7 @@ use mathlib.Core.Path.{sym, _∙_}
 use Prim.Native.Nat.{_*_}
 use native.Mathlib.Omega.{arith}
 use lib.ListN.{length}
-use Rattle.picture.specs.Pictures.{Picture}
-use Rattle.labels.specs.Labels.{picture}
+use Rattle.picture.specs.Pictures.{Picture, pictureOf}
 use Rattle.board.proofs.Shell.{lent-length}
 use Rattle.board.proofs.PatchLists.{pixels-few, cells-lent, pixels-places, figured}
 use borrow.Author.Needs.{needs}
@@ -13,7 +12,7 @@ use Rattle.board.proofs.listing.fill_figures.Tie as tie
 
 -- the picture of the arguments
 abbrev pictured : tie.Start → Picture
-pictured s = picture (s .args .a) (s .args .w) (s .args .h) (s .args .pixels .now)
+pictured s = pictureOf (s .args .a) (s .args .w) (s .args .h) (s .args .pixels .now)
 
 mul-whole : tie.Need-mul-whole
 mul-whole c = search needs

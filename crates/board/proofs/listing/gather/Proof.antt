@@ -2,8 +2,7 @@
 use mathlib.Core.Path.{_≡_, sym, _∙_}
 use native.Mathlib.Omega.{arith}
 use lib.ListN.{length}
-use Rattle.picture.specs.Pictures.{Picture}
-use Rattle.labels.specs.Labels.{picture}
+use Rattle.picture.specs.Pictures.{Picture, pictureOf}
 use Rattle.board.specs.PatchLists.{listFault}
 use Rattle.board.proofs.Shell.{Admitted, admitted}
 use Rattle.board.proofs.PatchLists.{list-enough, patches-few, gathered-refused, gathered-accepted}
@@ -13,7 +12,7 @@ use Rattle.board.proofs.listing.gather.Tie as tie
 
 -- the picture of the arguments
 abbrev pictured : tie.Start → Picture
-pictured s = picture (s .args .a) (s .args .w) (s .args .h) (s .args .pixels .now)
+pictured s = pictureOf (s .args .a) (s .args .w) (s .args .h) (s .args .pixels .now)
 
 -- past the refusal there is no fault
 abbrev origin : tie.Else1 → tie.Start

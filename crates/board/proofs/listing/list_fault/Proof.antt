@@ -2,8 +2,7 @@
 use mathlib.Core.Path.{_≡_, sym, subst, _∙_}
 use Prim.Native.Nat.{ℕ, _≤_, _<_}
 use native.Mathlib.Omega.{arith}
-use Rattle.picture.specs.Pictures.{Picture}
-use Rattle.labels.specs.Labels.{picture}
+use Rattle.picture.specs.Pictures.{Picture, pictureOf}
 use Rattle.board.proofs.Shell.{workFaultOf, admitted}
 use Rattle.board.proofs.PatchLists.{list-first, list-short, list-none}
 use borrow.Author.Needs.{needs}
@@ -12,7 +11,7 @@ use Rattle.board.proofs.listing.list_fault.Tie as tie
 
 -- the picture of the arguments
 abbrev pictured : tie.Start → Picture
-pictured s = picture (s .args .a) (s .args .w) (s .args .h) (s .args .pixels .now)
+pictured s = pictureOf (s .args .a) (s .args .w) (s .args .h) (s .args .pixels .now)
 
 -- past the first refusal the picture and work have no fault
 none : (c : tie.Else1) → let s = c .before .before .before in workFaultOf (pictured s) (s .args .work) ≡ 0

@@ -1,7 +1,7 @@
 -- `board::trees::tree_fault` meets its contract: a fault stays, and else the answer of the check decides.
 use mathlib.Core.Path.{refl, sym, _∙_}
 use mathlib.Core.Bool.{true, false}
-use Rattle.board.proofs.Lent.{tree-unchecked, tree-checked, answer-tree, lent-none}
+use Rattle.board.proofs.LentTrees.{tree-unchecked, tree-checked, answer-tree, lent-none}
 use borrow.Author.Needs.{needs}
 use Rattle.board.proofs.trees.tree_fault.Statement.{statement}
 use Rattle.board.proofs.trees.tree_fault.Tie as tie

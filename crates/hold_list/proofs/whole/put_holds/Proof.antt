@@ -4,7 +4,7 @@ use Prim.Native.Nat.{ℕ, _*_, _≤_}
 use native.Mathlib.Omega.{arith}
 use lib.ListN.{length, take, replicate, length-replicate}
 use Rattle.topology.proofs.Accepted.{accepted-is, places-bound}
-use Rattle.tree.specs.Frame.{pictureOf}
+use Rattle.picture.specs.Pictures.{pictureOf}
 use Rattle.board.proofs.Shell.{lent-length}
 use borrow.Author.Needs.{needs}
 use Rattle.hold_list.proofs.whole.put_holds.Statement.{statement}

@@ -4,9 +4,8 @@ use mathlib.Core.List.{List}
 use Prim.Native.Nat.{ℕ, _*_, _≤_}
 use native.Mathlib.Omega.{arith}
 use lib.ListN.{length}
-use Rattle.picture.specs.Pictures.{Picture}
+use Rattle.picture.specs.Pictures.{Picture, pictureOf}
 use Rattle.topology.proofs.Accepted.{Accepted, accepted-is}
-use Rattle.tree.specs.Frame.{pictureOf}
 use Rattle.patches.specs.Figures.{PatchMap}
 use Rattle.text.specs.Writing.{Written}
 use Rattle.text.proofs.Writings.{written-then, written-length}

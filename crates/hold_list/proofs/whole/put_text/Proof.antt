@@ -3,12 +3,11 @@ use mathlib.Core.Path.{_≡_, sym, ap, subst, _∙_}
 use mathlib.Core.List.{List}
 use Prim.Native.Nat.{ℕ}
 use native.Mathlib.Omega.{arith}
-use Rattle.picture.specs.Pictures.{isPicture}
-use Rattle.tree.specs.Frame as frame
+use Rattle.picture.specs.Pictures.{isPicture, pictureOf}
 use Rattle.p5.specs.Files.{readFile, numberOf}
 use Rattle.p5.proofs.Answers.{answer-within}
 use Rattle.text.specs.Writing.{Written}
-use Rattle.hold_list.specs.HoldText.{refusedLine, pictureOf, holdList}
+use Rattle.hold_list.specs.HoldText.{refusedLine, pictureIn, holdList}
 use Rattle.hold_list.proofs.Figured.{from}
 use Rattle.hold_list.proofs.Texts.{text-long, text-refused, text-list, file-picture, read-picture}
 use borrow.Author.Needs.{needs}
@@ -23,7 +22,7 @@ none : (c : tie.Else2) → numberOf (readFile (origin c .args .file .now)) ≡ 0
 none c = sym (c .before .read-file .ensures .number) ∙ c .if2 .left
 
 -- the picture that is lent is that of the file
-lent : (c : tie.Else2) → let r = c .before .read-file .result in frame.pictureOf 4 (r .width) (r .height) (from (r .offset) (origin c .args .file .now)) ≡ pictureOf (origin c .args .file .now)
+lent : (c : tie.Else2) → let r = c .before .read-file .result in pictureOf 4 (r .width) (r .height) (from (r .offset) (origin c .args .file .now)) ≡ pictureIn (origin c .args .file .now)
 lent c =
     let r = c .before .read-file in
     read-picture (origin c .args .file .now) (r .result .width) (r .result .height) (r .result .offset) (r .ensures .width) (r .ensures .height) (r .ensures .offset)

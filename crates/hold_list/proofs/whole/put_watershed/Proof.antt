@@ -3,8 +3,7 @@ use mathlib.Core.Path.{subst, _∙_}
 use mathlib.Core.List.{List}
 use Prim.Native.Nat.{ℕ}
 use native.Mathlib.Omega.{arith}
-use Rattle.picture.specs.Pictures.{Picture}
-use Rattle.tree.specs.Frame.{pictureOf}
+use Rattle.picture.specs.Pictures.{Picture, pictureOf}
 use Rattle.text.specs.Writing.{Written}
 use Rattle.hold_list.proofs.Texts.{water-picture, holds-are}
 use borrow.Author.Needs.{needs}

@@ -4,16 +4,15 @@ use mathlib.Core.Path.{_≡_, _∙_}
 use Prim.Native.Nat.{ℕ, suc, _+_, _*_, _-_, _≤_}
 use native.Mathlib.Omega.{arith}
 use lib.ListN.{set, length-set}
-use Rattle.picture.specs.Pictures.{Picture}
+use Rattle.picture.specs.Pictures.{Picture, pictureOf}
 use Rattle.topology.proofs.Flood.{unmarked}
-use Rattle.labels.specs.Labels.{picture}
 use Rattle.labels.proofs.Floods.{Flowing, seed-some, flowing-start, flowing-top, flowing-room, flowing-turn, flowing-end}
 use Rattle.labels.proofs.flood.flood.Statement.{statement}
 use Rattle.labels.proofs.flood.flood.Tie as tie
 
 abbrev Inv-loop : tie.InvT-loop
 Inv-loop a w h pixels k x c labels₀ stack₀ t₀ labels stack t =
-    Flowing (picture a w h pixels) k x c (set labels₀ x 0) stack₀ labels stack t
+    Flowing (pictureOf a w h pixels) k x c (set labels₀ x 0) stack₀ labels stack t
 
 abbrev μ-loop : tie.MeasureT-loop
 μ-loop a w h pixels k x c labels₀ stack₀ t₀ labels stack t = 2 * unmarked labels + t
@@ -22,7 +21,7 @@ abbrev μ-loop : tie.MeasureT-loop
 abbrev pictured : tie.At-loop Inv-loop μ-loop → Picture
 pictured c =
     let s = c .before .before .before .before in
-    picture (s .args .a) (s .args .w) (s .args .h) (s .args .pixels .now)
+    pictureOf (s .args .a) (s .args .w) (s .args .h) (s .args .pixels .now)
 
 mul-labels : tie.Need-mul-labels Inv-loop μ-loop
 mul-labels c = search needs
@@ -39,7 +38,7 @@ slice-write-stack c = search needs
 loop-holds : tie.Need-loop-holds Inv-loop μ-loop
 loop-holds c =
     let s = c .before .before .before in
-    flowing-start (picture (s .args .a) (s .args .w) (s .args .h) (s .args .pixels .now)) _ _ _ _ _ (s .pre .1) (s .pre .2)
+    flowing-start (pictureOf (s .args .a) (s .args .w) (s .args .h) (s .args .pixels .now)) _ _ _ _ _ (s .pre .1) (s .pre .2)
 
 sub-wide : tie.Need-sub-wide Inv-loop μ-loop
 sub-wide c = search needs

@@ -7,14 +7,14 @@ use lib.ListN.{drop, getD}
 use Rattle.picture.proofs.Neighbours.{neighbour-at}
 use Rattle.labels.proofs.Floods.{listed-at, spread-none, spread-next, spread-end}
 use Rattle.picture.specs.Geometry.{neighboursOf}
-use Rattle.labels.specs.Labels.{picture}
+use Rattle.picture.specs.Pictures.{pictureOf}
 use Rattle.labels.specs.Floods.{Spread}
 use Rattle.labels.proofs.flood.spread.Statement.{statement}
 use Rattle.labels.proofs.flood.spread.Tie as tie
 
 abbrev Inv-loop : tie.InvT-loop
 Inv-loop a w h pixels k x c labels₀ stack₀ top near count t₀ i₀ labels stack t i =
-    (i ≤ count) × Spread (picture a w h pixels) k c x (neighboursOf a w h x) (drop i (neighboursOf a w h x)) labels₀ stack₀ top labels stack t
+    (i ≤ count) × Spread (pictureOf a w h pixels) k c x (neighboursOf a w h x) (drop i (neighboursOf a w h x)) labels₀ stack₀ top labels stack t
 
 abbrev μ-loop : tie.MeasureT-loop
 μ-loop a w h pixels k x c labels₀ stack₀ top near count t₀ i₀ labels stack t i = count - i
@@ -51,7 +51,7 @@ visit-requires : tie.Need-visit-requires Inv-loop μ-loop
 visit-requires c κs =
     let top = c .before .before .before .before in
     let s = top .before .before .before .before .before .before .before in
-    let p = picture (s .args .a) (s .args .w) (s .args .h) (s .args .pixels .now) in
+    let p = pictureOf (s .args .a) (s .args .w) (s .args .h) (s .args .pixels .now) in
     let n = top .before .before .neighbours .ensures .count in
     let size = s .pre .1 .pixel in (
       search needs,
@@ -69,7 +69,7 @@ loop-again c =
     let v = c .before .before .before .before in
     let top = v .before .before .before .before .before in
     let s = top .before .before .before .before .before .before .before in
-    let p = picture (s .args .a) (s .args .w) (s .args .h) (s .args .pixels .now) in
+    let p = pictureOf (s .args .a) (s .args .w) (s .args .h) (s .args .pixels .now) in
     let n = top .before .before .neighbours .ensures .count in (
       search needs,
       spread-next p _ _ _ (top .loop .i) _ _ _ _ _ _ _ _ _ _ (s .pre .1) (omega arith) (near-is (v .before .before .before)) (s .pre .2)
@@ -86,7 +86,7 @@ returns : tie.Need-returns Inv-loop μ-loop
 returns c =
     let top = c .before in
     let s = top .before .before .before .before .before .before .before in
-    let p = picture (s .args .a) (s .args .w) (s .args .h) (s .args .pixels .now) in
+    let p = pictureOf (s .args .a) (s .args .w) (s .args .h) (s .args .pixels .now) in
     let n = top .before .before .neighbours .ensures .count in
     spread-end p _ _ _ (top .loop .i) _ _ _ _ _ _ (omega arith) (top .loop .inv .1)
 

@@ -8,7 +8,7 @@ use lib.ListN.{length, getD}
 use Rattle.picture.specs.Geometry.{neighboursOf}
 use Rattle.picture.proofs.Neighbours.{neighbour-at}
 use Rattle.topology.proofs.Agreeing.{Common, common-start, common-turn}
-use Rattle.labels.specs.Labels.{picture}
+use Rattle.picture.specs.Pictures.{pictureOf}
 use Rattle.labels.proofs.Floods.{listed-at}
 use Rattle.labels.proofs.lowerable.common_label.Statement.{statement}
 use Rattle.labels.proofs.lowerable.common_label.Tie as tie
@@ -31,7 +31,7 @@ near-is c =
     let s = top .before .before .before .before .before in
     let e = c .wide .ensures ∙ listed-at _ _ _ _ (top .before .before .neighbours .ensures) (top .loop .i) (c .before .loop-test .taken) in
     let n = top .before .before .neighbours .ensures .count in
-    (e, omega (arith, neighbour-at (picture (s .args .a) (s .args .w) (s .args .h) []) (s .args .x) (top .loop .i) (omega arith) .0))
+    (e, omega (arith, neighbour-at (pictureOf (s .args .a) (s .args .w) (s .args .h) []) (s .args .x) (top .loop .i) (omega arith) .0))
 
 slice-aggregate-neighbours : tie.Need-slice-aggregate-neighbours Inv-loop μ-loop
 slice-aggregate-neighbours c = search needs

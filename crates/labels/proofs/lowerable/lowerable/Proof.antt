@@ -2,8 +2,7 @@
 use Prim.Native.Nat.{ℕ}
 use native.Mathlib.Omega.{arith}
 use lib.ListN.{length-replicate}
-use Rattle.picture.specs.Pictures.{Picture}
-use Rattle.labels.specs.Labels.{picture}
+use Rattle.picture.specs.Pictures.{Picture, pictureOf}
 use Rattle.labels.proofs.Scans.{picture-size, picture-placed}
 use Rattle.labels.proofs.Lowering.{stack-ready, labels-small, value-none, lower-end}
 use borrow.Author.Needs.{needs}
@@ -12,7 +11,7 @@ use Rattle.labels.proofs.lowerable.lowerable.Tie as tie
 
 -- the picture of the arguments
 abbrev pictured : tie.Start → Picture
-pictured s = picture (s .args .a) (s .args .w) (s .args .h) (s .args .pixels .now)
+pictured s = pictureOf (s .args .a) (s .args .w) (s .args .h) (s .args .pixels .now)
 
 shared-slice-read-value : tie.Need-shared-slice-read-value
 shared-slice-read-value c =

@@ -4,22 +4,22 @@ use mathlib.Core.Path.{_≡_, _∙_}
 use Prim.Native.Nat.{ℕ, _-_, _≤_}
 use native.Mathlib.Omega.{arith}
 use lib.ListN.{length}
-use Rattle.picture.specs.Pictures.{Picture}
-use Rattle.labels.specs.Labels.{picture, Scanned}
+use Rattle.picture.specs.Pictures.{Picture, pictureOf}
+use Rattle.labels.specs.Labels.{Scanned}
 use Rattle.labels.proofs.Scans.{picture-size, scan-start, scan-ready, scan-turn, scan-end}
 use Rattle.labels.proofs.scan.label.Statement.{statement}
 use Rattle.labels.proofs.scan.label.Tie as tie
 
 abbrev Inv-loop : tie.InvT-loop
 Inv-loop a w h pixels k labels₀ stack₀ n c₀ x₀ labels stack c x =
-    (x ≤ n) × (length stack ≡ length stack₀) × Scanned (picture a w h pixels) k x c labels stack₀ stack
+    (x ≤ n) × (length stack ≡ length stack₀) × Scanned (pictureOf a w h pixels) k x c labels stack₀ stack
 
 abbrev μ-loop : tie.MeasureT-loop
 μ-loop a w h pixels k labels₀ stack₀ n c₀ x₀ labels stack c x = n - x
 
 -- the picture of the arguments
 abbrev pictured : tie.Start Inv-loop μ-loop → Picture
-pictured s = picture (s .args .a) (s .args .w) (s .args .h) (s .args .pixels .now)
+pictured s = pictureOf (s .args .a) (s .args .w) (s .args .h) (s .args .pixels .now)
 
 clear-requires : tie.Need-clear-requires Inv-loop μ-loop
 clear-requires c κs =

@@ -2,8 +2,7 @@
 use mathlib.Core.Path.{_≡_, sym, _∙_}
 use native.Mathlib.Omega.{arith}
 use borrow.Author.Tests.{not-true, not-false}
-use Rattle.picture.specs.Pictures.{Picture}
-use Rattle.labels.specs.Labels.{picture}
+use Rattle.picture.specs.Pictures.{Picture, pictureOf}
 use Rattle.labels.proofs.Scans.{picture-size, picture-placed, ready-room, scan-outside, scan-labelled, scan-count, scan-seed, scan-flood}
 use borrow.Author.Needs.{needs}
 use Rattle.labels.proofs.scan.label_place.Statement.{statement}
@@ -11,7 +10,7 @@ use Rattle.labels.proofs.scan.label_place.Tie as tie
 
 -- the picture of the arguments
 abbrev pictured : tie.Start → Picture
-pictured s = picture (s .args .a) (s .args .w) (s .args .h) (s .args .pixels .now)
+pictured s = pictureOf (s .args .a) (s .args .w) (s .args .h) (s .args .pixels .now)
 
 shared-slice-read-in-section : tie.Need-shared-slice-read-in-section
 shared-slice-read-in-section c =

@@ -1,7 +1,7 @@
 -- `patches::figures::figures` meets its contract: the numbers, the patch of each place, the depths and heights, the sums.
 use mathlib.Core.Path.{_∙_}
 use borrow.Author.Needs.{needs}
-use Rattle.tree.specs.Frame.{pictureOf}
+use Rattle.picture.specs.Pictures.{pictureOf}
 use Rattle.patches.proofs.Figuring.{tree-mapped, tree-few, tree-pixels, numbered-mapped, numbered-size, patched-frame, figures-all}
 use Rattle.patches.proofs.figures.figures.Statement.{statement}
 use Rattle.patches.proofs.figures.figures.Tie as tie

@@ -3,7 +3,7 @@ use Prim.Native.Nat.{_-_, _≤_}
 use native.Mathlib.Omega.{arith}
 use borrow.Author.Needs.{needs}
 use Rattle.topology.proofs.Accepted.{accepted-is}
-use Rattle.tree.specs.Frame.{pictureOf}
+use Rattle.picture.specs.Pictures.{pictureOf}
 use Rattle.patches.specs.Minima.{Counting}
 use Rattle.patches.proofs.Floods.{counting-start, counting-end}
 use Rattle.patches.proofs.minima.count_minima.Statement.{statement}

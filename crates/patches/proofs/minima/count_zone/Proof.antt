@@ -1,7 +1,7 @@
 -- `patches::minima::count_zone` meets its contract: each return is one law of the count.
 use native.Mathlib.Omega.{arith}
 use borrow.Author.Needs.{needs}
-use Rattle.tree.specs.Frame.{pictureOf}
+use Rattle.picture.specs.Pictures.{pictureOf}
 use Rattle.patches.proofs.Floods.{counting-few, counting-pixels, counting-placed, counting-sizes, counting-seed, counting-seen, counting-lower, counting-minimum}
 use Rattle.patches.proofs.minima.count_zone.Statement.{statement}
 use Rattle.patches.proofs.minima.count_zone.Tie as tie

@@ -4,7 +4,7 @@ use native.Mathlib.Omega.{arith}
 use lib.ListN.{set}
 use borrow.Author.Needs.{needs}
 use Rattle.topology.proofs.ZoneScan.{unvisited}
-use Rattle.tree.specs.Frame.{pictureOf}
+use Rattle.picture.specs.Pictures.{pictureOf}
 use Rattle.patches.proofs.Floods.{Running, running-start, running-top, running-turn, running-end}
 use Rattle.patches.proofs.minima.flood.Statement.{statement}
 use Rattle.patches.proofs.minima.flood.Tie as tie

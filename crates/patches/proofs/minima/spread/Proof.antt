@@ -6,7 +6,7 @@ use lib.ListN.{getD, drop}
 use borrow.Author.Needs.{needs}
 use Rattle.picture.specs.Geometry.{neighboursOf, Placed}
 use Rattle.picture.proofs.Neighbours.{neighbour-at}
-use Rattle.tree.specs.Frame.{pictureOf}
+use Rattle.picture.specs.Pictures.{pictureOf}
 use Rattle.patches.specs.Minima.{Spread}
 use Rattle.patches.proofs.Floods.{listed-at, spread-none, spread-next, spread-room, spread-turn}
 use Rattle.patches.proofs.minima.spread.Statement.{statement}

@@ -1,7 +1,7 @@
 -- `patches::numbers::patch_of` meets its contract: the leaves are numbered, and the place has the number of its node.
 use mathlib.Core.Path.{_∙_}
 use borrow.Author.Needs.{needs}
-use Rattle.tree.specs.Frame.{pictureOf}
+use Rattle.picture.specs.Pictures.{pictureOf}
 use Rattle.patches.proofs.Figuring.{tree-mapped, tree-few, tree-pixels, numbered-mapped, numbered-size, numbered-patch}
 use Rattle.patches.proofs.numbers.patch_of.Statement.{statement}
 use Rattle.patches.proofs.numbers.patch_of.Tie as tie

@@ -1,5 +1,5 @@
 -- `tree::absorb::absorb` meets its contract.
-use Rattle.tree.specs.Frame.{pictureOf}
+use Rattle.picture.specs.Pictures.{pictureOf}
 use Rattle.topology.proofs.Walks.{Joining, joining-start, joining-turn, joining-end, edge-ready, listed-cell, ready-placed, ready-parents}
 use lib.ListN.{getD}
 use mathlib.Core.Path.{ap, _∙_}

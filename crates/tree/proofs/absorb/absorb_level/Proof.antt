@@ -1,5 +1,5 @@
 -- `tree::absorb::absorb_level` meets its contract.
-use Rattle.tree.specs.Frame.{pictureOf}
+use Rattle.picture.specs.Pictures.{pictureOf}
 use Rattle.topology.proofs.Walks.{Ready, ready-end}
 use Rattle.topology.proofs.Forests.{Block, block-same, block-then}
 use mathlib.Core.Path.{sym, _∙_}

@@ -1,6 +1,6 @@
 -- `tree::build::build_exactly` meets its contract.
 use Rattle.tree.proofs.Trees.{tree-settled}
-use Rattle.tree.specs.Frame.{pictureOf}
+use Rattle.picture.specs.Pictures.{pictureOf}
 use Rattle.topology.proofs.Settling.{settle-ready, settled}
 use Rattle.topology.proofs.Buckets.{thread-ready, fits-of}
 use borrow.Author.Needs.{needs}

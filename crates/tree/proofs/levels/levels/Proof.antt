@@ -1,5 +1,5 @@
 -- `tree::levels::levels` meets its contract.
-use Rattle.tree.specs.Frame.{pictureOf}
+use Rattle.picture.specs.Pictures.{pictureOf}
 use Rattle.topology.proofs.Buckets.{head-next}
 use Rattle.topology.proofs.Mapped.{Between, between-same}
 use mathlib.Core.Path.{sym, _∙_}

@@ -1,7 +1,7 @@
 -- `verify::check::check_levels` meets its contract.
 use Rattle.verify.proofs.Heights.{sizes-at, level-stop, level-all}
 use Rattle.verify.specs.Steps.{Verified}
-use Rattle.tree.specs.Frame.{pictureOf}
+use Rattle.picture.specs.Pictures.{pictureOf}
 use mathlib.Core.Path.{sym, _∙_}
 use native.Mathlib.Omega.{arith}
 use Prim.Native.Nat.{_-_, _≤_}

@@ -1,6 +1,6 @@
 -- `verify::check::is_tree_exactly` meets its contract.
 use Rattle.verify.proofs.Heights.{verified-start, sizes-of, says-none, says-many, says-count, says-father, says-tree}
-use Rattle.tree.specs.Frame.{pictureOf}
+use Rattle.picture.specs.Pictures.{pictureOf}
 use mathlib.Core.Path.{_∙_}
 use native.Mathlib.Omega.{arith}
 use Prim.Native.Nat.{_-_}

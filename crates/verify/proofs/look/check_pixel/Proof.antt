@@ -1,5 +1,5 @@
 -- `verify::look::check_pixel` meets its contract.
-use Rattle.tree.specs.Frame.{pictureOf}
+use Rattle.picture.specs.Pictures.{pictureOf}
 use Rattle.topology.proofs.Looks.{Looking, passed-yes, passed-not, checking-placed, checking-parents, look-start, look-ready, look-turn, look-differs, look-end, look-pass}
 use Rattle.topology.proofs.Walks.{listed-cell}
 use mathlib.Core.Path.{sym, _∙_}

@@ -1,6 +1,6 @@
 -- `verify::look::check_pixels` meets its contract.
 use Rattle.verify.proofs.Answers.{checking-at}
-use Rattle.tree.specs.Frame.{pictureOf}
+use Rattle.picture.specs.Pictures.{pictureOf}
 use Rattle.topology.proofs.Looks.{passed-yes, passed-not}
 use Rattle.topology.proofs.Checks.{Checking}
 use borrow.Author.Tests.{not-true, not-false}

@@ -6,9 +6,8 @@ use Prim.Native.Nat.{ℕ, _*_, _≤_, _<_}
 use native.Mathlib.Omega.{arith}
 use lib.ListN.{length, getD, take, drop}
 use lib.Seq.{getD-drop}
-use Rattle.picture.specs.Pictures.{Picture, places}
+use Rattle.picture.specs.Pictures.{Picture, places, pictureOf}
 use Rattle.picture.specs.Watersheds.{watershed}
-use Rattle.tree.specs.Frame.{pictureOf}
 use Rattle.topology.proofs.Accepted.{accepted-is, places-bound}
 use Rattle.topology.proofs.Running.{Running, Nobody, measure, places-most}
 use Rattle.topology.proofs.Turns.{running-end}

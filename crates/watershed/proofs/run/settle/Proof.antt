@@ -4,8 +4,7 @@ use mathlib.Core.List.{[]}
 use Prim.Native.Nat.{ℕ, _*_, _≤_, _<_}
 use native.Mathlib.Omega.{arith}
 use lib.ListN.{length, getD, take, length-set}
-use Rattle.picture.specs.Pictures.{Picture, places}
-use Rattle.tree.specs.Frame.{pictureOf}
+use Rattle.picture.specs.Pictures.{Picture, places, pictureOf}
 use Rattle.topology.proofs.Stopping.{Around, Lowest, Stopped, listed-around, around-places}
 use Rattle.topology.proofs.Running.{places-most, settle-stays}
 use Rattle.topology.proofs.Lending.{fall-winner, fall-lent, fall-back}

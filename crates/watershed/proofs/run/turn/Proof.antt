@@ -1,5 +1,5 @@
 -- `watershed::run::turn` meets its contract: the winner's leaf is unset, and the winner settled.
-use Rattle.tree.specs.Frame.{pictureOf}
+use Rattle.picture.specs.Pictures.{pictureOf}
 use Rattle.topology.proofs.Lending.{size-back}
 use mathlib.Core.Path.{_≡_, refl}
 use mathlib.Core.Logic.{inr}

@@ -1,7 +1,7 @@
 -- `watershed::whole::plant` meets its contract: an accepted picture has at most 1,600 places.
 use native.Mathlib.Omega.{arith}
 use Rattle.topology.proofs.Accepted.{accepted-is, places-bound}
-use Rattle.tree.specs.Frame.{pictureOf}
+use Rattle.picture.specs.Pictures.{pictureOf}
 use borrow.Author.Needs.{needs}
 use Rattle.watershed.proofs.whole.plant.Statement.{statement}
 use Rattle.watershed.proofs.whole.plant.Tie as tie

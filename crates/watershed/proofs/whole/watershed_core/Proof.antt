@@ -1,7 +1,7 @@
 -- `watershed::whole::watershed_core` meets its contract: the tree is that of the pixels, and so is the copy that is lowered.
 use mathlib.Core.Path.{_≡_, sym, _∙_}
 use Rattle.topology.proofs.Accepted.{accepted-is}
-use Rattle.tree.specs.Frame.{pictureOf}
+use Rattle.picture.specs.Pictures.{pictureOf}
 use borrow.Author.Needs.{needs}
 use Rattle.watershed.proofs.whole.watershed_core.Statement.{statement}
 use Rattle.watershed.proofs.whole.watershed_core.Tie as tie

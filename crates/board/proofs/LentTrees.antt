@@ -20,11 +20,11 @@ use Rattle.topology.proofs.Nodes.{nodes-few}
 use Rattle.topology.proofs.Grid.{pass-byte}
 use Rattle.topology.proofs.TreeLists.{length-heights, length-fathers, length-firsts, length-map-of, heights-at, fathers-at, firsts-at, map-at}
 use Rattle.tree.specs.Lists.{Rooms, InFront}
-use Rattle.verify.specs.Lent.{IsTree, Says}
+use Rattle.verify.specs.Lent.{HoldsTree, Says}
 use Rattle.verify.specs.Climbs.{PassReady}
 use Rattle.board.specs.Faults.{outputFault}
 use Rattle.board.specs.Calls.{over, afterCall}
-use Rattle.board.specs.Trees.{begins, isTree, shortest, treeFaultOf, placesFaultOf, checkedFault, Lent}
+use Rattle.board.specs.Trees.{begins, isTree, shortest, treeFaultOf, placesFaultOf, checkedFault, TreeLent}
 use Rattle.board.proofs.Shell.{Admitted, admitted, workFaultOf, output-enough, written-left, first-some, first-none, first-zero, when-zero}
 
 -- a list begins with another: entry by entry
@@ -48,12 +48,12 @@ begun : (xs ys : List ℕ) (n : ℕ) → length xs ≡ n → n ≤ length ys →
 begun xs ys n e h f = at-begins xs ys (omega arith) (λ i l. f i (omega arith))
 
 -- the lists of a call with no fault
-pub lent-none : {f : ℕ} {p : Picture} {hs fs ss m : List ℕ} → f ≡ 0 → Lent f p hs fs ss m → Lent 0 p hs fs ss m
-lent-none {f} {p} {hs} {fs} {ss} {m} z l = subst (λ (g : ℕ). Lent g p hs fs ss m) z l
+pub lent-none : {f : ℕ} {p : Picture} {hs fs ss m : List ℕ} → f ≡ 0 → TreeLent f p hs fs ss m → TreeLent 0 p hs fs ss m
+lent-none {f} {p} {hs} {fs} {ss} {m} z l = subst (λ (g : ℕ). TreeLent g p hs fs ss m) z l
 
 module _ (p : Picture) (count : ℕ) (hs fs ss m : List ℕ) where
   -- the test holds exactly for the tree
-  pub tree-entries : isTree p count hs fs ss m ≡ true → IsTree p count hs fs ss m
+  pub tree-entries : isTree p count hs fs ss m ≡ true → HoldsTree p count hs fs ss m
   unfolding isTree
   tree-entries e =
       let n = length (nodes p) in
@@ -68,8 +68,8 @@ module _ (p : Picture) (count : ℕ) (hs fs ss m : List ℕ) where
         map = λ x h. entries (treeOf p .map) m (places p) (length-map-of p) (and-right (begins (treeOf p .firsts) ss) _ e₃) x h ∙ map-at p x h;
       }
 
-  module _ (lent : Lent 0 p hs fs ss m) where
-    pub entries-tree : IsTree p count hs fs ss m → isTree p count hs fs ss m ≡ true
+  module _ (lent : TreeLent 0 p hs fs ss m) where
+    pub entries-tree : HoldsTree p count hs fs ss m → isTree p count hs fs ss m ≡ true
     unfolding isTree
     entries-tree t =
         let n = length (nodes p) in
@@ -137,7 +137,7 @@ module _ (p : Picture) (hs fs ss m q : List ℕ) (bytes : (i : ℕ) → getD (p 
       (admitted p (length q) (e .0) bytes, e .1)
 
   -- the lists of a call whose fault f is no less than that of the lengths
-  pub lent-tree : (f : ℕ) → (f ≡ 0 → treeFaultOf p hs fs ss m q ≡ 0) → Lent f p hs fs ss m
+  pub lent-tree : (f : ℕ) → (f ≡ 0 → treeFaultOf p hs fs ss m q ≡ 0) → TreeLent f p hs fs ss m
   lent-tree f g =
       record {
         accepted = λ z. tree-admitted (g z) .0 .picture;
@@ -170,7 +170,7 @@ no-places-fault p hs fs ss m q x y e =
 
 -- a tree and two places of its picture, ready for the pass
 pub pass-ready :
-    (p : Picture) (count : ℕ) (hs fs ss m : List ℕ) (x y : ℕ) → Lent 0 p hs fs ss m → isTree p count hs fs ss m ≡ true → x < places p → y < places p →
+    (p : Picture) (count : ℕ) (hs fs ss m : List ℕ) (x y : ℕ) → TreeLent 0 p hs fs ss m → isTree p count hs fs ss m ≡ true → x < places p → y < places p →
     PassReady (p .pixels) count hs fs m x y
 pass-ready p count hs fs ss m x y l e bx by =
     let t = tree-entries p count hs fs ss m e in
