@@ -1,12 +1,13 @@
 -- Demand 3 in what the tree call and the pass call answer for a picture and for its watershed.
 use mathlib.Core.Path.{_≡_, refl, sym, ap, ap₂, subst, _∙_}
 use mathlib.Core.Bool.{Bool, true, false}
-use mathlib.Core.Logic.{_⊎_, ⊎-elim}
-use mathlib.Core.List.{List, _++_, map, List·Memᴰ}
-use Prim.Native.Nat.{ℕ, _+_, _≤_, _<_}
+use mathlib.Core.Logic.{_⊎_, ⊎-elim, _↔_}
+use mathlib.Core.List.{List, [], _∷_, _++_, map, List·Memᴰ}
+use Prim.Native.Nat.{ℕ, suc, _+_, _≤_, _<_}
 use native.Mathlib.Omega.{arith}
 use lib.ListN.{length, getD, drop, length-map, List·getD-append}
 use lib.Seq.{ext-getD}
+use lib.Dec.{eqb}
 use borrow.Author.Tests.{eq-eqb}
 use Rattle.picture.specs.Lists.{pick, tally, range}
 use Rattle.picture.specs.Pictures.{Picture, places, allBytes, isPicture}
@@ -14,14 +15,18 @@ use Rattle.picture.specs.Components.{pass}
 use Rattle.picture.specs.Trees.{Node, nodes, nodeAt, fatherOf, treeOf}
 use Rattle.picture.specs.Patches.{patchAt}
 use Rattle.picture.specs.Kept.{partners, Kept}
+use Rattle.topology.proofs.Tests.{and-both}
 use Rattle.topology.proofs.Lists.{tally-map, tally-same, length-range, range-mem, getD-map-range}
 use Rattle.topology.proofs.Nodes.{node-is}
 use Rattle.topology.proofs.Fathers.{father-found}
+use Rattle.topology.proofs.Accepted.{accepted-is}
+use Rattle.topology.proofs.Tree.{one-root}
 use Rattle.topology.proofs.TreeLists.{length-heights, length-fathers, length-firsts, heights-at, fathers-at, firsts-at}
 use Rattle.board.specs.declared.Answer.{Answer}
-use Rattle.board.specs.Calls.{over, afterCall}
-use Rattle.board.specs.Trees.{treeFaultOf, placesFaultOf, checkedFault, TreeSays, PassSays}
+use Rattle.board.specs.Calls.{over, afterCall, WaterSays}
+use Rattle.board.specs.Trees.{begins, isTree, treeFaultOf, placesFaultOf, checkedFault, TreeSays, PassSays}
 use Rattle.board.specs.Answers.{answeredNode, TreesKept}
+use Rattle.board.proofs.Demands.{leftBy, accepted-of-call, demand-3-of-call}
 use Rattle.board.proofs.LentTrees.{no-places-fault, no-checked-fault}
 
 -- a list by its indices
@@ -37,6 +42,15 @@ in-front : (f : ℕ) (xs old new : List ℕ) → f ≡ 0 → new ≡ afterCall f
 in-front f xs old new z e i h =
     ap (λ (l : List ℕ). getD l i 0) (e ∙ ap (λ (t : Bool). pick t (over xs old) old) (eq-eqb f 0 z)) ∙
     List·getD-append xs (drop (length xs) old) 0 i h
+
+-- such a list begins with the other
+begins-append : (xs ys : List ℕ) → begins xs (xs ++ ys) ≡ true
+begins-append [] ys = refl
+begins-append (x ∷ xs) ys = and-both (eqb x x) _ (eq-eqb x x refl) (begins-append xs ys)
+
+begins-front : (f : ℕ) (xs old new : List ℕ) → f ≡ 0 → new ≡ afterCall f (over xs old) old → begins xs new ≡ true
+begins-front f xs old new z e =
+    ap (begins xs) (e ∙ ap (λ (t : Bool). pick t (over xs old) old) (eq-eqb f 0 z)) ∙ begins-append xs (drop (length xs) old)
 
 -- what an unrefused tree call answers, node by node
 module _ (p : Picture) (hs hs′ fs fs′ ss ss′ m m′ q q′ : List ℕ) (r : Answer) (says : TreeSays p hs hs′ fs fs′ ss ss′ m m′ q q′ r) (unrefused : r .number ≡ 0) where
@@ -68,7 +82,15 @@ father-in : (p : Picture) (i : ℕ) → i < length (nodes p) → fatherOf p (nod
 father-in p i h l =
     ⊎-elim (λ b. b) (λ e. absurd (let g = e .0 in omega arith)) (father-found p (nodeAt p i) (node-is p i h))
 
-module _ (f a : Picture) (n : ℕ) (hs fs ss : List ℕ) (l : ℕ) (gs es ts : List ℕ) (F : AnsweredTree f n hs fs ss) (A : AnsweredTree a l gs es ts) (kept : Kept f a) where
+-- the last node is the one root
+root-is :
+    (p : Picture) → isPicture p ≡ true → (n : ℕ) (hs fs ss : List ℕ) → AnsweredTree p n hs fs ss → (i : ℕ) → i < n → (getD fs i 0 ≡ 65535) ↔ (suc i ≡ n)
+root-is p ok n hs fs ss t i h =
+    let b : i < length (nodes p) = subst (λ (k : ℕ). i < k) (t .count) h in
+    let r = one-root p (accepted-is p ok) i b in
+    (λ e. r .0 (sym (t .father i b) ∙ e) ∙ sym (t .count), λ e. t .father i b ∙ r .1 (e ∙ t .count))
+
+module _ (f a : Picture) (n : ℕ) (hs fs ss : List ℕ) (l : ℕ) (gs es ts : List ℕ) (F : AnsweredTree f n hs fs ss) (A : AnsweredTree a l gs es ts) (ok : isPicture f ≡ true) (kept : Kept f a) where
   left : (i : ℕ) → i < n → i < length (nodes f)
   left i h = subst (λ (k : ℕ). i < k) (F .count) h
 
@@ -107,10 +129,13 @@ module _ (f a : Picture) (n : ℕ) (hs fs ss : List ℕ) (l : ℕ) (gs es ts : L
             let ej = A .father j bj in
             let si : fatherOf f (nodeAt f i) < 65535 = omega (arith, s, ei) in
             let (sj, t) = kept .fathers i j bi bj (sym (both i j bi bj) ∙ e) si in (
-              omega (arith, sj, ej),
+              omega (arith, ei, father-in f i bi si, F .count),
+              omega (arith, ej, father-in a j bj sj, A .count),
               ap₂ (λ (u v : ℕ). partners f a (answeredNode hs ss u) (answeredNode gs ts v)) ei ej ∙
                   (both (fatherOf f (nodeAt f i)) (fatherOf a (nodeAt a j)) (father-in f i bi si) (father-in a j bj sj) ∙ t),
             );
+        root = λ i h. root-is f ok n hs fs ss F i h;
+        root-after = λ j h. root-is a (kept .accepted) l gs es ts A j h;
         root-partners =
             λ i j hi hj ri rj.
             let bi = left i hi in
@@ -125,11 +150,11 @@ module _ (f a : Picture) (n : ℕ) (hs fs ss : List ℕ) (l : ℕ) (gs es ts : L
 
 -- the trees that two unrefused calls answer, for a picture and for one that keeps it
 pub demand-3-of-trees :
-    (f a : Picture) → Kept f a →
+    (f a : Picture) → isPicture f ≡ true → Kept f a →
     (hs hs′ fs fs′ ss ss′ m m′ q q′ : List ℕ) (r : Answer) → TreeSays f hs hs′ fs fs′ ss ss′ m m′ q q′ r → r .number ≡ 0 →
     (gs gs′ es es′ ts ts′ k k′ w w′ : List ℕ) (s : Answer) → TreeSays a gs gs′ es es′ ts ts′ k k′ w w′ s → s .number ≡ 0 →
     TreesKept f a (r .value) hs′ fs′ ss′ (s .value) gs′ es′ ts′
-demand-3-of-trees f a kept hs hs′ fs fs′ ss ss′ m m′ q q′ r says z gs gs′ es es′ ts ts′ k k′ w w′ s tells y =
+demand-3-of-trees f a ok kept hs hs′ fs fs′ ss ss′ m m′ q q′ r says z gs gs′ es es′ ts ts′ k k′ w w′ s tells y =
     trees-kept f a (r .value) hs′ fs′ ss′ (s .value) gs′ es′ ts′
     (record {
       count = answered-count f hs hs′ fs fs′ ss ss′ m m′ q q′ r says z;
@@ -141,6 +166,7 @@ demand-3-of-trees f a kept hs hs′ fs fs′ ss ss′ m m′ q q′ r says z gs 
       node = answered-node a gs gs′ es es′ ts ts′ k k′ w w′ s tells y;
       father = answered-father a gs gs′ es es′ ts ts′ k k′ w w′ s tells y;
     })
+    ok
     kept
 
 -- what an unrefused call of the pass answers
@@ -166,3 +192,34 @@ demand-3-of-passes f a kept x y px py n hs fs ss m q q′ r says z l gs es ts k 
     let b = answered-pass f n hs fs ss m x y q q′ r says z in
     let c = answered-pass a l gs es ts k x y w w′ s tells u in
     b .0 ∙ (kept .passes x y (b .1) (b .2) px py ∙ sym (c .0))
+
+-- an unrefused tree call leaves lists that the check accepts
+pub answered-is-tree :
+    (p : Picture) (hs hs′ fs fs′ ss ss′ m m′ q q′ : List ℕ) (r : Answer) → TreeSays p hs hs′ fs fs′ ss ss′ m m′ q q′ r → r .number ≡ 0 →
+    isTree p (r .value) hs′ fs′ ss′ m′ ≡ true
+unfolding isTree
+answered-is-tree p hs hs′ fs fs′ ss ss′ m m′ q q′ r says z =
+    let f = treeFaultOf p hs fs ss m q in
+    let e = sym (says .answer .number) ∙ z in
+    and-both (eqb (r .value) (length (nodes p))) _
+    (eq-eqb (r .value) (length (nodes p)) (answered-count p hs hs′ fs fs′ ss ss′ m m′ q q′ r says z))
+    (and-both (begins (treeOf p .heights) hs′) _ (begins-front f (treeOf p .heights) hs hs′ e (says .heights))
+    (and-both (begins (treeOf p .fathers) fs′) _ (begins-front f (treeOf p .fathers) fs fs′ e (says .fathers))
+    (and-both (begins (treeOf p .firsts) ss′) _ (begins-front f (treeOf p .firsts) ss ss′ e (says .firsts))
+    (begins-front f (treeOf p .map) m m′ e (says .map)))))
+
+-- the calls together: an unrefused watershed call, and the tree and the pass that the calls answer for the picture and for the bytes it left
+module _ (p : Picture) (o o′ v v′ : List ℕ) (c : Answer) (bytes : allBytes (p .pixels) ≡ true) (says : WaterSays p o o′ v v′ c) (unrefused : c .number ≡ 0) where
+  pub trees-of-calls :
+      (hs hs′ fs fs′ ss ss′ m m′ q q′ : List ℕ) (r : Answer) → TreeSays p hs hs′ fs fs′ ss ss′ m m′ q q′ r → r .number ≡ 0 →
+      (gs gs′ es es′ ts ts′ k k′ w w′ : List ℕ) (s : Answer) → TreeSays (leftBy p o′) gs gs′ es es′ ts ts′ k k′ w w′ s → s .number ≡ 0 →
+      TreesKept p (leftBy p o′) (r .value) hs′ fs′ ss′ (s .value) gs′ es′ ts′
+  trees-of-calls =
+      demand-3-of-trees p (leftBy p o′) (accepted-of-call p o o′ v v′ c bytes says unrefused) (demand-3-of-call p o o′ v v′ c bytes says unrefused)
+
+  pub passes-of-calls :
+      (x y : ℕ) → 1 ≤ patchAt p x → 1 ≤ patchAt p y →
+      (n : ℕ) (hs fs ss m q q′ : List ℕ) (r : Answer) → PassSays p n hs fs ss m x y q q′ r → r .number ≡ 0 →
+      (l : ℕ) (gs es ts k w w′ : List ℕ) (s : Answer) → PassSays (leftBy p o′) l gs es ts k x y w w′ s → s .number ≡ 0 →
+      r .value ≡ s .value
+  passes-of-calls = demand-3-of-passes p (leftBy p o′) (demand-3-of-call p o o′ v v′ c bytes says unrefused)

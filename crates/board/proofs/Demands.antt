@@ -49,8 +49,8 @@ module _ (p : Picture) (o o′ q q′ : List ℕ) (r : Answer) (bytes : allBytes
   no-fault : outputFaultOf p o q ≡ 0
   no-fault = sym (says .answer .number) ∙ unrefused
 
-  accepted : isPicture p ≡ true
-  accepted =
+  pub accepted-of-call : isPicture p ≡ true
+  accepted-of-call =
       admitted p (length q)
       (output-enough (p .adjacency) (p .width) (p .height) (length (p .pixels)) (length q) (length o) no-fault .0)
       (byte-at (p .pixels) bytes) .picture
@@ -59,9 +59,9 @@ module _ (p : Picture) (o o′ q q′ : List ℕ) (r : Answer) (bytes : allBytes
   front = says .output ∙ ap (λ (t : Bool). pick t (over (watershed p .pixels) o) o) (eq-eqb (outputFaultOf p o q) 0 no-fault)
 
   pub demand-3-of-call : Kept p (leftBy p o′)
-  demand-3-of-call = demand-3-of-bytes p o o′ accepted front
+  demand-3-of-call = demand-3-of-bytes p o o′ accepted-of-call front
 
   pub others-fail :
       (b : List ℕ) → length b ≡ places p → allBytes b ≡ true → nowhereAbove b (leftBy p o′ .pixels) ≡ true → (b ≡ leftBy p o′ .pixels → ⊥) →
       (h : ℕ) × (h ≤ 255) × (keepsAt p (withPixels p b) h ≡ false)
-  others-fail = others-fail-bytes p o o′ accepted front
+  others-fail = others-fail-bytes p o o′ accepted-of-call front

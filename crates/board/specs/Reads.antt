@@ -1,4 +1,4 @@
--- What the public calls promise.
+-- What reading promises.
 use mathlib.Core.Path.{_≡_}
 use mathlib.Core.List.{List, []}
 use Prim.Native.Nat.{ℕ, _+_}

@@ -1,5 +1,5 @@
-// The public calls; a is the adjacency. Each has its refusal decided first, from numbers and lengths and for a lent tree from its entries,
-// then one core do the work, and finishes by clearing work.
+// The public calls; a is the adjacency. Each decides its refusal before it writes anything, from numbers and lengths, for a lent tree also from its
+// entries, for a list of patches from their number; then a core works, and work is cleared.
 use faults::least;
 use faults::output_fault;
 use faults::place_fault;
@@ -8,7 +8,7 @@ use labels::lowerable::lowerable;
 use labels::scan::label;
 use listing::clear_accepted;
 use listing::gather;
-use patch_records::Patch;
+pub use patch_records::Patch;
 use patch_records::write_records;
 use patches::cores::query;
 use picture::clearing::clear;
@@ -63,7 +63,7 @@ pub fn file_pixels<'a>(file: &'a [u8]) -> &'a [u8]
     }
 }
 
-// The number of a refusal, or 0 with the number of components or nodes, the pass, 1 for yes, or 0 where nothing is counted.
+// The number of a refusal, or 0 with the number of components, nodes or patches, the pass, 1 for yes, or 0 where nothing is counted.
 pub struct Answer {
     pub number: u8,
     pub value: u32,

@@ -20,14 +20,23 @@ fn wide(n: u16) -> u32
 }
 
 // Writes the line of a patch and answers the place behind it; a line has at most 37 bytes.
-fn put_line(out: &mut [u8], at: usize, i: usize, s: u16, h: u16, d: u16, c: u16, r: u16) -> usize
-    requires { ⌜ (i < 1600) × (1 ≤ s) × (at + 37 ≤ length (now out)) ⌝ }
-    ensures { λ q. ⌜ Written at (lineOf i s h d c r) (now (out .entry)) q (now (out .exit)) × (q ≤ at + 37) ⌝ }
+fn put_line(
+    out: &mut [u8],
+    at: usize,
+    i: usize,
+    size: u16,
+    height: u16,
+    depth: u16,
+    columns: u16,
+    rows: u16,
+) -> usize
+    requires { ⌜ (i < 1600) × (1 ≤ size) × (at + 37 ≤ length (now out)) ⌝ }
+    ensures { λ r. ⌜ Written at (lineOf i size height depth columns rows) (now (out .entry)) r (now (out .exit)) × (r ≤ at + 37) ⌝ }
 {
-    let size = wide(s);
-    let column = centre(wide(c), size);
-    let row = centre(wide(r), size);
-    let numbers = [i as u32 + 1, size, wide(h), wide(d), column, row];
+    let pixels = wide(size);
+    let column = centre(wide(columns), pixels);
+    let row = centre(wide(rows), pixels);
+    let numbers = [i as u32 + 1, pixels, wide(height), wide(depth), column, row];
     put_fields(out, at, &numbers)
 }
 
@@ -36,19 +45,28 @@ pub fn put_lines(
     out: &mut [u8],
     at: usize,
     count: usize,
-    s: &[u16],
-    h: &[u16],
-    d: &[u16],
-    c: &[u16],
-    r: &[u16],
+    sizes: &[u16],
+    heights: &[u16],
+    depths: &[u16],
+    columns: &[u16],
+    rows: &[u16],
 ) -> usize
-    requires { ⌜ Lists count (now s) (now h) (now d) (now c) (now r) × (at + 37 * count ≤ length (now out)) ⌝ }
-    ensures { λ q. ⌜ Written at (flat (lineAt (now (s .entry)) (now (h .entry)) (now (d .entry)) (now (c .entry)) (now (r .entry))) (range 0 count)) (now (out .entry)) q (now (out .exit)) ⌝ }
+    requires { ⌜ Lists count (now sizes) (now heights) (now depths) (now columns) (now rows) × (at + 37 * count ≤ length (now out)) ⌝ }
+    ensures { λ r. ⌜ Written at (flat (lineAt (now (sizes .entry)) (now (heights .entry)) (now (depths .entry)) (now (columns .entry)) (now (rows .entry))) (range 0 count)) (now (out .entry)) r (now (out .exit)) ⌝ }
 {
     let mut to = at;
     let mut i = 0;
     while i < count {
-        to = put_line(out, to, i, s[i], h[i], d[i], c[i], r[i]);
+        to = put_line(
+            out,
+            to,
+            i,
+            sizes[i],
+            heights[i],
+            depths[i],
+            columns[i],
+            rows[i],
+        );
         i += 1;
     }
     to

@@ -64,8 +64,8 @@ fn put_patches(
     put_list(w, h, pixels, count, work, cells, out)
 }
 
-// Writes the list of the patches of the watershed of a picture with adjacency 4, and answers the place behind it.
-fn put_watershed(
+// Writes the hold list of a picture with adjacency 4 with lent memory, and answers the place behind it: the patches of its watershed.
+fn put_holds_with(
     w: u32,
     h: u32,
     pixels: &[u8],
@@ -91,7 +91,7 @@ fn put_holds(w: u32, h: u32, pixels: &[u8], out: &mut [u8]) -> usize
     let mut water = [0u8; 1600];
     let mut work = [0u16; 8000];
     let mut cells = [0u16; 1600];
-    put_watershed(
+    put_holds_with(
         w,
         h,
         pixels,

@@ -9,7 +9,7 @@ use lib.ListN.{length, take, drop, length-append, length-drop}
 use lib.Seq.{take-at, take-add, length-take-le}
 use Rattle.p5.specs.declared.field.Field.the-variants.{Number, Unfit}
 use Rattle.p5.specs.declared.header.Walk.the-variants.{Stopped}
-use Rattle.p5.specs.Headers.{beginsP5, isDigit, decimal, gapEnd, numberAt}
+use Rattle.p5.specs.Headers.{beginsP5, isDigit, decimalValue, gapEnd, numberAt}
 use Rattle.p5.specs.Shapes.{Gap, Numeral, Begins}
 use Rattle.p5.proofs.Leading.{leading-le, leading-take}
 use Rattle.p5.proofs.Gap.{gap-split}
@@ -126,7 +126,7 @@ short f p q l (sixth e k) =
           record {
             gap = s .gap;
             numeral = d;
-            value = decimal d;
+            value = decimalValue d;
             bytes = append-nil (s .gap ++ d);
             is-gap = s .is-gap;
             is-number = record { some = omega arith; most = omega arith; digits = leading-take isDigit (drop g f) 5 (omega arith); value = refl };

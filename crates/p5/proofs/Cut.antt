@@ -8,7 +8,7 @@ use lib.Seq.{drop-append-le, take-append-le}
 use Rattle.p5.specs.declared.field.Field.{Field}
 use Rattle.p5.specs.declared.field.Field.the-variants.{Number, Unfit}
 use Rattle.p5.specs.declared.header.Walk.the-variants.{Stopped}
-use Rattle.p5.specs.Headers.{isWhite, isDigit, leading, decimal, gapEnd, digitsAt, numberAt, walk}
+use Rattle.p5.specs.Headers.{isWhite, isDigit, leading, decimalValue, gapEnd, digitsAt, numberAt, walk}
 use Rattle.p5.proofs.Leading.{leading-cut, leading-many}
 use Rattle.p5.proofs.Gap.{gap-from, gap-cut, number-none, number-some}
 use Rattle.p5.proofs.Digits.{digits-none, digits-few, digits-many}
@@ -51,7 +51,7 @@ module _ (x y u : List ℕ) (p : ℕ) where
       let taken : take n (drop q (x ++ u)) ≡ take n (drop q (x ++ y)) = front u ∙ sym (front y) in
       some-digits (omega arith) e
       ∙ digits-few (x ++ u) q (omega arith) (omega arith)
-      ∙ ap₂ Number (ap decimal (ap (λ (k : ℕ). take k (drop q (x ++ u))) same ∙ taken)) (ap (λ (k : ℕ). q + k) same)
+      ∙ ap₂ Number (ap decimalValue (ap (λ (k : ℕ). take k (drop q (x ++ u))) same ∙ taken)) (ap (λ (k : ℕ). q + k) same)
   cut o (sixth e k) h =
       some-digits (omega arith) e ∙ digits-many (x ++ u) _ (leading-many isDigit x y u (gapEnd (x ++ y) p) 6 (omega arith) k)
 

@@ -14,7 +14,7 @@ use lib.Seq.{drop-cons, take-at}
 use Rattle.picture.specs.Lists.{pick, all}
 use Rattle.p5.specs.declared.field.Field.{Field}
 use Rattle.p5.specs.declared.field.Field.the-variants.{Number, Unfit}
-use Rattle.p5.specs.Headers.{leading, isDigit, decimalFrom, decimal, digitsAt}
+use Rattle.p5.specs.Headers.{leading, isDigit, decimalFrom, decimalValue, digitsAt}
 use Rattle.p5.proofs.Tests.{on-pick, and-both, and-first, and-second}
 use Rattle.p5.proofs.Leading.{leading-append, leading-pass}
 
@@ -24,7 +24,7 @@ pub record Digits (f : List ℕ) (at value i : ℕ) : Type 0 where
   pub stand : drop at f ≡ digits ++ drop i f
   pub end : i ≡ at + length digits
   pub pass : all isDigit digits ≡ true
-  pub has : value ≡ decimal digits
+  pub has : value ≡ decimalValue digits
   pub below : value < 10 ^ length digits
   pub most : length digits ≤ 5
 
@@ -41,7 +41,7 @@ module _ (f : List ℕ) (p : ℕ) where
   unfolding digitsAt
   digits-none e = rw (eq-eqb _ _ e)
 
-  pub digits-few : 1 ≤ digitCount f p → digitCount f p ≤ 5 → digitsAt f p ≡ Number (decimal (take (digitCount f p) (drop p f))) (p + digitCount f p)
+  pub digits-few : 1 ≤ digitCount f p → digitCount f p ≤ 5 → digitsAt f p ≡ Number (decimalValue (take (digitCount f p) (drop p f))) (p + digitCount f p)
   unfolding digitsAt
   digits-few h k = rw (ne-eqb (leading isDigit (drop p f)) 0 (omega arith), le-leb _ _ k)
 

@@ -9,7 +9,7 @@ use lib.ListN.{length, take, drop, take-append-drop, length-append}
 use lib.Seq.{take-at, drop-at, drop-drop, length-take-le}
 use Rattle.p5.specs.declared.field.Field.{Field}
 use Rattle.p5.specs.declared.field.Field.the-variants.{Number, Unfit}
-use Rattle.p5.specs.Headers.{isDigit, leading, decimal, gapEnd, digitsAt, numberAt}
+use Rattle.p5.specs.Headers.{isDigit, leading, decimalValue, gapEnd, digitsAt, numberAt}
 use Rattle.p5.specs.Shapes.{Gap, Numeral}
 use Rattle.p5.proofs.Tests.{on-pick, and-first}
 use Rattle.p5.proofs.Leading.{leading-le, leading-all, leading-append}
@@ -21,7 +21,7 @@ pub data Reads (f : List ℕ) (p : ℕ) : Field → Type 0 where
   no-gap : gapEnd f p ≡ p → Reads f p (Unfit p)
   no-digit : (gapEnd f p ≡ p → ⊥) → digitCount f (gapEnd f p) ≡ 0 → Reads f p (Unfit (gapEnd f p))
   digits : (gapEnd f p ≡ p → ⊥) → 1 ≤ digitCount f (gapEnd f p) → digitCount f (gapEnd f p) ≤ 5
-      → Reads f p (Number (decimal (take (digitCount f (gapEnd f p)) (drop (gapEnd f p) f))) (gapEnd f p + digitCount f (gapEnd f p)))
+      → Reads f p (Number (decimalValue (take (digitCount f (gapEnd f p)) (drop (gapEnd f p) f))) (gapEnd f p + digitCount f (gapEnd f p)))
   sixth : (gapEnd f p ≡ p → ⊥) → 5 < digitCount f (gapEnd f p) → Reads f p (Unfit (gapEnd f p + 5))
 
 pub reads : (f : List ℕ) (p : ℕ) → Reads f p (numberAt f p)
@@ -81,4 +81,4 @@ module _ (f : List ℕ) (p : ℕ) (g s : List ℕ) where
       sym (number-some f p (λ same. omega (arith, k .some)))
       ∙ ap (digitsAt f) end
       ∙ digits-few f q (omega (arith, many, n .some)) (omega (arith, many, n .most))
-      ∙ ap₂ Number (ap decimal taken ∙ sym (n .value)) (omega (arith, many))
+      ∙ ap₂ Number (ap decimalValue taken ∙ sym (n .value)) (omega (arith, many))

@@ -27,7 +27,7 @@ leading t (b ∷ s) = pick (t b) (suc (leading t s)) 0
 unfoldable pub gapEnd : List ℕ → ℕ → ℕ
 gapEnd f p = p + leading isWhite (drop p f)
 
--- a decimal digit is one of the bytes 48 to 57
+-- a decimalValue digit is one of the bytes 48 to 57
 abbrev pub isDigit : ℕ → Bool
 isDigit b = leb 48 b && leb b 57
 
@@ -37,14 +37,14 @@ decimalFrom v [] = v
 decimalFrom v (b ∷ s) = decimalFrom (v * 10 + (b - 48)) s
 
 -- the value of digits
-abbrev pub decimal : List ℕ → ℕ
-decimal s = decimalFrom 0 s
+abbrev pub decimalValue : List ℕ → ℕ
+decimalValue s = decimalFrom 0 s
 
 -- 1 to 5 digits from a position on: their value and the position after them; a missing digit or a sixth one is unfit
 unfoldable pub digitsAt : List ℕ → ℕ → Field
 digitsAt f p =
     let d = leading isDigit (drop p f) in
-    pick (eqb d 0) (Unfit p) (pick (leb d 5) (Number (decimal (take d (drop p f))) (p + d)) (Unfit (p + 5)))
+    pick (eqb d 0) (Unfit p) (pick (leb d 5) (Number (decimalValue (take d (drop p f))) (p + d)) (Unfit (p + 5)))
 
 -- a header number: a gap of at least one byte, then the digits
 unfoldable pub numberAt : List ℕ → ℕ → Field

@@ -7,19 +7,19 @@ use Prim.Native.Nat.{ℕ, suc, _+_, _*_, _≤_, _<_}
 use lib.ListN.{length, getD, take}
 use Rattle.picture.specs.Lists.{all}
 use Rattle.p5.specs.declared.header.Header.{Header}
-use Rattle.p5.specs.Headers.{isWhite, isDigit, decimal}
+use Rattle.p5.specs.Headers.{isWhite, isDigit, decimalValue}
 
 -- a gap: white space, at least one byte
 pub record Gap (g : List ℕ) : Type 0 where
   pub some : 1 ≤ length g
   pub white : all isWhite g ≡ true
 
--- a number: 1 to 5 decimal digits and their value
+-- a number: 1 to 5 decimalValue digits and their value
 pub record Numeral (d : List ℕ) (v : ℕ) : Type 0 where
   pub some : 1 ≤ length d
   pub most : length d ≤ 5
   pub digits : all isDigit d ≡ true
-  pub value : v ≡ decimal d
+  pub value : v ≡ decimalValue d
 
 -- a file with a header: P5, gap, width, gap, height, gap, largest sample, one white space byte, and the rest from the offset on
 pub record Headed (f : List ℕ) (h : Header) (rest : List ℕ) : Type 0 where

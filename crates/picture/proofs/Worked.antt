@@ -5,7 +5,7 @@ use mathlib.Core.List.{List, [], _∷_, map}
 use Prim.Native.Nat.{ℕ}
 use lib.Dec.{eqb}
 use Rattle.picture.specs.Lists.{all, range}
-use Rattle.picture.specs.Pictures.{Picture, places, adjacent, isPicture}
+use Rattle.picture.specs.Pictures.{Picture, places, adjacent, isPicture, pictureOf}
 use Rattle.picture.specs.Components.{componentAt, components, labels, pass}
 use Rattle.picture.specs.Trees.{Tree, isBranch, nodesAt, nodes, fatherOf, mapOf, treeOf}
 use Rattle.picture.specs.Watersheds.{lowerable, best, watershed}
@@ -18,10 +18,6 @@ sameList [] (y ∷ ys) = false
 sameList (x ∷ xs) [] = false
 sameList (x ∷ xs) (y ∷ ys) = eqb x y && sameList xs ys
 
--- the picture of an adjacency, a width, a height and pixels
-abbrev pub picture : ℕ → ℕ → ℕ → List ℕ → Picture
-picture a w h xs = record { adjacency = a; width = w; height = h; pixels = xs }
-
 -- a picture worked by hand: its mark, and the pixels of its watershed
 pub record Row : Type 0 where
   pub mark : ℕ
@@ -33,23 +29,23 @@ row m p xs = record { mark = m; picture = p; water = xs }
 
 -- H3 and H10, whose trees are worked too
 abbrev pub h3 : Picture
-h3 = picture 4 5 1 (3 ∷ 1 ∷ 4 ∷ 0 ∷ 2 ∷ [])
+h3 = pictureOf 4 5 1 (3 ∷ 1 ∷ 4 ∷ 0 ∷ 2 ∷ [])
 
 abbrev pub h10 : Picture
-h10 = picture 4 3 2 (0 ∷ 5 ∷ 2 ∷ 3 ∷ 3 ∷ 3 ∷ [])
+h10 = pictureOf 4 3 2 (0 ∷ 5 ∷ 2 ∷ 3 ∷ 3 ∷ 3 ∷ [])
 
 -- H1 to H10
 abbrev pub table : List Row
 table =
-    row 1 (picture 4 1 1 (9 ∷ [])) (9 ∷ []) ∷
-    row 2 (picture 4 2 1 (0 ∷ 1 ∷ [])) (0 ∷ 0 ∷ []) ∷
+    row 1 (pictureOf 4 1 1 (9 ∷ [])) (9 ∷ []) ∷
+    row 2 (pictureOf 4 2 1 (0 ∷ 1 ∷ [])) (0 ∷ 0 ∷ []) ∷
     row 3 h3 (1 ∷ 1 ∷ 4 ∷ 0 ∷ 0 ∷ []) ∷
-    row 4 (picture 4 2 2 (0 ∷ 5 ∷ 5 ∷ 0 ∷ [])) (0 ∷ 5 ∷ 5 ∷ 0 ∷ []) ∷
-    row 5 (picture 8 2 2 (0 ∷ 5 ∷ 5 ∷ 0 ∷ [])) (0 ∷ 0 ∷ 0 ∷ 0 ∷ []) ∷
-    row 6 (picture 4 3 3 (7 ∷ 7 ∷ 7 ∷ 7 ∷ 7 ∷ 7 ∷ 7 ∷ 7 ∷ 7 ∷ [])) (7 ∷ 7 ∷ 7 ∷ 7 ∷ 7 ∷ 7 ∷ 7 ∷ 7 ∷ 7 ∷ []) ∷
-    row 7 (picture 4 3 3 (0 ∷ 0 ∷ 0 ∷ 0 ∷ 5 ∷ 0 ∷ 0 ∷ 0 ∷ 0 ∷ [])) (0 ∷ 0 ∷ 0 ∷ 0 ∷ 0 ∷ 0 ∷ 0 ∷ 0 ∷ 0 ∷ []) ∷
-    row 8 (picture 4 5 1 (0 ∷ 3 ∷ 3 ∷ 3 ∷ 1 ∷ [])) (0 ∷ 0 ∷ 0 ∷ 3 ∷ 1 ∷ []) ∷
-    row 9 (picture 4 4 1 (0 ∷ 3 ∷ 3 ∷ 1 ∷ [])) (0 ∷ 0 ∷ 3 ∷ 1 ∷ []) ∷
+    row 4 (pictureOf 4 2 2 (0 ∷ 5 ∷ 5 ∷ 0 ∷ [])) (0 ∷ 5 ∷ 5 ∷ 0 ∷ []) ∷
+    row 5 (pictureOf 8 2 2 (0 ∷ 5 ∷ 5 ∷ 0 ∷ [])) (0 ∷ 0 ∷ 0 ∷ 0 ∷ []) ∷
+    row 6 (pictureOf 4 3 3 (7 ∷ 7 ∷ 7 ∷ 7 ∷ 7 ∷ 7 ∷ 7 ∷ 7 ∷ 7 ∷ [])) (7 ∷ 7 ∷ 7 ∷ 7 ∷ 7 ∷ 7 ∷ 7 ∷ 7 ∷ 7 ∷ []) ∷
+    row 7 (pictureOf 4 3 3 (0 ∷ 0 ∷ 0 ∷ 0 ∷ 5 ∷ 0 ∷ 0 ∷ 0 ∷ 0 ∷ [])) (0 ∷ 0 ∷ 0 ∷ 0 ∷ 0 ∷ 0 ∷ 0 ∷ 0 ∷ 0 ∷ []) ∷
+    row 8 (pictureOf 4 5 1 (0 ∷ 3 ∷ 3 ∷ 3 ∷ 1 ∷ [])) (0 ∷ 0 ∷ 0 ∷ 3 ∷ 1 ∷ []) ∷
+    row 9 (pictureOf 4 4 1 (0 ∷ 3 ∷ 3 ∷ 1 ∷ [])) (0 ∷ 0 ∷ 3 ∷ 1 ∷ []) ∷
     row 10 h10 (0 ∷ 3 ∷ 2 ∷ 0 ∷ 0 ∷ 3 ∷ []) ∷
     []
 
@@ -108,14 +104,16 @@ pub record PatchRow : Type 0 where
 abbrev patchRow : Picture → List ℕ → ℕ → List (List ℕ) → PatchRow
 patchRow p xs l fs = record { picture = p; places = xs; line = l; figures = fs }
 
--- the watershed of H3, whose hold list is given; a deep patch beside a shallow one; a picture of one patch
+-- the watersheds of H3, whose hold list is given, and of H10; a deep patch beside a shallow one; a picture of one patch
 abbrev pub patch-rows : List PatchRow
 patch-rows =
-    patchRow (picture 4 5 1 (1 ∷ 1 ∷ 4 ∷ 0 ∷ 0 ∷ [])) (1 ∷ 1 ∷ 0 ∷ 2 ∷ 2 ∷ []) 1
+    patchRow (pictureOf 4 5 1 (1 ∷ 1 ∷ 4 ∷ 0 ∷ 0 ∷ [])) (1 ∷ 1 ∷ 0 ∷ 2 ∷ 2 ∷ []) 1
     ((1 ∷ 2 ∷ 1 ∷ 3 ∷ 5 ∷ 0 ∷ []) ∷ (2 ∷ 2 ∷ 0 ∷ 4 ∷ 35 ∷ 0 ∷ []) ∷ []) ∷
-    patchRow (picture 4 5 1 (0 ∷ 2 ∷ 1 ∷ 9 ∷ 5 ∷ [])) (1 ∷ 0 ∷ 2 ∷ 0 ∷ 3 ∷ []) 2
+    patchRow (pictureOf 4 3 2 (0 ∷ 3 ∷ 2 ∷ 0 ∷ 0 ∷ 3 ∷ [])) (1 ∷ 0 ∷ 2 ∷ 1 ∷ 1 ∷ 0 ∷ []) 2
+    ((1 ∷ 3 ∷ 0 ∷ 3 ∷ 3 ∷ 6 ∷ []) ∷ (2 ∷ 1 ∷ 2 ∷ 1 ∷ 20 ∷ 0 ∷ []) ∷ []) ∷
+    patchRow (pictureOf 4 5 1 (0 ∷ 2 ∷ 1 ∷ 9 ∷ 5 ∷ [])) (1 ∷ 0 ∷ 2 ∷ 0 ∷ 3 ∷ []) 2
     ((1 ∷ 1 ∷ 0 ∷ 2 ∷ 0 ∷ 0 ∷ []) ∷ (2 ∷ 1 ∷ 1 ∷ 1 ∷ 20 ∷ 0 ∷ []) ∷ (3 ∷ 1 ∷ 5 ∷ 4 ∷ 40 ∷ 0 ∷ []) ∷ []) ∷
-    patchRow (picture 8 1 2 (0 ∷ 255 ∷ [])) (1 ∷ 0 ∷ []) 1 ((1 ∷ 1 ∷ 0 ∷ 255 ∷ 0 ∷ 0 ∷ []) ∷ []) ∷
+    patchRow (pictureOf 8 1 2 (0 ∷ 255 ∷ [])) (1 ∷ 0 ∷ []) 1 ((1 ∷ 1 ∷ 0 ∷ 255 ∷ 0 ∷ 0 ∷ []) ∷ []) ∷
     []
 
 -- the figures of a patch: number, size, height, depth, centre column and centre row

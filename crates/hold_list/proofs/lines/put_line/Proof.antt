@@ -87,7 +87,7 @@ returns c =
     let s = t .before .before .before .before .before .before .before .before .before .before in
     let x = t .before .before .before .before .before .before .before .before .wide in
     let e =
-    line-is (s .args .i) (s .args .s) (s .args .h) (s .args .d) (s .args .c) (s .args .r) _ _ _ _ _ _ refl (x .ensures) (t .before .before .before .wide4 .ensures) (t .before .before .wide5 .ensures)
+    line-is (s .args .i) (s .args .size) (s .args .height) (s .args .depth) (s .args .columns) (s .args .rows) _ _ _ _ _ _ refl (x .ensures) (t .before .before .before .wide4 .ensures) (t .before .before .wide5 .ensures)
     (t .before .before .before .before .before .before .centre .ensures ∙ ap₂ centre (t .before .before .before .before .before .before .before .wide2 .ensures) (x .ensures))
     (t .before .before .before .before .centre2 .ensures ∙ ap₂ centre (t .before .before .before .before .before .wide3 .ensures) (x .ensures))
     in

@@ -14,11 +14,11 @@ use Rattle.hold_list.proofs.lines.put_lines.Statement.{statement}
 use Rattle.hold_list.proofs.lines.put_lines.Tie as tie
 
 abbrev Inv-loop : tie.InvT-loop
-Inv-loop out₀ at count s h d c r to₀ i₀ out to i =
-    (i ≤ count) × (to ≤ at + 37 * i) × Written at (flat (lineAt s h d c r) (range 0 i)) out₀ to out
+Inv-loop out₀ at count sizes heights depths columns rows to₀ i₀ out to i =
+    (i ≤ count) × (to ≤ at + 37 * i) × Written at (flat (lineAt sizes heights depths columns rows) (range 0 i)) out₀ to out
 
 abbrev μ-loop : tie.MeasureT-loop
-μ-loop out₀ at count s h d c r to₀ i₀ out to i = count - i
+μ-loop out₀ at count sizes heights depths columns rows to₀ i₀ out to i = count - i
 
 loop-holds : tie.Need-loop-holds Inv-loop μ-loop
 loop-holds c =
@@ -77,7 +77,7 @@ loop-again c =
     let s = l .before .before .before .before .before .before .before in (
       search needs,
       omega (arith, l .loop .inv .1, t .put-line .ensures .1),
-      lines-next (lineAt (s .args .s .now) (s .args .h .now) (s .args .d .now) (s .args .c .now) (s .args .r .now)) (s .args .out .now) (l .loop .out) (t .put-line .last .0)
+      lines-next (lineAt (s .args .sizes .now) (s .args .heights .now) (s .args .depths .now) (s .args .columns .now) (s .args .rows .now)) (s .args .out .now) (l .loop .out) (t .put-line .last .0)
           (s .args .at) (l .loop .to) (t .put-line .result) (l .loop .i) (omega (arith, s .pre .1)) (l .loop .inv .2) (t .put-line .ensures .0),
     )
 
@@ -91,7 +91,7 @@ returns : tie.Need-returns Inv-loop μ-loop
 returns c =
     let l = c .before .loop in
     let s = c .before .before .before .before .before .before .before .before in
-    let f = lineAt (s .args .s .now) (s .args .h .now) (s .args .d .now) (s .args .c .now) (s .args .r .now) in
+    let f = lineAt (s .args .sizes .now) (s .args .heights .now) (s .args .depths .now) (s .args .columns .now) (s .args .rows .now) in
     let e : l .i ≡ s .args .count = omega arith in
     subst (λ (m : ℕ). Written (s .args .at) (flat f (range 0 m)) (s .args .out .now) (l .to) (l .out)) e (l .inv .2)
 

@@ -33,23 +33,23 @@ mul-whole c = omega (arith, places-few (c .before .before) .1)
 array-borrow-prefix-water : tie.Need-array-borrow-prefix-water
 array-borrow-prefix-water c = places-few (c .before .before) .1
 
-slice-aggregate-put-watershed : tie.Need-slice-aggregate-put-watershed
-slice-aggregate-put-watershed c = bytes-lent (c .before .before .before)
+slice-aggregate-put-holds-with : tie.Need-slice-aggregate-put-holds-with
+slice-aggregate-put-holds-with c = bytes-lent (c .before .before .before)
 
 array-borrow-prefix-work : tie.Need-array-borrow-prefix-work
 array-borrow-prefix-work c = omega (arith, places-few (c .before .before .before) .1)
 
-slice-aggregate-put-watershed-2 : tie.Need-slice-aggregate-put-watershed-2
-slice-aggregate-put-watershed-2 c = cells-lent (c .before .before .before .before)
+slice-aggregate-put-holds-with-2 : tie.Need-slice-aggregate-put-holds-with-2
+slice-aggregate-put-holds-with-2 c = cells-lent (c .before .before .before .before)
 
 array-borrow-prefix-cells : tie.Need-array-borrow-prefix-cells
 array-borrow-prefix-cells c = places-few (c .before .before .before .before) .1
 
-slice-aggregate-put-watershed-3 : tie.Need-slice-aggregate-put-watershed-3
-slice-aggregate-put-watershed-3 c = bytes-lent (c .before .before .before .before .before)
+slice-aggregate-put-holds-with-3 : tie.Need-slice-aggregate-put-holds-with-3
+slice-aggregate-put-holds-with-3 c = bytes-lent (c .before .before .before .before .before)
 
-put-watershed-requires : tie.Need-put-watershed-requires
-put-watershed-requires c κs =
+put-holds-with-requires : tie.Need-put-holds-with-requires
+put-holds-with-requires c κs =
     let s = c .before .before .before .before .before .before in
     let f = places-few s in (
       s .pre .0,
@@ -70,11 +70,11 @@ put-holds-spec =
     (tie.spec
     mul-whole
     array-borrow-prefix-water
-    slice-aggregate-put-watershed
+    slice-aggregate-put-holds-with
     array-borrow-prefix-work
-    slice-aggregate-put-watershed-2
+    slice-aggregate-put-holds-with-2
     array-borrow-prefix-cells
-    slice-aggregate-put-watershed-3
-    put-watershed-requires
+    slice-aggregate-put-holds-with-3
+    put-holds-with-requires
     same-length
     returns)

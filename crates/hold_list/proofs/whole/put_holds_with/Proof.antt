@@ -1,4 +1,4 @@
--- `hold_list::whole::put_watershed` meets its contract: the patches of the watershed are those of the bytes that the core leaves.
+-- `hold_list::whole::put_holds_with` meets its contract: the patches of the watershed are those of the bytes that the core leaves.
 use mathlib.Core.Path.{subst, _∙_}
 use mathlib.Core.List.{List}
 use Prim.Native.Nat.{ℕ}
@@ -7,8 +7,8 @@ use Rattle.picture.specs.Pictures.{Picture, pictureOf}
 use Rattle.text.specs.Writing.{Written}
 use Rattle.hold_list.proofs.Texts.{water-picture, holds-are}
 use borrow.Author.Needs.{needs}
-use Rattle.hold_list.proofs.whole.put_watershed.Statement.{statement}
-use Rattle.hold_list.proofs.whole.put_watershed.Tie as tie
+use Rattle.hold_list.proofs.whole.put_holds_with.Statement.{statement}
+use Rattle.hold_list.proofs.whole.put_holds_with.Tie as tie
 
 -- the picture of the arguments
 abbrev pictured : tie.Start → Picture
@@ -47,8 +47,8 @@ returns c =
     (holds-are (pictured s) (s .pre .0) (t .last .1 .1 .1 .1 .0) (t .ensures))
     (p .ensures)
 
-pub put-watershed-spec : {M : Type 1} → statement M
-put-watershed-spec =
+pub put-holds-with-spec : {M : Type 1} → statement M
+put-holds-with-spec =
     tie.close
     (tie.spec
     watershed-core-requires
