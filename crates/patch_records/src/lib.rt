@@ -6,13 +6,14 @@ ghost use lib.ListN.{length, drop};
 ghost use Rattle.patch_records.specs.Records.{Entry, Entries, recordAt, records};
 
 // The number of a patch from 1, its size in pixels, its height, its depth, and the sums of its columns and of its rows.
+// A sum is at most 31,200, that of a patch of 40 by 40 places.
 pub struct Patch {
     pub number: u16,
     pub size: u16,
     pub height: u8,
     pub depth: u8,
-    pub columns: u32,
-    pub rows: u32,
+    pub columns: u16,
+    pub rows: u16,
 }
 
 // A figure as a byte.
@@ -21,13 +22,6 @@ fn byte(figure: u16) -> u8
     ensures { λ r. ⌜ r ≡ figure ⌝ }
 {
     figure as u8
-}
-
-// A figure as a sum.
-fn sum(figure: u16) -> u32
-    ensures { λ r. ⌜ r ≡ figure ⌝ }
-{
-    figure as u32
 }
 
 // The record of the patch whose figures are the entries i of the blocks.
@@ -40,8 +34,8 @@ pub fn record_at(figures: &[u16], n: usize, i: usize) -> Patch
         size: figures[i],
         height: byte(figures[4 * n + i]),
         depth: byte(figures[3 * n + i]),
-        columns: sum(figures[n + i]),
-        rows: sum(figures[2 * n + i]),
+        columns: figures[n + i],
+        rows: figures[2 * n + i],
     }
 }
 

@@ -1,5 +1,5 @@
 -- `patch_records::record_at` meets its contract: each figure is below a length, and the record has them.
-use Prim.Native.Nat.{_+_}
+use Prim.Native.Nat.{_+_, _*_}
 use lib.ListN.{getD}
 use Rattle.patch_records.specs.Records.{recordAt}
 use borrow.Author.Needs.{needs}
@@ -48,44 +48,38 @@ shared-slice-read-byte-2 c = search needs
 byte-requires-2 : tie.Need-byte-requires-2
 byte-requires-2 c κs = search needs
 
-add-sum : tie.Need-add-sum
-add-sum c = search needs
+add-t21 : tie.Need-add-t21
+add-t21 c = search needs
 
-mul-sum : tie.Need-mul-sum
-mul-sum c = search needs
+mul-t22 : tie.Need-mul-t22
+mul-t22 c = search needs
 
-shared-slice-read-sum : tie.Need-shared-slice-read-sum
-shared-slice-read-sum c = search needs
+shared-slice-read-t24 : tie.Need-shared-slice-read-t24
+shared-slice-read-t24 c = search needs
 
-sum-requires : tie.Need-sum-requires
-sum-requires c κs = search needs
+mul-t25 : tie.Need-mul-t25
+mul-t25 c = search needs
 
-mul-sum-2 : tie.Need-mul-sum-2
-mul-sum-2 c = search needs
+add-t26 : tie.Need-add-t26
+add-t26 c = search needs
 
-add-sum-2 : tie.Need-add-sum-2
-add-sum-2 c = search needs
+mul-t27 : tie.Need-mul-t27
+mul-t27 c = search needs
 
-mul-sum-3 : tie.Need-mul-sum-3
-mul-sum-3 c = search needs
-
-shared-slice-read-sum-2 : tie.Need-shared-slice-read-sum-2
-shared-slice-read-sum-2 c = search needs
-
-sum-requires-2 : tie.Need-sum-requires-2
-sum-requires-2 c κs = search needs
+shared-slice-read-t29 : tie.Need-shared-slice-read-t29
+shared-slice-read-t29 c = search needs
 
 returns : tie.Need-returns
 unfolding recordAt
 returns c i =
-    let s = c .before .before .before .before .before .before .before .before .before .before in
+    let s = c .before .before .before .before .before .before .before .before in
     record {
       number = s .args .i + 1;
       size = getD (s .args .figures .now) (s .args .i) 0;
-      height = c .before .before .before .before .before .before .byte .ensures i;
-      depth = c .before .before .before .before .byte2 .ensures i;
-      columns = c .before .before .sum .ensures i;
-      rows = c .sum2 .ensures i;
+      height = c .before .before .before .before .byte .ensures i;
+      depth = c .before .before .byte2 .ensures i;
+      columns = getD (s .args .figures .now) (s .args .n + s .args .i) 0;
+      rows = getD (s .args .figures .now) (2 * s .args .n + s .args .i) 0;
     }
 
 pub record-at-spec : {M : Type 1} → statement M
@@ -106,13 +100,11 @@ record-at-spec =
     mul-byte-4
     shared-slice-read-byte-2
     byte-requires-2
-    add-sum
-    mul-sum
-    shared-slice-read-sum
-    sum-requires
-    mul-sum-2
-    add-sum-2
-    mul-sum-3
-    shared-slice-read-sum-2
-    sum-requires-2
+    add-t21
+    mul-t22
+    shared-slice-read-t24
+    mul-t25
+    add-t26
+    mul-t27
+    shared-slice-read-t29
     returns)

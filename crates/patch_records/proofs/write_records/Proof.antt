@@ -206,7 +206,7 @@ module _ {M : Type 1} (𝓤 : URA M) (H : Heap 𝓤) (A : Atoms 𝓤) (W : Given
         land ! (from ! (stop !)) (init ! 6 refl (typed i u is)) $
         assigns ! (bin ! (load ! (from ! (stop !)) (look ! 4 refl)) (lit ! tt) (record { fits = offset-fits })) (from ! (stop !)) (init ! 7 refl (tt, record { fits = offset-fits })) $
         assigns ! (bin ! (load ! (from ! (fld ! refl (stop !))) (look-in ! 12 (sub ! 0 refl (whole !)))) (load ! (from ! (stop !)) (look ! 7 refl)) tt) (from ! (stop !)) (init ! 8 refl (tt, tt)) $
-        rewrite ! 8 (λ (p : ℕ). ‵ (fat fullShare tyPtr l₉ 0 (vptr b p))) (sym (place-is 16 o i)) refl $
+        rewrite ! 8 (λ (p : ℕ). ‵ (fat fullShare tyPtr l₉ 0 (vptr b p))) (sym (place-is 10 o i)) refl $
         move ! (3 ∷ []) $ elem-out ! R (Is R) (shows 𝓤 H A R) (LL.vals T.the-type T′.the-laws) (LL.tells T.the-type T′.the-laws) fullShare (cur i) i (rec i) b o within (λ _.
         -- [the element; what it owns; the others; the record; the token; what the figures own; _5; _6; _7; _8; _9; the open borrow; ..]
         assigns ! (of-opd ! (load ! (from ! (stop !)) (look ! 8 refl))) (from ! (hop ! (look ! 10 refl) (stop !))) (store-raw ! 0 refl (typed i u is)) $
@@ -229,8 +229,8 @@ module _ {M : Type 1} (𝓤 : URA M) (H : Heap 𝓤) (A : Atoms 𝓤) (W : Given
         next-fits : i + 1 < 2 ^ 64
         next-fits = omega (arith, small, count-fits)
 
-        offset-fits : i * 16 < 2 ^ 64
-        offset-fits = let most : length xs * 16 < 2 ^ 63 = room₁ .1 in omega (arith, under, most)
+        offset-fits : i * 10 < 2 ^ 64
+        offset-fits = let most : length xs * 10 < 2 ^ 63 = room₁ .1 in omega (arith, under, most)
 
         typed : (j : ℕ) (u : Val) → Is R (rec j) (u ∷ []) → Holds (hasTy T′.mir u) × WT u
         typed j u is = LL.lawful T.the-type T′.the-laws 𝓤 H A W .typed (rec j) _ is .0
