@@ -20,7 +20,7 @@
 #include <string.h>
 #include <time.h>
 
-#define ROUNDS 15
+#define ROUNDS 25
 #define ROUND_SECONDS 400e-6
 #define CALLS 8
 #define SIDES 4
@@ -174,21 +174,30 @@ struct times {
     double ours, peer;
 };
 
-/* The least times of a call in seconds. */
-static struct times measure(unsigned call)
+/* How many calls fill a round. */
+static unsigned repeats_of(unsigned call)
 {
     double once = round_of(call, 1, 1);
-    unsigned repeats = once > ROUND_SECONDS ? 1 : (unsigned)(ROUND_SECONDS / once) + 1;
-    struct times least = { 1e9, 1e9 };
-    for (unsigned i = 0; i < ROUNDS; i++) {
-        double first = round_of(call, 1, repeats);
-        double second = round_of(call, 0, repeats);
-        if (first < least.ours)
-            least.ours = first;
-        if (second < least.peer)
-            least.peer = second;
+    return once > ROUND_SECONDS ? 1 : (unsigned)(ROUND_SECONDS / once) + 1;
+}
+
+/* The least times of all calls in seconds; every round has all calls, ours and the peer's in turn. */
+static void measure(struct times *least)
+{
+    unsigned repeats[CALLS];
+    for (unsigned call = 0; call < CALLS; call++) {
+        repeats[call] = repeats_of(call);
+        least[call] = (struct times){ 1e9, 1e9 };
     }
-    return least;
+    for (unsigned i = 0; i < ROUNDS; i++)
+        for (unsigned call = 0; call < CALLS; call++) {
+            double first = round_of(call, 1, repeats[call]);
+            double second = round_of(call, 0, repeats[call]);
+            if (first < least[call].ours)
+                least[call].ours = first;
+            if (second < least[call].peer)
+                least[call].peer = second;
+        }
 }
 
 static struct times table[2][SIDES][PICTURE_COUNT][CALLS];
@@ -232,18 +241,20 @@ static void print_times(unsigned adjacency)
     }
 }
 
-/* The largest time over all pictures at each side. */
-static void print_growth(unsigned adjacency)
+/* The time of one picture at each side, or for PICTURE_COUNT the largest time of all pictures. */
+static void print_growth(unsigned adjacency, unsigned picture)
 {
-    printf("\nLargest time of ours over all pictures in nanoseconds a pixel, adjacency %u\n",
-           adjacency ? 8 : 4);
+    printf("\nTime of ours in nanoseconds a pixel, %s, adjacency %u\n",
+           picture < PICTURE_COUNT ? picture_names[picture]
+           : "largest of all pictures", adjacency ? 8 : 4);
     print_head("side");
     for (unsigned s = 0; s < SIDES; s++) {
         printf("| %u |", sides[s]);
         for (unsigned call = 0; call < CALLS; call++) {
             double most = 0;
             for (unsigned p = 0; p < PICTURE_COUNT; p++)
-                if (table[adjacency][s][p][call].ours > most)
+                if ((picture == p || picture == PICTURE_COUNT)
+                    && table[adjacency][s][p][call].ours > most)
                     most = table[adjacency][s][p][call].ours;
             printf(" %.1f |", most * 1e9 / (sides[s] * sides[s]));
         }
@@ -303,13 +314,13 @@ int main(int arguments, char **argument)
         for (unsigned s = 0; s < SIDES; s++)
             for (unsigned p = 0; p < PICTURE_COUNT; p++) {
                 take(p, sides[s], adjacency ? 8 : 4);
-                for (unsigned call = 0; call < CALLS; call++)
-                    table[adjacency][s][p][call] = measure(call);
+                measure(table[adjacency][s][p]);
             }
     for (unsigned adjacency = 0; adjacency < 2; adjacency++) {
         print_ratios(adjacency);
         print_times(adjacency);
-        print_growth(adjacency);
+        print_growth(adjacency, NOISE);
+        print_growth(adjacency, PICTURE_COUNT);
     }
     print_against_tree();
     return 0;

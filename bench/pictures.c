@@ -25,30 +25,29 @@ static void noise(unsigned side, uint8_t *pixels, unsigned bound)
         pixels[x] = (uint8_t)draw(bound);
 }
 
-/* A pale panel with dark round holds, about 60 at 40 by 40, and some noise. */
+/*
+ * A pale panel, lit from above, with dark round holds on a grid of five
+ * pixels, moved and sized by chance: 64 at 40 by 40.
+ */
 static void wall(unsigned side, uint8_t *pixels)
 {
     for (unsigned x = 0; x < side * side; x++)
-        pixels[x] = (uint8_t)(200 + draw(20));
-    for (unsigned hold = 0; hold < (side * side + 25) / 26; hold++) {
-        int column = (int)draw(side), row = (int)draw(side);
-        int radius = 1 + (int)draw(2), depth = 60 + (int)draw(80);
-        for (int r = row - radius; r <= row + radius; r++)
-            for (int c = column - radius; c <= column + radius; c++) {
-                int away = (r - row) * (r - row) + (c - column) * (c - column);
-                if (r < 0 || c < 0 || r >= (int)side || c >= (int)side
-                    || away > radius * radius)
-                    continue;
-                uint8_t value = (uint8_t)(170 - depth + 20 * away
-                                          + (int)draw(6));
-                uint8_t *at = &pixels[(unsigned)r * side + (unsigned)c];
-                if (value < *at)
-                    *at = value;
-            }
-    }
+        pixels[x] = (uint8_t)(200 + (side - 1 - x / side) / 2);
+    for (unsigned top = 0; top + 5 <= side; top += 5)
+        for (unsigned left = 0; left + 5 <= side; left += 5) {
+            int row = (int)(top + 1 + draw(3)), column = (int)(left + 1 + draw(3));
+            int radius = 2 + (int)draw(4), depth = 60 + (int)draw(80);
+            for (int r = row - 1; r <= row + 1; r++)
+                for (int c = column - 1; c <= column + 1; c++) {
+                    int away = (r - row) * (r - row) + (c - column) * (c - column);
+                    if (away <= radius)
+                        pixels[(unsigned)r * side + (unsigned)c] =
+                            (uint8_t)(170 - depth + 15 * away + (int)draw(6));
+                }
+        }
 }
 
-/* Dark teeth, each rising by one value a row, on a common back. */
+/* Dark teeth on a common back, each darker by one value a row. */
 static void comb(unsigned side, uint8_t *pixels)
 {
     for (unsigned x = 0; x < side * side; x++) {

@@ -6,6 +6,7 @@
 #include <stdint.h>
 
 #define PICTURE_COUNT 11
+#define NOISE 1
 
 extern const char *const picture_names[PICTURE_COUNT];
 
