@@ -1,4 +1,4 @@
-.PHONY: run test
+.PHONY: run test bench
 # Builds `holds` and prints the hold list of the example wall; what the build says goes to standard error.
 run:
 	@rt check holds >&2
@@ -6,3 +6,6 @@ run:
 # The whole gate: tests, proofs, must-fail edits, programs.
 test:
 	bash .ci/run
+# Measurements against peers in C; not a part of the gate.
+bench:
+	bash bench/run

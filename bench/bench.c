@@ -1,0 +1,327 @@
+/*
+ * Compares our calls with their peers: first that every result and every
+ * lent entry is the same on every picture, then the times, ours and the
+ * peer's in turn, in one process. The time of a call is the least of all
+ * rounds, in processor time of the thread.
+ *
+ * With the argument `once` each call runs once at 40 by 40, ours and then the
+ * peer's, in the function `counted`, for a tool that counts instructions; a
+ * line for each pair names it.
+ */
+
+#define _POSIX_C_SOURCE 199309L
+
+#include "calls.h"
+#include "geometry.h"
+#include "pictures.h"
+
+#include <stdio.h>
+#include <stdlib.h>
+#include <string.h>
+#include <time.h>
+
+#define ROUNDS 25
+#define ROUND_SECONDS 400e-6
+#define CALLS 8
+#define SIDES 4
+
+static const unsigned sides[SIDES] = { 5, 10, 20, 40 };
+static const char *const call_names[CALLS] = {
+    "label_section, median", "label_section, 255", "is_lowerable",
+    "component_tree", "check_tree", "pass_between", "watershed_of",
+    "query_place",
+};
+
+/* All memory that a call may be lent. */
+struct memory {
+    uint8_t heights[LARGEST_N], bytes[LARGEST_N];
+    uint16_t fathers[LARGEST_N], firsts[LARGEST_N], map[LARGEST_N];
+    uint16_t labels[LARGEST_N], work[5 * LARGEST_N];
+};
+
+static uint8_t pixels[LARGEST_N];
+static struct memory ours, peer;
+static uint32_t a, w, n, count, place;
+static uint8_t median;
+
+static uint8_t median_pixel(void)
+{
+    unsigned tally[256] = { 0 }, below = 0, k = 0;
+    for (unsigned x = 0; x < n; x++)
+        tally[pixels[x]]++;
+    while ((below += tally[k]) * 2 < n)
+        k++;
+    return (uint8_t)k;
+}
+
+/* The place of the first largest pixel. */
+static uint32_t largest_place(void)
+{
+    uint32_t best = 0;
+    for (uint32_t x = 0; x < n; x++)
+        if (pixels[x] > pixels[best])
+            best = x;
+    return best;
+}
+
+static uint64_t run(unsigned call, int is_ours, struct memory *m)
+{
+    switch (call) {
+    case 0:
+    case 1:
+        return (is_ours ? bench_label_section : peer_label_section)(a, w, w,
+            pixels, n, call ? 255 : median, m->labels, n, m->work, 5 * n);
+    case 2:
+        return (is_ours ? bench_is_lowerable : peer_is_lowerable)(a, w, w,
+            pixels, n, place, m->work, 5 * n);
+    case 3:
+        return (is_ours ? bench_component_tree : peer_component_tree)(a, w, w,
+            pixels, n, m->heights, n, m->fathers, n, m->firsts, n, m->map, n,
+            m->work, 5 * n);
+    case 4:
+        return (is_ours ? bench_check_tree : peer_check_tree)(a, w, w,
+            pixels, n, count, m->heights, n, m->fathers, n, m->firsts, n,
+            m->map, n, m->work, 5 * n);
+    case 5:
+        return (is_ours ? bench_pass_between : peer_pass_between)(a, w, w,
+            pixels, n, count, m->heights, n, m->fathers, n, m->firsts, n,
+            m->map, n, 0, n - 1, m->work, 5 * n);
+    case 6:
+        return (is_ours ? bench_watershed_of : peer_watershed_of)(a, w, w,
+            pixels, n, m->bytes, n, m->work, 5 * n);
+    default:
+        return (is_ours ? bench_query_place : peer_query_place)(a, w, w,
+            pixels, n, place, m->work, 5 * n);
+    }
+}
+
+/* Runs a call of both and ends the program if an answer or an entry differs. */
+static void same(unsigned call, unsigned picture)
+{
+    uint64_t first = run(call, 1, &ours), second = run(call, 0, &peer);
+    if (first == second && memcmp(&ours, &peer, sizeof ours) == 0)
+        return;
+    printf("%s differs: %s, side %u, adjacency %u: %llx %llx\n",
+           call_names[call], picture_names[picture], w, a,
+           (unsigned long long)first, (unsigned long long)second);
+    exit(1);
+}
+
+/* Takes a picture and makes its tree. */
+static void take(unsigned picture, unsigned side, uint32_t adjacency)
+{
+    a = adjacency;
+    w = side;
+    n = w * w;
+    make_picture(picture, w, pixels);
+    median = median_pixel();
+    place = largest_place();
+    memset(&ours, 171, sizeof ours);
+    peer = ours;
+    count = (uint32_t)run(3, 1, &ours);
+    run(3, 0, &peer);
+}
+
+/* Compares all calls, at all places where a call takes one; trees with one entry changed are compared too. */
+static void compare(unsigned picture)
+{
+    for (unsigned call = 0; call < CALLS; call++)
+        same(call, picture);
+    for (unsigned k = 0; k < 256; k += 5) {
+        median = (uint8_t)k;
+        same(0, picture);
+    }
+    for (place = 0; place <= n; place++) {
+        same(2, picture);
+        same(7, picture);
+    }
+    for (unsigned i = 0; i < n; i += 1 + n / 100) {
+        uint16_t *lists[3][2] = {
+            { ours.fathers, peer.fathers }, { ours.firsts, peer.firsts },
+            { ours.map, peer.map },
+        };
+        for (unsigned list = 0; list < 3; list++) {
+            lists[list][0][i]++;
+            lists[list][1][i]++;
+            same(4, picture);
+            lists[list][0][i]--;
+            lists[list][1][i]--;
+        }
+    }
+    median = median_pixel();
+    place = largest_place();
+}
+
+static double now(void)
+{
+    struct timespec t;
+    clock_gettime(CLOCK_THREAD_CPUTIME_ID, &t);
+    return (double)t.tv_sec + (double)t.tv_nsec * 1e-9;
+}
+
+static volatile uint64_t sink;
+
+static double round_of(unsigned call, int is_ours, unsigned repeats)
+{
+    struct memory *m = is_ours ? &ours : &peer;
+    double begin = now();
+    for (unsigned i = 0; i < repeats; i++)
+        sink = run(call, is_ours, m);
+    return (now() - begin) / repeats;
+}
+
+struct times {
+    double ours, peer;
+};
+
+/* How many calls fill a round. */
+static unsigned repeats_of(unsigned call)
+{
+    double once = round_of(call, 1, 1);
+    return once > ROUND_SECONDS ? 1 : (unsigned)(ROUND_SECONDS / once) + 1;
+}
+
+/* The least times of all calls in seconds; every round has all calls, ours and the peer's in turn. */
+static void measure(struct times *least)
+{
+    unsigned repeats[CALLS];
+    for (unsigned call = 0; call < CALLS; call++) {
+        repeats[call] = repeats_of(call);
+        least[call] = (struct times){ 1e9, 1e9 };
+    }
+    for (unsigned i = 0; i < ROUNDS; i++)
+        for (unsigned call = 0; call < CALLS; call++) {
+            double first = round_of(call, 1, repeats[call]);
+            double second = round_of(call, 0, repeats[call]);
+            if (first < least[call].ours)
+                least[call].ours = first;
+            if (second < least[call].peer)
+                least[call].peer = second;
+        }
+}
+
+static struct times table[2][SIDES][PICTURE_COUNT][CALLS];
+
+static void print_head(const char *first)
+{
+    printf("\n| %s |", first);
+    for (unsigned call = 0; call < CALLS; call++)
+        printf(" %s |", call_names[call]);
+    printf("\n|---|");
+    for (unsigned call = 0; call < CALLS; call++)
+        printf("---|");
+    printf("\n");
+}
+
+static void print_ratios(unsigned adjacency)
+{
+    printf("\nTime of ours over time of the peer, 40 by 40, adjacency %u\n",
+           adjacency ? 8 : 4);
+    print_head("picture");
+    for (unsigned p = 0; p < PICTURE_COUNT; p++) {
+        printf("| %s |", picture_names[p]);
+        for (unsigned call = 0; call < CALLS; call++) {
+            struct times t = table[adjacency][SIDES - 1][p][call];
+            printf(" %.2f |", t.ours / t.peer);
+        }
+        printf("\n");
+    }
+}
+
+static void print_times(unsigned adjacency)
+{
+    printf("\nTime of ours in microseconds, 40 by 40, adjacency %u\n",
+           adjacency ? 8 : 4);
+    print_head("picture");
+    for (unsigned p = 0; p < PICTURE_COUNT; p++) {
+        printf("| %s |", picture_names[p]);
+        for (unsigned call = 0; call < CALLS; call++)
+            printf(" %.1f |", table[adjacency][SIDES - 1][p][call].ours * 1e6);
+        printf("\n");
+    }
+}
+
+/* The time of one picture at each side, or for PICTURE_COUNT the largest time of all pictures. */
+static void print_growth(unsigned adjacency, unsigned picture)
+{
+    printf("\nTime of ours in nanoseconds a pixel, %s, adjacency %u\n",
+           picture < PICTURE_COUNT ? picture_names[picture]
+           : "largest of all pictures", adjacency ? 8 : 4);
+    print_head("side");
+    for (unsigned s = 0; s < SIDES; s++) {
+        printf("| %u |", sides[s]);
+        for (unsigned call = 0; call < CALLS; call++) {
+            double most = 0;
+            for (unsigned p = 0; p < PICTURE_COUNT; p++)
+                if ((picture == p || picture == PICTURE_COUNT)
+                    && table[adjacency][s][p][call].ours > most)
+                    most = table[adjacency][s][p][call].ours;
+            printf(" %.1f |", most * 1e9 / (sides[s] * sides[s]));
+        }
+        printf("\n");
+    }
+}
+
+static void print_against_tree(void)
+{
+    printf("\nTime of query_place over time of component_tree, ours, 40 by 40\n");
+    printf("\n| picture | adjacency 4 | adjacency 8 |\n|---|---|---|\n");
+    for (unsigned p = 0; p < PICTURE_COUNT; p++) {
+        printf("| %s |", picture_names[p]);
+        for (unsigned adjacency = 0; adjacency < 2; adjacency++) {
+            struct times *t = table[adjacency][SIDES - 1][p];
+            printf(" %.2f |", t[7].ours / t[3].ours);
+        }
+        printf("\n");
+    }
+}
+
+__attribute__((noinline)) static void counted(unsigned call, int is_ours)
+{
+    sink = run(call, is_ours, is_ours ? &ours : &peer);
+}
+
+static void run_once(void)
+{
+    for (unsigned adjacency = 4; adjacency <= 8; adjacency += 4)
+        for (unsigned p = 0; p < PICTURE_COUNT; p++) {
+            take(p, LARGEST_SIDE, adjacency);
+            for (unsigned call = 0; call < CALLS; call++) {
+                printf("%u|%s|%s\n", adjacency, picture_names[p],
+                       call_names[call]);
+                counted(call, 1);
+                counted(call, 0);
+            }
+        }
+}
+
+int main(int arguments, char **argument)
+{
+    if (arguments > 1 && strcmp(argument[1], "once") == 0) {
+        run_once();
+        return 0;
+    }
+    for (unsigned adjacency = 0; adjacency < 2; adjacency++)
+        for (unsigned s = 0; s < SIDES; s++)
+            for (unsigned p = 0; p < PICTURE_COUNT; p++) {
+                take(p, sides[s], adjacency ? 8 : 4);
+                compare(p);
+            }
+    printf("results: the same on %u pictures with both adjacencies\n",
+           SIDES * PICTURE_COUNT);
+    fflush(stdout);
+    for (unsigned adjacency = 0; adjacency < 2; adjacency++)
+        for (unsigned s = 0; s < SIDES; s++)
+            for (unsigned p = 0; p < PICTURE_COUNT; p++) {
+                take(p, sides[s], adjacency ? 8 : 4);
+                measure(table[adjacency][s][p]);
+            }
+    for (unsigned adjacency = 0; adjacency < 2; adjacency++) {
+        print_ratios(adjacency);
+        print_times(adjacency);
+        print_growth(adjacency, NOISE);
+        print_growth(adjacency, PICTURE_COUNT);
+    }
+    print_against_tree();
+    return 0;
+}

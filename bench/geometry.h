@@ -1,0 +1,62 @@
+/* The sides of a picture, the neighbours of a place, and the refusals. */
+
+#ifndef GEOMETRY_H
+#define GEOMETRY_H
+
+#include <stddef.h>
+#include <stdint.h>
+
+#define LARGEST_SIDE 40
+#define LARGEST_N (LARGEST_SIDE * LARGEST_SIDE)
+
+struct grid {
+    unsigned stride;            /* 2 for adjacency 4, 1 for adjacency 8 */
+    unsigned width;
+    unsigned height;
+    unsigned n;
+};
+
+static inline struct grid grid_of(uint32_t a, uint32_t w, uint32_t h)
+{
+    return (struct grid){ a == 4 ? 2 : 1, w, h, w * h };
+}
+
+static const struct { int8_t column, row; } steps[8] = {
+    { 0, -1 }, { 1, -1 }, { 1, 0 }, { 1, 1 },
+    { 0, 1 }, { -1, 1 }, { -1, 0 }, { -1, -1 },
+};
+
+/* Writes the neighbours of the place x in the table's order; answers how many there are. */
+static inline unsigned neighbours(struct grid g, unsigned x, uint16_t *near)
+{
+    unsigned column = x % g.width, row = x / g.width, count = 0;
+    for (unsigned i = 0; i < 8; i += g.stride) {
+        unsigned c = column + (unsigned)steps[i].column;
+        unsigned r = row + (unsigned)steps[i].row;
+        if (c < g.width && r < g.height)
+            near[count++] = (uint16_t)(r * g.width + c);
+    }
+    return count;
+}
+
+/* The number of the first refusal that numbers and lengths decide, or 0. */
+static inline unsigned fault_of(uint32_t a, uint32_t w, uint32_t h, size_t n,
+                                size_t out_length, size_t work_length)
+{
+    if (a != 4 && a != 8)
+        return 7;
+    if (w < 1 || w > LARGEST_SIDE || h < 1 || h > LARGEST_SIDE)
+        return 3;
+    if (n != (size_t)w * h)
+        return 8;
+    if (out_length < n || work_length < 5 * n)
+        return 9;
+    return 0;
+}
+
+static inline uint64_t refused(unsigned number)
+{
+    return (uint64_t)number << 32;
+}
+
+#endif

@@ -1,0 +1,186 @@
+/*
+ * The largest stack of each of our calls at 40 by 40: each call runs on a
+ * stack of its own that was filled with a pattern, on every picture, with
+ * both adjacencies, several places and two patterns. What an empty function
+ * takes in its place is taken off, but for the return address; arguments that
+ * are passed in memory are the caller's and not counted. For x86-64.
+ */
+
+#include "board.h"
+#include "calls.h"
+#include "geometry.h"
+#include "pictures.h"
+
+#include <stdio.h>
+#include <string.h>
+
+#define STACK_ROOM 65536
+#define RETURN_ADDRESS 8
+#define MEMORY_OF_CONTROLLER 32768
+#define HEADER "P5\n40 40\n255\n"
+#define HEADER_LENGTH 13
+
+typedef void any_function(void);
+
+static _Alignas(64) uint8_t stack[STACK_ROOM];
+static const uint32_t side = LARGEST_SIDE;
+static const size_t n = LARGEST_N;
+static uint8_t file[HEADER_LENGTH + LARGEST_N] = HEADER;
+static uint8_t *const pixels = file + HEADER_LENGTH;
+static uint8_t heights[LARGEST_N], bytes[LARGEST_N];
+static uint8_t packed_work[10 * LARGEST_N];
+static uint16_t fathers[LARGEST_N], firsts[LARGEST_N], map[LARGEST_N];
+static uint16_t labels[LARGEST_N], work[5 * LARGEST_N];
+static uint32_t a, count, place;
+static uint64_t answer;
+
+/* The function that is called: one of ours, or the empty one. */
+static any_function *function;
+
+static void empty(void)
+{
+}
+
+static void label_section(void)
+{
+    answer = ((label_section_call *)function)(a, side, side, pixels, n, 255,
+                                              labels, n, work, 5 * n);
+}
+
+static void is_lowerable(void)
+{
+    answer = ((is_lowerable_call *)function)(a, side, side, pixels, n, place,
+                                             work, 5 * n);
+}
+
+static void component_tree(void)
+{
+    answer = ((component_tree_call *)function)(a, side, side, pixels, n,
+        heights, n, fathers, n, firsts, n, map, n, work, 5 * n);
+}
+
+static void check_tree(void)
+{
+    answer = ((check_tree_call *)function)(a, side, side, pixels, n, count,
+        heights, n, fathers, n, firsts, n, map, n, work, 5 * n);
+}
+
+static void pass_between(void)
+{
+    answer = ((pass_between_call *)function)(a, side, side, pixels, n, count,
+        heights, n, fathers, n, firsts, n, map, n, 0, place, work, 5 * n);
+}
+
+static void watershed_of(void)
+{
+    answer = ((watershed_of_call *)function)(a, side, side, pixels, n,
+                                             bytes, n, work, 5 * n);
+}
+
+static void query_place(void)
+{
+    answer = ((query_place_call *)function)(a, side, side, pixels, n, place,
+                                            work, 5 * n);
+}
+
+static void read_for_c(void)
+{
+    answer = ((uint32_t (*)(const uint8_t *, size_t, uint8_t *, size_t))function)(
+        file, sizeof file, bytes, 32);
+}
+
+static void watershed_for_c(void)
+{
+    answer = ((uint32_t (*)(uint32_t, uint32_t, uint32_t, const uint8_t *, size_t,
+                            uint8_t *, size_t, uint8_t *, size_t))function)(
+        a, side, side, pixels, n, bytes, n, packed_work, 10 * n);
+}
+
+static void place_for_c(void)
+{
+    answer = ((uint32_t (*)(uint32_t, uint32_t, uint32_t, const uint8_t *, size_t,
+                            uint32_t, uint8_t *, size_t, uint8_t *, size_t))function)(
+        a, side, side, pixels, n, place, bytes, 16, packed_work, 10 * n);
+}
+
+static const struct {
+    const char *name;
+    unsigned lent;              /* bytes, the picture or the file too */
+    any_function *ours, *with_arguments;
+} calls[] = {
+    { "label_section", 20800, (any_function *)bench_label_section, label_section },
+    { "is_lowerable", 17600, (any_function *)bench_is_lowerable, is_lowerable },
+    { "component_tree", 28800, (any_function *)bench_component_tree, component_tree },
+    { "check_tree", 28800, (any_function *)bench_check_tree, check_tree },
+    { "pass_between", 28800, (any_function *)bench_pass_between, pass_between },
+    { "watershed_of", 19200, (any_function *)bench_watershed_of, watershed_of },
+    { "query_place", 17600, (any_function *)bench_query_place, query_place },
+    { "board_read", sizeof file + 32, (any_function *)board_read, read_for_c },
+    { "board_watershed", 19200, (any_function *)board_watershed, watershed_for_c },
+    { "board_place", 17616, (any_function *)board_place, place_for_c },
+};
+
+/* Runs a function on the stack that ends at top. */
+static void run_on(uint8_t *top, any_function *f)
+{
+    __asm__ volatile("movq %%rsp, %%rbx\n\t"
+                     "movq %0, %%rsp\n\t"
+                     "call *%1\n\t"
+                     "movq %%rbx, %%rsp"
+                     : "+r"(top), "+r"(f) :
+                     : "rbx", "rax", "rcx", "rdx", "rsi", "rdi", "r8", "r9",
+                       "r10", "r11", "memory", "cc",
+                       "xmm0", "xmm1", "xmm2", "xmm3", "xmm4", "xmm5", "xmm6",
+                       "xmm7", "xmm8", "xmm9", "xmm10", "xmm11", "xmm12",
+                       "xmm13", "xmm14", "xmm15");
+}
+
+/* How many bytes of the stack a call changes. */
+static unsigned used(any_function *with_arguments, uint8_t pattern)
+{
+    unsigned i = 0;
+    memset(stack, pattern, sizeof stack);
+    run_on(stack + sizeof stack, with_arguments);
+    while (i < sizeof stack && stack[i] == pattern)
+        i++;
+    return (unsigned)sizeof stack - i;
+}
+
+static unsigned larger(unsigned x, unsigned y)
+{
+    return x > y ? x : y;
+}
+
+static unsigned largest_used(any_function *f, any_function *with_arguments)
+{
+    unsigned most = 0;
+    for (unsigned p = 0; p < PICTURE_COUNT; p++)
+        for (a = 4; a <= 8; a += 4) {
+            make_picture(p, side, pixels);
+            count = (uint32_t)bench_component_tree(a, side, side, pixels, n,
+                heights, n, fathers, n, firsts, n, map, n, work, 5 * n);
+            function = f;
+            for (place = 0; place < n; place += 533) {
+                most = larger(most, used(with_arguments, 0xa5));
+                most = larger(most, used(with_arguments, 0x5a));
+            }
+        }
+    return most;
+}
+
+int main(void)
+{
+    printf("\nStack of our calls in bytes, 40 by 40\n\n");
+    printf("| call | lent | stack | together | within %d |\n|---|---|---|---|---|\n",
+           MEMORY_OF_CONTROLLER);
+    for (unsigned i = 0; i < sizeof calls / sizeof *calls; i++) {
+        any_function *with_arguments = calls[i].with_arguments;
+        unsigned own = largest_used(calls[i].ours, with_arguments)
+            - largest_used(empty, with_arguments) + RETURN_ADDRESS;
+        unsigned whole = calls[i].lent + own;
+        printf("| `%s` | %u | %u | %u | %s |\n", calls[i].name,
+               calls[i].lent, own, whole,
+               whole <= MEMORY_OF_CONTROLLER ? "yes" : "no");
+    }
+    return 0;
+}

@@ -1,0 +1,133 @@
+// The calls for measurements from C: numbers and memory as they are, the answer as one number. They promise nothing but safety.
+use board::Answer;
+use board::Ground;
+ghost use Prim.Native.Nat.{_≤_};
+
+// The refusal's number above 32 bits of value.
+fn as_number(answer: Answer) -> u64 {
+    answer.number as u64 * 4294967296 + answer.value as u64
+}
+
+// The number of a patch, 0 for the line.
+fn patch_of(ground: Ground) -> u64
+    ensures { λ r. ⌜ r ≤ 65535 ⌝ }
+{
+    match ground {
+        Ground::Line => 0,
+        Ground::Patch(number) => number as u64,
+    }
+}
+
+#[no_mangle]
+pub extern "C" fn bench_label_section(
+    a: u32,
+    w: u32,
+    h: u32,
+    pixels: &[u8],
+    k: u8,
+    out: &mut [u16],
+    work: &mut [u16],
+) -> u64 {
+    as_number(board::label_section(a, w, h, pixels, k, out, work))
+}
+
+#[no_mangle]
+pub extern "C" fn bench_is_lowerable(
+    a: u32,
+    w: u32,
+    h: u32,
+    pixels: &[u8],
+    place: u32,
+    work: &mut [u16],
+) -> u64 {
+    as_number(board::is_lowerable(a, w, h, pixels, place, work))
+}
+
+#[no_mangle]
+pub extern "C" fn bench_component_tree(
+    a: u32,
+    w: u32,
+    h: u32,
+    pixels: &[u8],
+    heights: &mut [u8],
+    fathers: &mut [u16],
+    firsts: &mut [u16],
+    map: &mut [u16],
+    work: &mut [u16],
+) -> u64 {
+    as_number(board::component_tree(a, w, h, pixels, heights, fathers, firsts, map, work))
+}
+
+#[no_mangle]
+pub extern "C" fn bench_check_tree(
+    a: u32,
+    w: u32,
+    h: u32,
+    pixels: &[u8],
+    count: u32,
+    heights: &[u8],
+    fathers: &[u16],
+    firsts: &[u16],
+    map: &[u16],
+    work: &mut [u16],
+) -> u64 {
+    as_number(board::check_tree(a, w, h, pixels, count, heights, fathers, firsts, map, work))
+}
+
+#[no_mangle]
+pub extern "C" fn bench_pass_between(
+    a: u32,
+    w: u32,
+    h: u32,
+    pixels: &[u8],
+    count: u32,
+    heights: &[u8],
+    fathers: &[u16],
+    firsts: &[u16],
+    map: &[u16],
+    x: u32,
+    y: u32,
+    work: &mut [u16],
+) -> u64 {
+    as_number(board::pass_between(
+        a,
+        w,
+        h,
+        pixels,
+        count,
+        heights,
+        fathers,
+        firsts,
+        map,
+        x,
+        y,
+        work,
+    ))
+}
+
+#[no_mangle]
+pub extern "C" fn bench_watershed_of(
+    a: u32,
+    w: u32,
+    h: u32,
+    pixels: &[u8],
+    out: &mut [u8],
+    work: &mut [u16],
+) -> u64 {
+    as_number(board::watershed_of(a, w, h, pixels, out, work))
+}
+
+// The refusal's number above 32 bits, the value above 16 bits, the patch's number.
+#[no_mangle]
+pub extern "C" fn bench_query_place(
+    a: u32,
+    w: u32,
+    h: u32,
+    pixels: &[u8],
+    place: u32,
+    work: &mut [u16],
+) -> u64 {
+    let answer = board::query_place(a, w, h, pixels, place, work);
+    let ground = answer.ground;
+    answer.number as u64 * 4294967296 + answer.value as u64 * 65536 + patch_of(ground)
+}
