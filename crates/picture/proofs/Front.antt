@@ -7,38 +7,99 @@ use native.Mathlib.Numerals.{add-one}
 use native.Mathlib.Nat.{add-zero, div-add-mod'}
 use native.Mathlib.Omega.{arith}
 use lib.Dec.{eqb}
+use lib.IntN.{ℤ}
 use lib.ListN.{length, take, drop, set, length-append, length-drop, take-append-drop, drop-of-length-le}
 use lib.Seq.{set-split, length-take-le, take-at, drop-at, drop-drop}
+use mir.Syntax.{w8}
+use mir.Val.{toZ, ofZ}
 use Rattle.picture.specs.declared.geometry.Step.{Step}
-use Rattle.picture.specs.Geometry.{steps, offset, used, within, stays, placeBy, reached, neighboursOf, Placed, Listed}
-use Rattle.picture.specs.Steps.{strideOf, stepAt, Leads, Put}
-use Rattle.picture.proofs.Lists.{and-both, on-pick}
-use Rattle.picture.proofs.Steps.{used-step, reached-step, reached-one, reached-none}
+use Rattle.picture.specs.Geometry.{steps, plusOne, offset, used, within, stays, placeBy, reached, neighboursOf, Placed, Listed}
+use Rattle.picture.specs.Steps.{isUnit, strideOf, stepAt, offEdge, inner, Stepping, Leads, Put}
+use Rattle.picture.proofs.Lists.{and-left, and-right, and-both, on-pick}
+use Rattle.picture.proofs.Sides.{area-most}
+use Rattle.picture.proofs.Steps.{on-unit, unit-column, unit-row, off-edge-within, within-some, place-most, leads-from, row-under, used-step, reached-step, reached-one, reached-none}
 
 -- a step that leaves the edge puts nothing, another puts its place
-module _ (w h x i c r : ℕ) (to : Leads (x % w) (x / w) i c r) (m : ℕ) (cells : List ℕ) where
-  stays-is : stays w h x (offset (stepAt i)) ≡ (within w c && within h r)
+module _ (w h x : ℕ) (s : Step) (c r : ℕ) (to : Leads (x % w) (x / w) s c r) (m : ℕ) (cells : List ℕ) where
+  stays-is : stays w h x (offset s) ≡ (within w c && within h r)
   stays-is = ap₂ (λ d e. within w d && within h e) (sym (to .column)) (sym (to .row))
 
-  put-none : (within w c && within h r) ≡ false → Put (reached w h x (stepAt i ∷ [])) m cells m cells
+  put-none : (within w c && within h r) ≡ false → Put (reached w h x (s ∷ [])) m cells m cells
   put-none e =
-      rw (reached-none w h x (stepAt i) (stays-is ∙ e))
+      rw (reached-none w h x s (stays-is ∙ e))
       (record { count = sym (add-zero m); whole = sym (take-append-drop m cells) })
 
-  pub put-beside : within w c ≡ false → Put (reached w h x (stepAt i ∷ [])) m cells m cells
+  pub put-beside : within w c ≡ false → Put (reached w h x (s ∷ [])) m cells m cells
   put-beside e = put-none (rw e)
 
-  pub put-beyond : within w c ≡ true → within h r ≡ false → Put (reached w h x (stepAt i ∷ [])) m cells m cells
+  pub put-beyond : within w c ≡ true → within h r ≡ false → Put (reached w h x (s ∷ [])) m cells m cells
   put-beyond d e = put-none (rw (d, e))
 
   pub put-one :
       within w c ≡ true → within h r ≡ true → m < length cells →
-      Put (reached w h x (stepAt i ∷ [])) m cells (m + 1) (set cells m ((r - 1) * w + (c - 1)))
+      Put (reached w h x (s ∷ [])) m cells (m + 1) (set cells m ((r - 1) * w + (c - 1)))
   put-one d e l =
-      let at : (r - 1) * w + (c - 1) ≡ placeBy w x (offset (stepAt i)) =
+      let at : (r - 1) * w + (c - 1) ≡ placeBy w x (offset s) =
       ap₂ (λ k n. (n - 1) * w + (k - 1)) (to .column) (to .row) in
-      rw (reached-one w h x (stepAt i) (stays-is ∙ and-both d e), at)
+      rw (reached-one w h x s (stays-is ∙ and-both d e), at)
       (record { count = refl; whole = set-split cells m _ l ∙ rw add-one })
+
+  pub put-written :
+      (n : ℕ) (after : List ℕ) → within w c ≡ true → within h r ≡ true → m < length cells → n ≡ m + 1 → after ≡ set cells m ((r - 1) * w + (c - 1)) →
+      Put (reached w h x (s ∷ [])) m cells n after
+  put-written n after d e l p q =
+      subst (λ (k : ℕ). Put (reached w h x (s ∷ [])) m cells k after) (sym p)
+      (subst (λ (k : List ℕ). Put (reached w h x (s ∷ [])) m cells (m + 1) k) (sym q) (put-one d e l))
+
+-- a step as the machine reads it
+abbrev read : ℤ → ℤ
+read z = toZ w8 (ofZ w8 z)
+
+read-unit : (z : ℤ) → isUnit z ≡ true → plusOne (read z) ≡ plusOne z
+read-unit z u = on-unit (λ z. plusOne (read z) ≡ plusOne z) refl refl refl z u
+
+-- a step from a place by its column and row: its target, each plus one
+module _ (w h column row : ℕ) (s : Step) (m : ℕ) (cells : List ℕ) (go : Stepping w h column row s m cells) where
+  column-low : column < 40
+  column-low = let a = go .placed .wide in let b = go .in-row in omega arith
+
+  row-low : row < 1600
+  row-low =
+      let most = area-most w h (go .placed .wide) (go .placed .high) in
+      row-under w column row (go .in-row) 1600 (omega (arith, go .placed .inside, most))
+
+  -- the sums fit
+  pub right-fits : (r : ℕ) → r ≡ plusOne (read (s .column)) → column + r < 2000
+  right-fits r e = let g = read-unit (s .column) (go .unit .column) in let a = column-low in let b = unit-column s (go .unit) in omega arith
+
+  pub down-fits : (d : ℕ) → d ≡ plusOne (read (s .row)) → row + d < 2000
+  down-fits d e = let g = read-unit (s .row) (go .unit .row) in let a = row-low in let b = unit-row s (go .unit) in omega arith
+
+  module _ (r d : ℕ) (er : r ≡ plusOne (read (s .column))) (ed : d ≡ plusOne (read (s .row))) where
+    right-is : r ≡ plusOne (s .column)
+    right-is = er ∙ read-unit (s .column) (go .unit .column)
+
+    down-is : d ≡ plusOne (s .row)
+    down-is = ed ∙ read-unit (s .row) (go .unit .row)
+
+    pub step-leads : Leads ((row * w + column) % w) ((row * w + column) / w) s (column + r) (row + d)
+    step-leads =
+        leads-from w column row (go .in-row) s (column + r) (row + d)
+        (record { column = ap (λ (n : ℕ). column + n) right-is; row = ap (λ (n : ℕ). row + n) down-is })
+
+    -- a target inside the edge is a place
+    pub target-place :
+        within w (column + r) ≡ true → within h (row + d) ≡ true →
+        (1 ≤ column + r) × (1 ≤ row + d) × ((row + d - 1) * w + (column + r - 1) < 1600) × (m < length cells)
+    target-place a b =
+        (within-some w (column + r) a, within-some h (row + d) b, place-most w h (column + r) (row + d) (go .placed .wide) (go .placed .high) a b, go .room)
+
+    -- from an inner place every target is inside the edge
+    pub inner-target : inner w h column row ≡ true → (within w (column + r) ≡ true) × (within h (row + d) ≡ true)
+    inner-target e = (
+      off-edge-within w column r (and-left (offEdge w column) _ e) (let b = unit-column s (go .unit) in omega (arith, b, right-is)),
+      off-edge-within h row d (and-right (offEdge w column) _ e) (let b = unit-row s (go .unit) in omega (arith, b, down-is)),
+    )
 
 -- a place by its row and column
 pub place-digits : (w h x : ℕ) → Placed w h x → Placed w h (x / w * w + x % w)

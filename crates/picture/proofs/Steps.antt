@@ -12,11 +12,11 @@ use lib.IntN.{ℤ, pos, negsuc}
 use Rattle.picture.specs.declared.geometry.Step.{Step}
 use lib.ListN.{length, getD, drop}
 use lib.Seq.{drop-cons}
-use borrow.Author.Tests.{leb-true}
+use borrow.Author.Tests.{leb-true, ltb-true, le-leb}
 use Rattle.picture.specs.Lists.{pick}
-use Rattle.picture.specs.Geometry.{step, steps, offset, everySecond, used, within, stays, placeBy, reached}
-use Rattle.picture.specs.Steps.{isUnit, strideOf, stepAt, Leads}
-use Rattle.picture.proofs.Lists.{and-left, and-right, all-at}
+use Rattle.picture.specs.Geometry.{step, steps, plusOne, offset, everySecond, used, within, stays, placeBy, reached}
+use Rattle.picture.specs.Steps.{isUnit, Unit, strideOf, stepAt, offEdge, Leads}
+use Rattle.picture.proofs.Lists.{and-left, and-right, and-both, all-at}
 use Rattle.picture.proofs.Sides.{area-most}
 
 -- what holds of −1, 0 and 1 holds of every step
@@ -27,15 +27,27 @@ on-unit P a b d (pos (suc (suc n))) t = let h = leb-true (suc (suc n)) 1 t in ab
 on-unit P a b d (negsuc zero) t = a
 on-unit P a b d (negsuc (suc n)) t = let h = leb-true (suc n) 0 t in absurd (omega arith)
 
--- a step of the table with one added is at most 2
-abbrev small : Step → Bool
-small s = leb (offset s .column) 2 && leb (offset s .row) 2
+-- every step of the table is by at most one
+pub step-unit : (i : ℕ) → Unit (stepAt i)
+step-unit i =
+    record {
+      column = all-at (λ (s : Step). isUnit (s .column)) steps (step (pos 0) (pos 0)) refl refl i;
+      row = all-at (λ (s : Step). isUnit (s .row)) steps (step (pos 0) (pos 0)) refl refl i;
+    }
 
-pub column-most : (i : ℕ) → offset (stepAt i) .column ≤ 2
-column-most i = leb-true _ 2 (and-left (leb (offset (stepAt i) .column) 2) _ (all-at small steps _ refl refl i))
+-- with one added it is at most 2
+pub unit-column : (s : Step) → Unit s → offset s .column ≤ 2
+unit-column s u = on-unit (λ z. plusOne z ≤ 2) (omega arith) (omega arith) (omega arith) (s .column) (u .column)
 
-pub row-most : (i : ℕ) → offset (stepAt i) .row ≤ 2
-row-most i = leb-true _ 2 (and-right (leb (offset (stepAt i) .column) 2) _ (all-at small steps _ refl refl i))
+pub unit-row : (s : Step) → Unit s → offset s .row ≤ 2
+unit-row s u = on-unit (λ z. plusOne z ≤ 2) (omega arith) (omega arith) (omega arith) (s .row) (u .row)
+
+-- off the edge every step stays inside
+pub off-edge-within : (side c o : ℕ) → offEdge side c ≡ true → o ≤ 2 → within side (c + o) ≡ true
+off-edge-within side c o e h =
+    let a = leb-true 1 c (and-left (leb 1 c) _ e) in
+    let b = ltb-true (c + 1) side (and-right (leb 1 c) _ e) in
+    and-both (le-leb 1 (c + o) (omega arith)) (le-leb (c + o) side (omega arith))
 
 -- a number from 1 to side
 pub within-some : (side c : ℕ) → within side c ≡ true → 1 ≤ c
@@ -56,11 +68,11 @@ place-most w h c r p q d e =
 
 -- a place by its column and row
 module _ (w column row : ℕ) (b : column < w) where
-  pub leads-from : (i c r : ℕ) → Leads column row i c r → Leads ((row * w + column) % w) ((row * w + column) / w) i c r
-  leads-from i c r l =
+  pub leads-from : (s : Step) (c r : ℕ) → Leads column row s c r → Leads ((row * w + column) % w) ((row * w + column) / w) s c r
+  leads-from s c r l =
       record {
-        column = l .column ∙ ap (λ (n : ℕ). n + offset (stepAt i) .column) (sym (digits-mod row b));
-        row = l .row ∙ ap (λ (n : ℕ). n + offset (stepAt i) .row) (sym (digits-div row b));
+        column = l .column ∙ ap (λ (n : ℕ). n + offset s .column) (sym (digits-mod row b));
+        row = l .row ∙ ap (λ (n : ℕ). n + offset s .row) (sym (digits-div row b));
       }
 
   pub row-under : (m : ℕ) → row * w + column < m → row < m

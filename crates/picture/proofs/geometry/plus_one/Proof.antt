@@ -10,19 +10,28 @@ use Rattle.picture.proofs.Steps.{on-unit}
 use Rattle.picture.proofs.geometry.plus_one.Statement.{statement}
 use Rattle.picture.proofs.geometry.plus_one.Tie as tie
 
--- the sum as the machine makes it
-abbrev sum : ℤ → ℤ
-sum z = toZ w8 (ofZ w8 z) +ℤ pos 1
+-- the step widened, and the sum, as the machine makes them
+abbrev wide : ℤ → ℤ
+wide z = toZ w8 (ofZ w8 z)
 
-add-result : tie.Need-add-result
-add-result c =
-    on-unit (λ z. SFits w8 (sum z)) (record { sfits = lit< tt }) (record { sfits = lit< tt }) (record { sfits = lit< tt })
-    (c .args .step)
-    (c .pre)
+abbrev sum : ℤ → ℤ
+sum z = toZ w64 (ofZ w64 (wide z)) +ℤ pos 1
 
 cast-result : tie.Need-cast-result
 cast-result c =
-    on-unit (λ z. T (nonNeg (toZ w8 (ofZ w8 (sum z)))) × Fits w64 (natAbs (toZ w8 (ofZ w8 (sum z)))))
+    on-unit (λ z. SFits w64 (wide z)) (record { sfits = lit< tt }) (record { sfits = lit< tt }) (record { sfits = lit< tt })
+    (c .args .step)
+    (c .pre)
+
+add-result : tie.Need-add-result
+add-result c =
+    on-unit (λ z. SFits w64 (sum z)) (record { sfits = lit< tt }) (record { sfits = lit< tt }) (record { sfits = lit< tt })
+    (c .args .step)
+    (c .pre)
+
+cast-result-2 : tie.Need-cast-result-2
+cast-result-2 c =
+    on-unit (λ z. T (nonNeg (toZ w64 (ofZ w64 (sum z)))) × Fits w64 (natAbs (toZ w64 (ofZ w64 (sum z)))))
     (tt, record { fits = lit< tt })
     (tt, record { fits = lit< tt })
     (tt, record { fits = lit< tt })
@@ -31,7 +40,7 @@ cast-result c =
 
 returns : tie.Need-returns
 returns c =
-    on-unit (λ z. natAbs (toZ w8 (ofZ w8 (sum z))) ≡ plusOne z) refl refl refl (c .args .step) (c .pre)
+    on-unit (λ z. natAbs (toZ w64 (ofZ w64 (sum z))) ≡ plusOne z) refl refl refl (c .args .step) (c .pre)
 
 pub plus-one-spec : {M : Type 1} → statement M
-plus-one-spec = tie.close (tie.spec add-result cast-result returns)
+plus-one-spec = tie.close (tie.spec cast-result add-result cast-result-2 returns)
