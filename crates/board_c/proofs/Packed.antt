@@ -27,6 +27,14 @@ unpacked-next bytes cells new i v h e w =
     ap₂ (λ (l : List ℕ) (x : ℕ). set l i x) e w ∙
     (written-next (entryAt bytes) i cells h ∙ ap (λ (n : ℕ). entries n bytes ++ drop n cells) (sym (add-one i)))
 
+-- an entry is written by its low and its high byte
+pub entry-written :
+    (x : ℕ) {at m to : ℕ} {a b c : List ℕ} → x < 65536 → at ≤ length a →
+    Written at (x % 256 ∷ []) a m b → Written m (x / 256 ∷ []) b to c → Written at (littleEndian 2 x) a to c
+entry-written x {at} {m} {to} {a} {b} {c} h r v w =
+    let e : x / 256 ≡ x / 256 % 256 = omega arith in
+    subst (λ (y : ℕ). Written at (x % 256 ∷ y ∷ []) a to c) e (written-then r v w)
+
 packed-append : (xs ys : List ℕ) → packed (xs ++ ys) ≡ packed xs ++ packed ys
 packed-append [] ys = refl
 packed-append (x ∷ xs) ys =

@@ -140,9 +140,10 @@ pub extern "C" fn board_place(
     let mut cells = [0u16; 8000];
     unpack(work, &mut cells, entries);
     let answer = query_place(adjacency, width, height, pixels, place, &mut cells);
+    let value = answer.value;
     let ground = answer.ground;
     let number = patch_number(ground);
-    put_pair(out, 0, answer.value as u64, number as u64);
+    put_pair(out, 0, value as u64, number as u64);
     pack(&cells, work, entries);
     0
 }

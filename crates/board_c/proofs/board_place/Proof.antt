@@ -61,7 +61,7 @@ cast-put-pair-2 c = search needs
 
 put-pair-requires : tie.Need-put-pair-requires
 put-pair-requires c κs =
-    let e = c .before .before .before .before .before .before .before .before .before .before in
+    let e = c .before .before .before .before .before .before .before .before .before in
     let s = origin e in
     place-room (pictured s) (s .args .place) (s .args .out .now) (s .args .work .now) (none e)
 
@@ -70,8 +70,8 @@ slice-aggregate-pack c = search needs
 
 pack-requires : tie.Need-pack-requires
 pack-requires c κs =
-    let t = c .before .before .before .before .before .before .before .before .before in
-    pack-room _ _ (lends (c .before .before .before .before .before .before .before .before .before .before .before .before .before .before .before)) (t .query-place .kept .1 .1 .1 .1 .1 .0 ∙ t .before .before .before .unpack .kept .1 .0)
+    let t = c .before .before .before .before .before .before .before .before in
+    pack-room _ _ (lends (c .before .before .before .before .before .before .before .before .before .before .before .before .before .before)) (t .query-place .kept .1 .1 .1 .1 .1 .0 ∙ t .before .before .before .unpack .kept .1 .0)
 
 same-length : tie.Need-same-length
 same-length c = search needs
@@ -81,12 +81,12 @@ same-length-2 c = search needs
 
 returns-2 : tie.Need-returns-2
 returns-2 c =
-    let e = c .before .before .before .before .before .before .before .before .before .before .before .before .before .before .before .before .before .before in
+    let e = c .before .before .before .before .before .before .before .before .before .before .before .before .before .before .before .before .before in
     let s = origin e in
-    let t = c .before .before .before .before .before .before .before .before .before .before .before .before in
+    let t = c .before .before .before .before .before .before .before .before .before .before .before in
     let w = c .before .before .before .before .before .before .before in
     place-done (pictured s) (s .args .place) (s .args .out .now) (s .args .work .now) (none e) _ _ _ _ (t .query-place .result) _ _ (t .before .before .before .unpack .kept .1 .0) (t .query-place .ensures)
-    (w .before .before .before .patch-number .ensures) (w .put-pair .ensures) (c .before .before .pack .ensures)
+    (w .before .before .patch-number .ensures) (w .put-pair .ensures) (c .before .before .pack .ensures)
 
 pub board-place-spec : {M : Type 1} → statement M
 board-place-spec =
