@@ -66,6 +66,10 @@ half-short work m =
     (λ e. let h = ltb-true work (10 * m) e in lt-ltb (work / 2) (5 * m) (omega arith) ∙ sym e)
     (λ e. let h = ltb-false work (10 * m) e in le-ltb (work / 2) (5 * m) (omega arith) ∙ sym e)
 
+-- the front of what is cleared
+zeros-front : (m : ℕ) (l : List ℕ) → take m (over (replicate m 0) l) ≡ replicate m 0
+zeros-front m l = take-at (replicate m 0) (drop (length (replicate {A = ℕ} m 0)) l) m (length-replicate m 0)
+
 -- what a call for C is lent where there is no fault: n pixels, at most 1,600, and 10 n bytes of work
 pub record Lent (p : Picture) (q : List ℕ) : Type 0 where
   pub fine : pictureFault p ≡ 0
@@ -93,7 +97,7 @@ module _ (p : Picture) (q : List ℕ) where
   pub pack-room : Lent p q → {cells : ℕ} → cells ≡ 8000 → (5 * length (p .pixels) ≤ cells) × (2 * (5 * length (p .pixels)) ≤ length q)
   pack-room t e = (omega (arith, unpack-room t .1), unpack-room t .0)
 
-  -- the public call has no fault with the 8,000 cells either
+  -- the 8,000 cells are work enough for the public call
   local-work : Lent p q → (cells : List ℕ) → length cells ≡ 8000 → workFaultOf p (length cells) ≡ 0
   local-work t cells e =
       sym (work-none (p .adjacency) (p .width) (p .height) (length (p .pixels)) (length cells) (t .fine) (omega (arith, unpack-room t .1)))
@@ -104,16 +108,13 @@ module _ (p : Picture) (q : List ℕ) where
       q′ ≡ over (packed (take (5 * length (p .pixels)) left)) q → q′ ≡ bytesAfter f p q
   bytes-left t f g q′ cells left fz gz c w =
       let m = 5 * places p in
-      let zeros = replicate {A = ℕ} m 0 in
-      let e : length zeros ≡ 5 * length (p .pixels) = omega (arith, length-replicate {A = ℕ} m 0, t .size) in
       let d : 2 * m ≡ 10 * places p = omega arith in
-      let front : take (5 * length (p .pixels)) left ≡ zeros =
-      ap (take (5 * length (p .pixels))) (c ∙ sym (written-left g (over zeros cells) cells gz)) ∙
-      take-at zeros (drop (length zeros) cells) (5 * length (p .pixels)) e
-      in
       w ∙
-      (ap (λ (l : List ℕ). over l q) (ap packed front ∙ (packed-zeros m ∙ ap (λ (k : ℕ). replicate {A = ℕ} k 0) d)) ∙
-      written-left f (over (replicate (10 * places p) 0) q) q fz)
+      (ap (λ (n : ℕ). over (packed (take (5 * n) left)) q) (t .size) ∙
+      (ap (λ (l : List ℕ). over (packed (take m l)) q) (c ∙ sym (written-left g (over (replicate m 0) cells) cells gz)) ∙
+      (ap (λ (l : List ℕ). over l q)
+      (ap packed (zeros-front m cells) ∙ (packed-zeros m ∙ ap (λ (k : ℕ). replicate {A = ℕ} k 0) d)) ∙
+      written-left f (over (replicate (10 * places p) 0) q) q fz)))
 
 module _ (p : Picture) (o q : List ℕ) where
   -- the fault of the call with half as many entries is that of the bytes
@@ -138,6 +139,14 @@ module _ (p : Picture) (o q : List ℕ) where
     pub water-lent : Lent p q
     water-lent = lent p q (half .0)
 
+    -- the public call has no fault with the cells either
+    water-inner : (cells : List ℕ) → length cells ≡ 8000 → outputFaultOf p o cells ≡ 0
+    water-inner cells e =
+        let n = length (p .pixels) in
+        sym
+        (output-none (p .adjacency) (p .width) (p .height) n (length cells) (length o) (local-work p q water-lent cells e)
+        (omega (arith, water-lent .size, half .1)))
+
     -- no fault: what the public call left with the unpacked entries, and what was packed of it
     pub water-done :
         (o′ q′ cells left : List ℕ) (r : Answer) → length cells ≡ 8000 → WaterSays p o o′ cells left r →
@@ -146,11 +155,7 @@ module _ (p : Picture) (o q : List ℕ) where
         let f = waterFaultForC p (length o) (length q) in
         let fz : f ≡ 0 = sym water-fault ∙ z in
         let g = outputFaultOf p o cells in
-        let gz : g ≡ 0 =
-        sym
-        (output-none (p .adjacency) (p .width) (p .height) (length (p .pixels)) (length cells) (length o) (local-work p q water-lent cells e)
-        (omega (arith, water-lent .size, half .1)))
-        in
+        let gz = water-inner cells e in
         let new = over (watershed p .pixels) o in
         record {
           number = sym fz;
@@ -214,6 +219,19 @@ ground-number : (n : ℕ) → patchNumber (groundOf n) ≡ n
 ground-number zero = refl
 ground-number (suc n) = refl
 
+-- the value and the patch number that an unrefused place query answers
+module _ (p : Picture) (x : ℕ) (cells left : List ℕ) (r : Queried) (s : QuerySays p x cells left r) (z : placeFaultOf p cells x ≡ 0) where
+  answered-value : r .value ≡ valueAt p x
+  answered-value =
+      ap (λ (u : Queried). u .value) (s .answer) ∙
+      ap (λ (t : Bool). pick t (valueAt p x) 0) (eq-eqb (placeFaultOf p cells x) 0 z)
+
+  answered-number : patchNumber (r .ground) ≡ patchAt p x
+  answered-number =
+      ap (λ (u : Queried). patchNumber (u .ground)) (s .answer) ∙
+      (ground-number (pick (eqb (placeFaultOf p cells x) 0) (patchAt p x) 0) ∙
+      ap (λ (t : Bool). pick t (patchAt p x) 0) (eq-eqb (placeFaultOf p cells x) 0 z))
+
 module _ (p : Picture) (x : ℕ) (o q : List ℕ) where
   pub place-refused : (r : ℕ) → r ≡ placeFaultForCOf p x o q → r ≢ 0 → PlaceForC p x o o q q r
   place-refused r e d =
@@ -234,29 +252,27 @@ module _ (p : Picture) (x : ℕ) (o q : List ℕ) where
     pub place-room : 16 ≤ length o
     place-room = absent .1
 
+    -- the public call has no fault with the cells either
+    place-inner : (cells : List ℕ) → length cells ≡ 8000 → placeFaultOf p cells x ≡ 0
+    place-inner cells e =
+        let n = length (p .pixels) in
+        sym
+        (place-fine (workFaultOf p (length cells)) n x (local-work p q place-lent cells e) (omega (arith, place-lent .size, absent .2)) ∙
+        place-behind (p .adjacency) (p .width) (p .height) n (length cells) x)
+
     -- no fault: what the public call answered and left with the unpacked entries, and what was written and packed of it
     pub place-done :
         (o′ q′ cells left : List ℕ) (r : Queried) (n to : ℕ) → length cells ≡ 8000 → QuerySays p x cells left r → n ≡ patchNumber (r .ground) →
         Written 0 (pair (r .value) n) o to o′ → q′ ≡ over (packed (take (5 * length (p .pixels)) left)) q → PlaceForC p x o o′ q q′ 0
     place-done o′ q′ cells left r n to e s en w c =
         let f = placeFaultForCOf p x o q in
-        let g = placeFaultOf p cells x in
-        let gz : g ≡ 0 =
-        sym
-        (place-fine (workFaultOf p (length cells)) (length (p .pixels)) x (local-work p q place-lent cells e) (omega (arith, place-lent .size, absent .2)) ∙
-        place-behind (p .adjacency) (p .width) (p .height) (length (p .pixels)) (length cells) x)
-        in
-        let yes = eq-eqb g 0 gz in
-        let value : r .value ≡ valueAt p x = ap (λ (u : Queried). u .value) (s .answer) ∙ ap (λ (t : Bool). pick t (valueAt p x) 0) yes in
-        let number : n ≡ patchAt p x =
-        en ∙
-        (ap (λ (u : Queried). patchNumber (u .ground)) (s .answer) ∙
-        (ground-number (pick (eqb g 0) (patchAt p x) 0) ∙ ap (λ (t : Bool). pick t (patchAt p x) 0) yes))
-        in
+        let gz = place-inner cells e in
+        let value = answered-value p x cells left r s gz in
+        let number = en ∙ answered-number p x cells left r s gz in
         record {
           number = sym z;
           output =
               changed f (pair (valueAt p x) (patchAt p x)) o o′ z
               (subst (λ (xs : List ℕ). Written 0 xs o to o′) (ap₂ pair value number) w);
-          work = bytes-left p q place-lent f g q′ cells left z gz (s .work) c;
+          work = bytes-left p q place-lent f (placeFaultOf p cells x) q′ cells left z gz (s .work) c;
         }

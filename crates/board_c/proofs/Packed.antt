@@ -1,4 +1,4 @@
--- Laws of 16-bit entries packed in bytes: one entry more, lengths, zeros, and that packing what was unpacked gives the bytes back.
+-- Laws of 16-bit entries packed in bytes: one entry more, zeros, and that packing what was unpacked gives the bytes back.
 use mathlib.Core.Path.{_≡_, refl, sym, ap, ap₂, subst, _∙_}
 use mathlib.Core.List.{List, [], _∷_, _++_, map, append-assoc, append-nil}
 use Prim.Native.Nat.{ℕ, zero, suc, _+_, _*_, _/_, _%_, _≤_, _<_}
