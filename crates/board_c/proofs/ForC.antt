@@ -2,12 +2,13 @@
 use mathlib.Core.Path.{_≡_, refl, sym, ap, ap₂, subst, _∙_}
 use mathlib.Core.Bool.{Bool, true, false, _||_}
 use mathlib.Core.Logic.{_≢_}
-use mathlib.Core.List.{List, [], _∷_, _++_}
-use Prim.Native.Nat.{ℕ, zero, suc, _+_, _*_, _/_, _≤_, _<_}
+use mathlib.Core.List.{List, _++_}
+use Prim.Native.Nat.{ℕ, zero, suc, _*_, _/_, _≤_, _<_}
 use native.Mathlib.Omega.{arith}
 use lib.Dec.{eqb, ltb, leb}
-use lib.ListN.{length, getD, drop, replicate, length-replicate}
-use borrow.Author.Tests.{eq-eqb, ne-eqb, ltb-true, ltb-false, lt-ltb, le-ltb, le-leb, lt-leb, leb-false}
+use lib.ListN.{length, take, drop, replicate, length-replicate}
+use lib.Seq.{take-at}
+use borrow.Author.Tests.{eq-eqb, ltb-true, ltb-false, lt-ltb, le-ltb, le-leb, lt-leb, leb-false}
 use Rattle.picture.specs.Lists.{pick}
 use Rattle.picture.specs.Pictures.{Picture, places, valueAt}
 use Rattle.picture.specs.Faults.{firstOf, when, faultOf, pictureFault}
@@ -17,33 +18,25 @@ use Rattle.topology.proofs.Tests.{on-test}
 use Rattle.p5.specs.Files.{readFile, numberOf, headerOf}
 use Rattle.text.specs.Writing.{Written}
 use Rattle.board.specs.declared.Answer.{Answer}
+use Rattle.board.specs.declared.Queried.{Queried}
 use Rattle.board.specs.Faults.{workFault, outputFault}
-use Rattle.board.specs.Calls.{over, afterCall, outputFaultOf, WaterSays, Admits}
-use Rattle.board.proofs.Shell.{workFaultOf, Admitted, admitted, work-size, fault-size, fault-few, work-enough, work-none, output-none, output-enough}
-use Rattle.board_c.specs.CalledByC.{pair, readFaultForC, headerBytes, ReadForC, waterFaultForC, WaterForC, placeFaultForC, placeFaultForCOf, PlaceForC}
-
--- a fault that is not 0 leaves a slice as it was
-pub unchanged : (f : ℕ) (new old : List ℕ) → f ≢ 0 → old ≡ afterCall f new old
-unchanged f new old d = sym (ap (λ (t : Bool). pick t new old) (ne-eqb f 0 d))
+use Rattle.board.specs.Calls.{over, afterCall, workAfter, outputFaultOf, placeFaultOf, groundOf, WaterSays, QuerySays}
+use Rattle.board.proofs.Shell.{first-some, first-none, first-zero, when-zero, place-fine, workFaultOf, work-size, fault-size, fault-few, work-enough, work-none, output-none, output-enough, place-behind, refused-left, written-left}
+use Rattle.board_c.specs.CalledByC.{pair, readFaultForC, headerBytes, ReadForC, waterFaultForC, bytesAfter, WaterForC, placeFaultForC, placeFaultForCOf, patchNumber, PlaceForC}
+use Rattle.board_c.specs.Packing.{packed}
+use Rattle.board_c.proofs.Packed.{written-front, packed-zeros}
 
 -- no fault: the bytes written from the beginning stand over what was there
 pub changed : (f : ℕ) (bytes o o′ : List ℕ) {to : ℕ} → f ≡ 0 → Written 0 bytes o to o′ → o′ ≡ afterCall f (over bytes o) o
-changed f bytes o o′ {to} e w =
-    let z : to ≡ length bytes = w .end ∙ omega arith in
-    w .whole ∙
-    (ap (λ (n : ℕ). bytes ++ drop n o) z ∙ sym (ap (λ (t : Bool). pick t (over bytes o) o) (eq-eqb f 0 e)))
+changed f bytes o o′ e w = written-front w ∙ written-left f (over bytes o) o e
 
 module _ (f o : List ℕ) where
-  first : (n m : ℕ) → n ≢ 0 → firstOf n m ≡ n
-  first zero m d = absurd (d refl)
-  first (suc n) m d = refl
-
   -- a refused file
   pub read-refused : (r : ℕ) → r ≡ numberOf (readFile f) → r ≢ 0 → ReadForC f o o r
   unfolding readFaultForC
   read-refused r e d =
-      let q = first (numberOf (readFile f)) (when (ltb (length o) 32) 9) (λ z. d (e ∙ z)) in
-      record { number = e ∙ sym q; output = unchanged (readFaultForC f o) (over (headerBytes f) o) o (λ z. d (e ∙ (sym q ∙ z))) }
+      let q : r ≡ readFaultForC f o = first-some (numberOf (readFile f)) (when (ltb (length o) 32) 9) r e d in
+      record { number = q; output = refused-left (readFaultForC f o) r q d (over (headerBytes f) o) o }
 
   -- an accepted file: the rest of the fault
   rest : numberOf (readFile f) ≡ 0 → (t : Bool) → ltb (length o) 32 ≡ t → readFaultForC f o ≡ when t 9
@@ -52,8 +45,8 @@ module _ (f o : List ℕ) where
 
   pub read-short : numberOf (readFile f) ≡ 0 → length o < 32 → ReadForC f o o 9
   read-short e h =
-      let q = rest e true (lt-ltb (length o) 32 h) in
-      record { number = sym q; output = unchanged (readFaultForC f o) (over (headerBytes f) o) o (λ z. let n : 9 ≡ 0 = sym q ∙ z in omega arith) }
+      let q = sym (rest e true (lt-ltb (length o) 32 h)) in
+      record { number = q; output = refused-left (readFaultForC f o) 9 q (λ z. omega arith) (over (headerBytes f) o) o }
 
   pub read-done : (o′ : List ℕ) {to : ℕ} → numberOf (readFile f) ≡ 0 → 32 ≤ length o → Written 0 (headerBytes f) o to o′ → ReadForC f o o′ 0
   read-done o′ e h w =
@@ -73,6 +66,56 @@ half-short work m =
     (λ e. let h = ltb-true work (10 * m) e in lt-ltb (work / 2) (5 * m) (omega arith) ∙ sym e)
     (λ e. let h = ltb-false work (10 * m) e in le-ltb (work / 2) (5 * m) (omega arith) ∙ sym e)
 
+-- the front of what is cleared
+zeros-front : (m : ℕ) (l : List ℕ) → take m (over (replicate m 0) l) ≡ replicate m 0
+zeros-front m l = take-at (replicate m 0) (drop (length (replicate {A = ℕ} m 0)) l) m (length-replicate m 0)
+
+-- what a call for C is lent where there is no fault: n pixels, at most 1,600, and 10 n bytes of work
+pub record Lent (p : Picture) (q : List ℕ) : Type 0 where
+  pub fine : pictureFault p ≡ 0
+  pub size : length (p .pixels) ≡ places p
+  pub few : places p ≤ 1600
+  pub room : 10 * length (p .pixels) ≤ length q
+
+module _ (p : Picture) (q : List ℕ) where
+  lent : workFaultOf p (length q / 2) ≡ 0 → Lent p q
+  lent z =
+      let n = length (p .pixels) in
+      let e = work-enough (p .adjacency) (p .width) (p .height) n (length q / 2) z in
+      let s = fault-size (p .adjacency) (p .width) (p .height) n (e .0) in
+      record {
+        fine = e .0;
+        size = s;
+        few = fault-few (p .adjacency) (p .width) (p .height) n (e .0);
+        room = let h = e .1 in omega arith;
+      }
+
+  -- room for the 5 n entries, in the bytes and in the 8,000 cells
+  pub unpack-room : Lent p q → (2 * (5 * length (p .pixels)) ≤ length q) × (5 * length (p .pixels) ≤ 8000)
+  unpack-room t = (omega (arith, t .room), omega (arith, t .size, t .few))
+
+  pub pack-room : Lent p q → {cells : ℕ} → cells ≡ 8000 → (5 * length (p .pixels) ≤ cells) × (2 * (5 * length (p .pixels)) ≤ length q)
+  pack-room t e = (omega (arith, unpack-room t .1), unpack-room t .0)
+
+  -- the 8,000 cells are work enough for the public call
+  local-work : Lent p q → (cells : List ℕ) → length cells ≡ 8000 → workFaultOf p (length cells) ≡ 0
+  local-work t cells e =
+      sym (work-none (p .adjacency) (p .width) (p .height) (length (p .pixels)) (length cells) (t .fine) (omega (arith, unpack-room t .1)))
+
+  -- the entries that the public call left zero are packed as zero bytes
+  bytes-left :
+      Lent p q → (f g : ℕ) (q′ cells left : List ℕ) → f ≡ 0 → g ≡ 0 → left ≡ workAfter g p cells →
+      q′ ≡ over (packed (take (5 * length (p .pixels)) left)) q → q′ ≡ bytesAfter f p q
+  bytes-left t f g q′ cells left fz gz c w =
+      let m = 5 * places p in
+      let d : 2 * m ≡ 10 * places p = omega arith in
+      w ∙
+      (ap (λ (n : ℕ). over (packed (take (5 * n) left)) q) (t .size) ∙
+      (ap (λ (l : List ℕ). over (packed (take m l)) q) (c ∙ sym (written-left g (over (replicate m 0) cells) cells gz)) ∙
+      (ap (λ (l : List ℕ). over l q)
+      (ap packed (zeros-front m cells) ∙ (packed-zeros m ∙ ap (λ (k : ℕ). replicate {A = ℕ} k 0) d)) ∙
+      written-left f (over (replicate (10 * places p) 0) q) q fz)))
+
 module _ (p : Picture) (o q : List ℕ) where
   -- the fault of the call with half as many entries is that of the bytes
   pub water-fault : outputFault (p .adjacency) (p .width) (p .height) (length (p .pixels)) (length o) (length q / 2) ≡ waterFaultForC p (length o) (length q)
@@ -82,57 +125,42 @@ module _ (p : Picture) (o q : List ℕ) where
   pub water-refused : (r : ℕ) → r ≡ outputFault (p .adjacency) (p .width) (p .height) (length (p .pixels)) (length o) (length q / 2) → r ≢ 0 → WaterForC p o o q q r
   water-refused r e d =
       let f = waterFaultForC p (length o) (length q) in
-      let g : f ≢ 0 = λ z. d (e ∙ (water-fault ∙ z)) in
+      let g = e ∙ water-fault in
       record {
-        number = e ∙ water-fault;
-        output = unchanged f (over (watershed p .pixels) o) o g;
-        work = unchanged f (over (replicate (10 * places p) 0) q) q g;
+        number = g;
+        output = refused-left f r g d (over (watershed p .pixels) o) o;
+        work = refused-left f r g d (over (replicate (10 * places p) 0) q) q;
       }
 
-  -- no fault: what the public call left with a local of 8,000 entries, and the cleared bytes
   module _ (z : outputFault (p .adjacency) (p .width) (p .height) (length (p .pixels)) (length o) (length q / 2) ≡ 0) where
     half : (workFaultOf p (length q / 2) ≡ 0) × (places p ≤ length o)
     half = output-enough (p .adjacency) (p .width) (p .height) (length (p .pixels)) (length q / 2) (length o) z
 
-    sound : (pictureFault p ≡ 0) × (5 * places p ≤ length q / 2)
-    sound = work-enough (p .adjacency) (p .width) (p .height) (length (p .pixels)) (length q / 2) (half .0)
+    pub water-lent : Lent p q
+    water-lent = lent p q (half .0)
 
-    pub water-size : length (p .pixels) ≡ places p
-    water-size = fault-size (p .adjacency) (p .width) (p .height) (length (p .pixels)) (sound .0)
-
-    pub water-few : places p ≤ 1600
-    water-few = fault-few (p .adjacency) (p .width) (p .height) (length (p .pixels)) (sound .0)
-
-    pub water-room : 10 * length (p .pixels) ≤ length q
-    water-room = let a = sound .1 in let b = water-size in omega arith
-
-    -- the public call with the local has no fault either
-    inner : (cells : List ℕ) → length cells ≡ 8000 → outputFaultOf p o cells ≡ 0
-    inner cells e =
+    -- the public call has no fault with the cells either
+    water-inner : (cells : List ℕ) → length cells ≡ 8000 → outputFaultOf p o cells ≡ 0
+    water-inner cells e =
         let n = length (p .pixels) in
         sym
-        (output-none (p .adjacency) (p .width) (p .height) n (length cells) (length o)
-        (sym (work-none (p .adjacency) (p .width) (p .height) n (length cells) (sound .0) (omega (arith, water-size, water-few))))
-        (omega (arith, water-size, half .1)))
+        (output-none (p .adjacency) (p .width) (p .height) n (length cells) (length o) (local-work p q water-lent cells e)
+        (omega (arith, water-lent .size, half .1)))
 
+    -- no fault: what the public call left with the unpacked entries, and what was packed of it
     pub water-done :
         (o′ q′ cells left : List ℕ) (r : Answer) → length cells ≡ 8000 → WaterSays p o o′ cells left r →
-        q′ ≡ replicate {A = ℕ} (10 * length (p .pixels)) 0 ++ drop (10 * length (p .pixels)) q → WaterForC p o o′ q q′ 0
+        q′ ≡ over (packed (take (5 * length (p .pixels)) left)) q → WaterForC p o o′ q q′ 0
     water-done o′ q′ cells left r e w c =
         let f = waterFaultForC p (length o) (length q) in
         let fz : f ≡ 0 = sym water-fault ∙ z in
         let g = outputFaultOf p o cells in
+        let gz = water-inner cells e in
         let new = over (watershed p .pixels) o in
         record {
           number = sym fz;
-          output =
-              w .output ∙
-              (ap (λ (t : Bool). pick t new o) (eq-eqb g 0 (inner cells e)) ∙ sym (ap (λ (t : Bool). pick t new o) (eq-eqb f 0 fz)));
-          work =
-              c ∙
-              (ap (λ (n : ℕ). replicate {A = ℕ} (10 * n) 0 ++ drop (10 * n) q) water-size ∙
-              (ap (λ (n : ℕ). replicate {A = ℕ} (10 * places p) 0 ++ drop n q) (sym (length-replicate (10 * places p) 0)) ∙
-              sym (ap (λ (t : Bool). pick t (over (replicate (10 * places p) 0) q) q) (eq-eqb f 0 fz))));
+          output = w .output ∙ (sym (written-left g new o gz) ∙ written-left f new o fz);
+          work = bytes-left p q water-lent f g q′ cells left fz gz (w .work) c;
         }
 
 -- one number for either of two causes, before the last
@@ -154,29 +182,21 @@ module _ (a w h l out work x : ℕ) where
       ap (λ (b : Bool). firstOf (firstOf (faultOf a w h l) (when b 9)) rest-of) (half-short work (w * h)) ∙
       combine (faultOf a w h l) (ltb work (10 * (w * h))) (ltb out 16) (leb (w * h) x)
 
-  keep : (f g r : ℕ) → r ≡ f → r ≢ 0 → r ≡ firstOf f g
-  keep zero g r e d = absurd (d e)
-  keep (suc f) g r e d = e
-
-  pass-on : (f g : ℕ) → f ≡ 0 → firstOf f g ≡ g
-  pass-on zero g e = refl
-  pass-on (suc f) g e = absurd (omega arith)
-
   pub place-first : (r : ℕ) → r ≡ workFault a w h l (work / 2) → r ≢ 0 → r ≡ placeFaultForC a w h l out work x
-  place-first r e d = keep (workFault a w h l (work / 2)) rest-of r e d ∙ place-is
+  place-first r e d = first-some (workFault a w h l (work / 2)) rest-of r e d ∙ place-is
 
   module _ (z : workFault a w h l (work / 2) ≡ 0) where
     pub place-short : out < 16 → 9 ≡ placeFaultForC a w h l out work x
     unfolding rest-of
     place-short b =
-        sym (pass-on (workFault a w h l (work / 2)) rest-of z ∙ ap (λ (t : Bool). firstOf (when t 9) (when (leb (w * h) x) 10)) (lt-ltb out 16 b)) ∙
+        sym (first-none (workFault a w h l (work / 2)) rest-of z ∙ ap (λ (t : Bool). firstOf (when t 9) (when (leb (w * h) x) 10)) (lt-ltb out 16 b)) ∙
         place-is
 
     tail : 16 ≤ out → (t : Bool) → leb (w * h) x ≡ t → when t 10 ≡ placeFaultForC a w h l out work x
     unfolding rest-of
     tail b t e =
         sym
-        (pass-on (workFault a w h l (work / 2)) rest-of z ∙
+        (first-none (workFault a w h l (work / 2)) rest-of z ∙
         ap₂ (λ (u v : Bool). firstOf (when u 9) (when v 10)) (le-ltb out 16 b) e) ∙
         place-is
 
@@ -189,68 +209,70 @@ module _ (a w h l out work x : ℕ) where
   -- no fault of a place query: each cause is absent
   pub place-enough : placeFaultForC a w h l out work x ≡ 0 → (workFault a w h l (work / 2) ≡ 0) × (16 ≤ out) × (x < w * h)
   unfolding rest-of
-  place-enough e = split (workFault a w h l (work / 2)) (ltb out 16) (leb (w * h) x) refl refl refl (place-is ∙ e)
-    where
-      split :
-          (f : ℕ) (b c : Bool) → workFault a w h l (work / 2) ≡ f → ltb out 16 ≡ b → leb (w * h) x ≡ c →
-          firstOf f (firstOf (when b 9) (when c 10)) ≡ 0 → (workFault a w h l (work / 2) ≡ 0) × (16 ≤ out) × (x < w * h)
-      split (suc f) b c p q r z = absurd (omega arith)
-      split zero true c p q r z = absurd (omega arith)
-      split zero false true p q r z = absurd (omega arith)
-      split zero false false p q r z = (p, ltb-false out 16 q, leb-false (w * h) x r)
+  place-enough e =
+      let z = first-zero (workFault a w h l (work / 2)) rest-of (place-is ∙ e) in
+      let y = first-zero (when (ltb out 16) 9) (when (leb (w * h) x) 10) (z .1) in
+      (z .0, ltb-false out 16 (when-zero 8 (ltb out 16) (y .0)), leb-false (w * h) x (when-zero 9 (leb (w * h) x) (y .1)))
+
+-- the number of a ground is the one that it was made of
+ground-number : (n : ℕ) → patchNumber (groundOf n) ≡ n
+ground-number zero = refl
+ground-number (suc n) = refl
+
+-- the value and the patch number that an unrefused place query answers
+module _ (p : Picture) (x : ℕ) (cells left : List ℕ) (r : Queried) (s : QuerySays p x cells left r) (z : placeFaultOf p cells x ≡ 0) where
+  answered-value : r .value ≡ valueAt p x
+  answered-value =
+      ap (λ (u : Queried). u .value) (s .answer) ∙
+      ap (λ (t : Bool). pick t (valueAt p x) 0) (eq-eqb (placeFaultOf p cells x) 0 z)
+
+  answered-number : patchNumber (r .ground) ≡ patchAt p x
+  answered-number =
+      ap (λ (u : Queried). patchNumber (u .ground)) (s .answer) ∙
+      (ground-number (pick (eqb (placeFaultOf p cells x) 0) (patchAt p x) 0) ∙
+      ap (λ (t : Bool). pick t (patchAt p x) 0) (eq-eqb (placeFaultOf p cells x) 0 z))
 
 module _ (p : Picture) (x : ℕ) (o q : List ℕ) where
   pub place-refused : (r : ℕ) → r ≡ placeFaultForCOf p x o q → r ≢ 0 → PlaceForC p x o o q q r
   place-refused r e d =
       let f = placeFaultForCOf p x o q in
-      let g : f ≢ 0 = λ z. d (e ∙ z) in
       record {
         number = e;
-        output = unchanged f (over (pair (valueAt p x) (patchAt p x)) o) o g;
-        work = unchanged f (over (replicate (10 * places p) 0) q) q g;
+        output = refused-left f r e d (over (pair (valueAt p x) (patchAt p x)) o) o;
+        work = refused-left f r e d (over (replicate (10 * places p) 0) q) q;
       }
 
   module _ (z : placeFaultForCOf p x o q ≡ 0) where
     absent : (workFaultOf p (length q / 2) ≡ 0) × (16 ≤ length o) × (x < places p)
     absent = place-enough (p .adjacency) (p .width) (p .height) (length (p .pixels)) (length o) (length q) x z
 
+    pub place-lent : Lent p q
+    place-lent = lent p q (absent .0)
+
     pub place-room : 16 ≤ length o
     place-room = absent .1
 
-    pub place-size : length (p .pixels) ≡ places p
-    place-size = work-size (p .adjacency) (p .width) (p .height) (length (p .pixels)) (length q / 2) (absent .0)
+    -- the public call has no fault with the cells either
+    place-inner : (cells : List ℕ) → length cells ≡ 8000 → placeFaultOf p cells x ≡ 0
+    place-inner cells e =
+        let n = length (p .pixels) in
+        sym
+        (place-fine (workFaultOf p (length cells)) n x (local-work p q place-lent cells e) (omega (arith, place-lent .size, absent .2)) ∙
+        place-behind (p .adjacency) (p .width) (p .height) n (length cells) x)
 
-    -- the picture is accepted, and a local of 8,000 entries is enough
-    pub place-admits : ((i : ℕ) → getD (p .pixels) i 0 ≤ 255) → Admits p (replicate {A = ℕ} 8000 0) x
-    place-admits b =
-        let a = admitted p (length q / 2) (absent .0) b in
-        record {
-          accepted = a .picture;
-          size = a .size;
-          few = a .few;
-          room = omega (arith, a .size, a .few, length-replicate {A = ℕ} 8000 0);
-          place = absent .2;
-        }
-
-    pub place-clears : 10 * length (p .pixels) ≤ length q
-    place-clears =
-        let e = work-enough (p .adjacency) (p .width) (p .height) (length (p .pixels)) (length q / 2) (absent .0) .1 in
-        let s = place-size in
-        omega arith
-
+    -- no fault: what the public call answered and left with the unpacked entries, and what was written and packed of it
     pub place-done :
-        (o′ q′ : List ℕ) (v n to : ℕ) → v ≡ valueAt p x → n ≡ patchAt p x → Written 0 (pair v n) o to o′ →
-        q′ ≡ replicate {A = ℕ} (10 * length (p .pixels)) 0 ++ drop (10 * length (p .pixels)) q → PlaceForC p x o o′ q q′ 0
-    place-done o′ q′ v n to ev en w c =
+        (o′ q′ cells left : List ℕ) (r : Queried) (n to : ℕ) → length cells ≡ 8000 → QuerySays p x cells left r → n ≡ patchNumber (r .ground) →
+        Written 0 (pair (r .value) n) o to o′ → q′ ≡ over (packed (take (5 * length (p .pixels)) left)) q → PlaceForC p x o o′ q q′ 0
+    place-done o′ q′ cells left r n to e s en w c =
         let f = placeFaultForCOf p x o q in
+        let gz = place-inner cells e in
+        let value = answered-value p x cells left r s gz in
+        let number = en ∙ answered-number p x cells left r s gz in
         record {
           number = sym z;
           output =
               changed f (pair (valueAt p x) (patchAt p x)) o o′ z
-              (subst (λ (xs : List ℕ). Written 0 xs o to o′) (ap₂ pair ev en) w);
-          work =
-              c ∙
-              (ap (λ (m : ℕ). replicate {A = ℕ} (10 * m) 0 ++ drop (10 * m) q) place-size ∙
-              (ap (λ (m : ℕ). replicate {A = ℕ} (10 * places p) 0 ++ drop m q) (sym (length-replicate (10 * places p) 0)) ∙
-              sym (ap (λ (t : Bool). pick t (over (replicate (10 * places p) 0) q) q) (eq-eqb f 0 z))));
+              (subst (λ (xs : List ℕ). Written 0 xs o to o′) (ap₂ pair value number) w);
+          work = bytes-left p q place-lent f (placeFaultOf p cells x) q′ cells left z gz (s .work) c;
         }

@@ -1,2 +1,3 @@
+pub mod Packed
 pub mod ForC
 pub mod Demands

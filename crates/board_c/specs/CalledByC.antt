@@ -1,7 +1,7 @@
 -- What the calls for C promise, built on the definitions of the public calls: the result is 0 or the number of the refusal.
 use mathlib.Core.Path.{_≡_}
 use mathlib.Core.Bool.{_||_}
-use mathlib.Core.List.{List, [], _∷_, _++_}
+use mathlib.Core.List.{List, _++_}
 use Prim.Native.Nat.{ℕ, _*_}
 use lib.Dec.{ltb, leb}
 use lib.ListN.{length, replicate}
@@ -11,6 +11,8 @@ use Rattle.picture.specs.Watersheds.{watershed}
 use Rattle.picture.specs.Patches.{patchAt}
 use Rattle.p5.specs.Files.{readFile, numberOf, headerOf}
 use Rattle.text.specs.Little.{littleEndian}
+use Rattle.board.specs.declared.Ground.{Ground}
+use Rattle.board.specs.declared.Ground.the-variants as G
 use Rattle.board.specs.Calls.{over, afterCall}
 
 -- two numbers as eight bytes each, lowest first
@@ -57,6 +59,11 @@ placeFaultForC a w h l out work x =
 abbrev pub placeFaultForCOf : Picture → ℕ → List ℕ → List ℕ → ℕ
 placeFaultForCOf p x o q =
     placeFaultForC (p .adjacency) (p .width) (p .height) (length (p .pixels)) (length o) (length q) x
+
+-- the patch number of where a place lies, 0 for the line
+abbrev pub patchNumber : Ground → ℕ
+patchNumber G.Line = 0
+patchNumber (G.Patch n) = n
 
 -- the result of the place query for C, and what it leaves: the value and the patch's number, 0 for the line
 pub record PlaceForC (p : Picture) (x : ℕ) (o o′ q q′ : List ℕ) (r : ℕ) : Type 0 where

@@ -1,19 +1,22 @@
 // The calls for C: numbers and byte memory only.
+use board::Ground;
 use board::faults::output_fault;
 use board::faults::work_fault;
+use board::query_place;
 use board::read_file;
 use board::watershed_of;
-use patches::cores::query;
+use packing::pack;
+use packing::unpack;
 use text::put_little;
+
+mod packing;
+
 ghost use mathlib.Core.Path.{_≡_};
-ghost use mathlib.Core.List.{_++_};
-ghost use Prim.Native.Nat.{_+_, _*_, _≤_};
-ghost use lib.ListN.{length, drop, replicate};
+ghost use Prim.Native.Nat.{_+_, _≤_};
+ghost use lib.ListN.{length};
 ghost use Rattle.picture.specs.Pictures.{pictureOf};
 ghost use Rattle.text.specs.Writing.{Written};
-ghost use Rattle.board_c.specs.CalledByC.{pair, ReadForC, waterFaultForC, WaterForC, placeFaultForC, PlaceForC};
-ghost use Rattle.picture.specs.Patches.{patchAt};
-ghost use Rattle.board.specs.Calls.{Admits};
+ghost use Rattle.board_c.specs.CalledByC.{pair, ReadForC, WaterForC, placeFaultForC, patchNumber, PlaceForC};
 
 // Writes two numbers as eight bytes each, lowest first, and answers the place behind them.
 fn put_pair(out: &mut [u8], at: usize, x: u64, y: u64) -> usize
@@ -42,19 +45,7 @@ pub extern "C" fn board_read(file: &[u8], out: &mut [u8]) -> u32
     0
 }
 
-// The first m bytes become 0.
-fn clear_bytes(bytes: &mut [u8], m: usize)
-    requires { ⌜ m ≤ length (now bytes) ⌝ }
-    ensures { λ _. ⌜ now (bytes .exit) ≡ replicate m 0 ++ drop m (now (bytes .entry)) ⌝ }
-{
-    let mut i = 0;
-    while i < m {
-        bytes[i] = 0;
-        i += 1;
-    }
-}
-
-// The watershed of a picture; work is cleared, and not read: its 16-bit entries are a local here.
+// The watershed of a picture; its work is the lent bytes as 16-bit entries, unpacked into a local.
 #[no_mangle]
 pub extern "C" fn board_watershed(
     adjacency: u32,
@@ -77,9 +68,11 @@ pub extern "C" fn board_watershed(
     if fault != 0 {
         return fault as u32;
     }
+    let entries = 5 * pixels.len();
     let mut cells = [0u16; 8000];
+    unpack(work, &mut cells, entries);
     watershed_of(adjacency, width, height, pixels, out, &mut cells);
-    clear_bytes(work, 10 * pixels.len());
+    pack(&cells, work, entries);
     0
 }
 
@@ -108,16 +101,14 @@ fn place_fault_for_c(
     0
 }
 
-// The patch number of a place, with locals for the 16-bit work.
-fn patch_number(a: u32, w: u32, h: u32, pixels: &[u8], place: usize) -> u16
-    requires { ⌜ Admits (pictureOf a w h (now pixels)) (replicate 8000 0) place ⌝ }
-    ensures { λ r. ⌜ r ≡ patchAt (pictureOf a w h (now (pixels .entry))) place ⌝ }
+// The patch number of where a place lies, 0 for the line.
+fn patch_number(ground: Ground) -> u16
+    ensures { λ r. ⌜ r ≡ patchNumber ground ⌝ }
 {
-    let n = pixels.len();
-    let whole = 5 * n;
-    let mut work = [0u16; 8000];
-    let mut cells = [0u16; 1600];
-    query(a, w, h, pixels, place, &mut work[..whole], &mut cells[..n])
+    match ground {
+        Ground::Line => 0,
+        Ground::Patch(number) => number,
+    }
 }
 
 // The value of the pixel at a place and the number of its patch, 0 for the line.
@@ -145,8 +136,14 @@ pub extern "C" fn board_place(
     if fault != 0 {
         return fault as u32;
     }
-    let number = patch_number(adjacency, width, height, pixels, place as usize);
-    put_pair(out, 0, pixels[place as usize] as u64, number as u64);
-    clear_bytes(work, 10 * pixels.len());
+    let entries = 5 * pixels.len();
+    let mut cells = [0u16; 8000];
+    unpack(work, &mut cells, entries);
+    let answer = query_place(adjacency, width, height, pixels, place, &mut cells);
+    let value = answer.value;
+    let ground = answer.ground;
+    let number = patch_number(ground);
+    put_pair(out, 0, value as u64, number as u64);
+    pack(&cells, work, entries);
     0
 }

@@ -1,11 +1,11 @@
--- `board_c::board_watershed` meets its contract: a refusal leaves all as it was, and else the public call and the end leave what is said.
-use mathlib.Core.Path.{_≡_, refl, sym, _∙_}
-use Prim.Native.Nat.{ℕ, _/_}
+-- `board_c::board_watershed` meets its contract: a refusal leaves all as it was, and else the public call and the packing leave what is said.
+use mathlib.Core.Path.{_≡_, sym, _∙_}
+use Prim.Native.Nat.{_/_}
 use native.Mathlib.Omega.{arith}
 use lib.ListN.{length}
 use Rattle.picture.specs.Pictures.{Picture, pictureOf}
 use Rattle.board.specs.Faults.{outputFault}
-use Rattle.board_c.proofs.ForC.{water-refused, water-size, water-few, water-room, water-done}
+use Rattle.board_c.proofs.ForC.{Lent, unpack-room, pack-room, water-refused, water-lent, water-done}
 use borrow.Author.Needs.{needs}
 use Rattle.board_c.proofs.board_watershed.Statement.{statement}
 use Rattle.board_c.proofs.board_watershed.Tie as tie
@@ -24,6 +24,9 @@ none :
     outputFault (s .args .adjacency) (s .args .width) (s .args .height) (length (s .args .pixels .now)) (length (s .args .out .now)) (length (s .args .work .now) / 2) ≡ 0
 none c = sym (c .before .output-fault .ensures) ∙ c .if1 .left
 
+lends : (c : tie.Else1) → let s = origin c in Lent (pictured s) (s .args .work .now)
+lends c = let s = origin c in water-lent (pictured s) (s .args .out .now) (s .args .work .now) (none c)
+
 output-fault-requires : tie.Need-output-fault-requires
 output-fault-requires c κs = search needs
 
@@ -35,23 +38,28 @@ returns c =
     let s = c .before .before .before .before .before in
     water-refused (pictured s) (s .args .out .now) (s .args .work .now) (c .before .output-fault .result) (c .before .output-fault .ensures) (c .if1 .taken)
 
+mul-entries : tie.Need-mul-entries
+mul-entries c = let a = lends c in omega (arith, a .size, a .few)
+
+slice-aggregate-unpack : tie.Need-slice-aggregate-unpack
+slice-aggregate-unpack c = search needs
+
+unpack-requires : tie.Need-unpack-requires
+unpack-requires c κs = unpack-room _ _ (lends (c .before .before))
+
 slice-aggregate-watershed-of : tie.Need-slice-aggregate-watershed-of
 slice-aggregate-watershed-of c = search needs
 
 watershed-of-requires : tie.Need-watershed-of-requires
 watershed-of-requires c κs = search needs
 
-mul-clear-bytes : tie.Need-mul-clear-bytes
-mul-clear-bytes c =
-    let e = c .before .before .before .before .before .before .before in
-    let s = origin e in
-    omega (arith, water-size (pictured s) (s .args .out .now) (s .args .work .now) (none e), water-few (pictured s) (s .args .out .now) (s .args .work .now) (none e))
+slice-aggregate-pack : tie.Need-slice-aggregate-pack
+slice-aggregate-pack c = search needs
 
-clear-bytes-requires : tie.Need-clear-bytes-requires
-clear-bytes-requires c κs =
-    let e = c .before .before .before .before .before .before .before in
-    let s = origin e in
-    water-room (pictured s) (s .args .out .now) (s .args .work .now) (none e)
+pack-requires : tie.Need-pack-requires
+pack-requires c κs =
+    let t = c .before .before .before .before .before in
+    pack-room _ _ (lends (c .before .before .before .before .before .before .before .before .before .before .before .before)) (t .watershed-of .kept .1 .1 .1 .1 .1 .0 ∙ t .before .before .before .before .unpack .kept .1 .0)
 
 same-length : tie.Need-same-length
 same-length c = search needs
@@ -61,10 +69,10 @@ same-length-2 c = search needs
 
 returns-2 : tie.Need-returns-2
 returns-2 c =
-    let e = c .before .before .before .before .before .before .before .before .before .before in
+    let e = c .before .before .before .before .before .before .before .before .before .before .before .before .before .before .before in
     let s = origin e in
-    let t = c .before .before .before .before .before .before .before .watershed-of in
-    water-done (pictured s) (s .args .out .now) (s .args .work .now) (none e) _ _ _ _ (t .result) refl (t .ensures) (c .before .before .clear-bytes .ensures)
+    let t = c .before .before .before .before .before .before .before .before in
+    water-done (pictured s) (s .args .out .now) (s .args .work .now) (none e) _ _ _ _ (t .watershed-of .result) (t .before .before .before .before .unpack .kept .1 .0) (t .watershed-of .ensures) (c .before .before .pack .ensures)
 
 pub board-watershed-spec : {M : Type 1} → statement M
 board-watershed-spec =
@@ -73,10 +81,13 @@ board-watershed-spec =
     output-fault-requires
     cast-result
     returns
+    mul-entries
+    slice-aggregate-unpack
+    unpack-requires
     slice-aggregate-watershed-of
     watershed-of-requires
-    mul-clear-bytes
-    clear-bytes-requires
+    slice-aggregate-pack
+    pack-requires
     same-length
     same-length-2
     returns-2)

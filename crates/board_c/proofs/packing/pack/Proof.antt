@@ -1,0 +1,71 @@
+-- `board_c::packing::pack` meets its contract. The invariant: the first i cells are written.
+use mathlib.Core.Path.{_≡_, refl, ap, _∙_}
+use Prim.Native.Nat.{ℕ, _≤_, _-_, _*_}
+use native.Mathlib.Omega.{arith}
+use lib.ListN.{length, take}
+use borrow.Author.Needs.{needs}
+use Rattle.text.specs.Writing.{Written}
+use Rattle.text.proofs.Writings.{written-none}
+use Rattle.board.specs.Calls.{over}
+use Rattle.board_c.specs.Packing.{packed}
+use Rattle.board_c.proofs.Packed.{written-front, packed-next}
+use Rattle.board_c.proofs.packing.pack.Statement.{statement}
+use Rattle.board_c.proofs.packing.pack.Tie as tie
+
+abbrev Inv-loop : tie.InvT-loop
+Inv-loop cells bytes₀ m next₀ i₀ bytes next i = (i ≤ m) × (next ≡ 2 * i) × (length bytes ≡ length bytes₀) × Written 0 (packed (take i cells)) bytes₀ next bytes
+
+abbrev μ-loop : tie.MeasureT-loop
+μ-loop cells bytes₀ m next₀ i₀ bytes next i = m - i
+
+loop-holds : tie.Need-loop-holds Inv-loop μ-loop
+loop-holds c = (search needs, refl, refl, written-none (c .before .before .args .bytes .now) 0)
+
+mul-put-entry : tie.Need-mul-put-entry Inv-loop μ-loop
+mul-put-entry c = search needs
+
+shared-slice-read-put-entry : tie.Need-shared-slice-read-put-entry Inv-loop μ-loop
+shared-slice-read-put-entry c = search needs
+
+put-entry-requires : tie.Need-put-entry-requires Inv-loop μ-loop
+put-entry-requires c κs = search needs
+
+add-i : tie.Need-add-i Inv-loop μ-loop
+add-i c = search needs
+
+loop-less : tie.Need-loop-less Inv-loop μ-loop
+loop-less c = search needs
+
+loop-again : tie.Need-loop-again Inv-loop μ-loop
+loop-again c =
+    let s = c .before .before .before .before .before .before .before .before .before in
+    let l = c .before .before .before .before .before .before .loop in
+    let t = c .before .before .put-entry in
+    let w = packed-next (s .args .cells .now) (s .args .bytes .now) (l .bytes) (t .last .0) (l .next) (t .result) (l .i) (omega arith) (l .inv .3) (t .ensures) in
+    (search needs, omega (arith, t .ensures .end), search needs, w)
+
+same-length : tie.Need-same-length Inv-loop μ-loop
+same-length c = search needs
+
+returns : tie.Need-returns Inv-loop μ-loop
+returns c =
+    let s = c .before .before .before .before in
+    let l = c .before .loop in
+    let e : l .i ≡ s .args .m = omega arith in
+    written-front (l .inv .3) ∙ ap (λ (k : ℕ). over (packed (take k (s .args .cells .now))) (s .args .bytes .now)) e
+
+pub pack-spec : {M : Type 1} → statement M
+pack-spec =
+    tie.close
+    (tie.spec
+    Inv-loop
+    μ-loop
+    loop-holds
+    mul-put-entry
+    shared-slice-read-put-entry
+    put-entry-requires
+    add-i
+    loop-less
+    loop-again
+    same-length
+    returns)

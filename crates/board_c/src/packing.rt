@@ -1,0 +1,51 @@
+// 16-bit entries packed in bytes, two bytes an entry, the lowest first.
+use text::put;
+ghost use mathlib.Core.Path.{_≡_};
+ghost use mathlib.Core.List.{_++_};
+ghost use Prim.Native.Nat.{_+_, _*_, _≤_};
+ghost use lib.ListN.{length, take, drop};
+ghost use Rattle.text.specs.Little.{littleEndian};
+ghost use Rattle.text.specs.Writing.{Written};
+ghost use Rattle.board.specs.Calls.{over};
+ghost use Rattle.board_c.specs.Packing.{entries, packed};
+
+// The entry of two bytes.
+fn entry(low: u8, high: u8) -> u16
+    ensures { λ r. ⌜ r ≡ low + 256 * high ⌝ }
+{
+    low as u16 + 256 * high as u16
+}
+
+// The first m cells become the first m entries of the bytes.
+pub fn unpack(bytes: &[u8], cells: &mut [u16], m: usize)
+    requires { ⌜ (2 * m ≤ length (now bytes)) × (m ≤ length (now cells)) ⌝ }
+    ensures { λ _. ⌜ now (cells .exit) ≡ entries m (now (bytes .entry)) ++ drop m (now (cells .entry)) ⌝ }
+{
+    let mut i = 0;
+    while i < m {
+        cells[i] = entry(bytes[2 * i], bytes[2 * i + 1]);
+        i += 1;
+    }
+}
+
+// Writes an entry and answers the place behind it. By `put_little`, which is recursive, packing would double the time of a place query.
+fn put_entry(bytes: &mut [u8], at: usize, entry: u16) -> usize
+    requires { ⌜ at + 2 ≤ length (now bytes) ⌝ }
+    ensures { λ r. ⌜ Written at (littleEndian 2 entry) (now (bytes .entry)) r (now (bytes .exit)) ⌝ }
+{
+    let next = put(bytes, at, (entry % 256) as u8);
+    put(bytes, next, (entry / 256) as u8)
+}
+
+// The first m entries of the bytes become the first m cells.
+pub fn pack(cells: &[u16], bytes: &mut [u8], m: usize)
+    requires { ⌜ (m ≤ length (now cells)) × (2 * m ≤ length (now bytes)) ⌝ }
+    ensures { λ _. ⌜ now (bytes .exit) ≡ over (packed (take m (now (cells .entry)))) (now (bytes .entry)) ⌝ }
+{
+    let mut next = 0;
+    let mut i = 0;
+    while i < m {
+        next = put_entry(bytes, next, cells[i]);
+        i += 1;
+    }
+}
