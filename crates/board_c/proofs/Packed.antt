@@ -7,7 +7,7 @@ use native.Mathlib.Numerals.{add-one}
 use lib.ListN.{length, getD, take, drop, set, replicate}
 use lib.Seq.{take-suc, drop-cons}
 use Rattle.picture.specs.Lists.{range}
-use Rattle.patch_records.proofs.Written.{written-next}
+use Rattle.topology.proofs.Filling.{written-next}
 use Rattle.text.specs.Little.{littleEndian}
 use Rattle.text.specs.Writing.{Written}
 use Rattle.text.proofs.Writings.{written-then}

@@ -65,3 +65,4 @@ pub mod Looks
 pub mod Tree
 pub mod TreeLists
 pub mod Copies
+pub mod Filling
