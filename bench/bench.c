@@ -201,6 +201,22 @@ static void measure(struct times *least)
 }
 
 static struct times table[2][SIDES][PICTURE_COUNT][CALLS];
+static double gathered[2][PICTURE_COUNT];
+
+/* The least time in seconds of gathering the figures of all patches: list_patches but for its records. */
+static double measure_gather(void)
+{
+    double least = 1e9;
+    for (unsigned i = 0; i < ROUNDS; i++) {
+        double begin = now();
+        for (unsigned j = 0; j < 5; j++)
+            sink = bench_gather(a, w, w, pixels, n, n, ours.work, 5 * n);
+        double taken = (now() - begin) / 5;
+        if (taken < least)
+            least = taken;
+    }
+    return least;
+}
 
 static void print_head(const char *first)
 {
@@ -264,14 +280,16 @@ static void print_growth(unsigned adjacency, unsigned picture)
 
 static void print_against_tree(void)
 {
-    printf("\nTime of query_place over time of component_tree, ours, 40 by 40\n");
-    printf("\n| picture | adjacency 4 | adjacency 8 |\n|---|---|---|\n");
+    printf("\nTime of query_place, and of gathering the figures of all patches, over time of component_tree, ours, 40 by 40\n");
+    printf("\n| picture | query_place, 4 | query_place, 8 | figures, 4 | figures, 8 |\n|---|---|---|---|---|\n");
     for (unsigned p = 0; p < PICTURE_COUNT; p++) {
         printf("| %s |", picture_names[p]);
         for (unsigned adjacency = 0; adjacency < 2; adjacency++) {
             struct times *t = table[adjacency][SIDES - 1][p];
             printf(" %.2f |", t[7].ours / t[3].ours);
         }
+        for (unsigned adjacency = 0; adjacency < 2; adjacency++)
+            printf(" %.2f |", gathered[adjacency][p] / table[adjacency][SIDES - 1][p][3].ours);
         printf("\n");
     }
 }
@@ -315,6 +333,8 @@ int main(int arguments, char **argument)
             for (unsigned p = 0; p < PICTURE_COUNT; p++) {
                 take(p, sides[s], adjacency ? 8 : 4);
                 measure(table[adjacency][s][p]);
+                if (s == SIDES - 1)
+                    gathered[adjacency][p] = measure_gather();
             }
     for (unsigned adjacency = 0; adjacency < 2; adjacency++) {
         print_ratios(adjacency);

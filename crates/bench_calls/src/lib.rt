@@ -131,3 +131,15 @@ pub extern "C" fn bench_query_place(
     let ground = answer.ground;
     answer.number as u64 * 4294967296 + answer.value as u64 * 65536 + patch_of(ground)
 }
+
+#[no_mangle]
+pub extern "C" fn bench_gather(
+    a: u32,
+    w: u32,
+    h: u32,
+    pixels: &[u8],
+    room: usize,
+    work: &mut [u16],
+) -> u64 {
+    as_number(board::listing::gather(a, w, h, pixels, room, work))
+}

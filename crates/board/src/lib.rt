@@ -18,7 +18,7 @@ use verify::climb::pass;
 use watershed::whole::watershed_core;
 
 pub mod faults;
-mod listing;
+pub mod listing;
 mod reading;
 mod trees;
 
