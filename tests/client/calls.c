@@ -11,6 +11,7 @@
  *   check ADJACENCY WIDTH HEIGHT PIXELS TREE WORK-LENGTH NUMBER
  *   pass ADJACENCY WIDTH HEIGHT PIXELS TREE PLACE PLACE WORK-LENGTH NUMBER
  *         [PASS]
+ *   watershed ADJACENCY WIDTH HEIGHT PIXELS OUT-LENGTH WORK-LENGTH NUMBER [OUT]
  *   place ADJACENCY WIDTH HEIGHT PIXELS PLACE WORK-LENGTH NUMBER [VALUE PATCH]
  *
  * cases.h has the form of the fields. Lengths count entries; a 16-bit entry
@@ -32,9 +33,17 @@ struct given {
 /* The arguments of a call, and the lists that are lent or expected. */
 static uint32_t adjacency, width, height;
 static struct given pixels_given, heights_given, fathers_given, firsts_given;
-static struct given map_given, labels_given;
+static struct given map_given, out_given;
 
 static struct memory pixels, heights, fathers, firsts, map, out, work;
+
+static const struct {
+    const char *name;
+    struct memory *memory;
+} memories[] = {{"pixels", &pixels}, {"heights", &heights},
+                {"fathers", &fathers}, {"firsts", &firsts},
+                {"map", &map}, {"output", &out}, {"work", &work}};
+#define MEMORIES (sizeof memories / sizeof *memories)
 
 /* The fields that are not read yet; malformed if one did not fit. */
 static char **next_field;
@@ -138,14 +147,10 @@ static void prepare_lent_tree(unsigned turn)
 }
 
 /* Checks the result and all memory; work is zero over 5 n entries after
- * success. The value is 0 on a refusal and after a check. */
+ * success. The value is 0 on a refusal, after a check and after a watershed. */
 static int check(uint64_t result, uint64_t number, uint64_t value)
 {
     static const uint8_t zeros[MEMORY_ROOM];
-    static const char *const names[] = {"pixels", "heights", "fathers",
-                                        "firsts", "map", "output", "work"};
-    struct memory *const memories[] = {&pixels, &heights, &fathers, &firsts,
-                                       &map, &out, &work};
     if (number == 0)
         expect(&work, zeros, 10 * pixels_given.length);
     if (result != (number << 32) + value) {
@@ -155,9 +160,9 @@ static int check(uint64_t result, uint64_t number, uint64_t value)
                (unsigned long)value);
         return 0;
     }
-    for (size_t index = 0; index < sizeof memories / sizeof *memories; index++)
-        if (!as_expected(memories[index])) {
-            printf("memory differs: %s\n", names[index]);
+    for (size_t index = 0; index < MEMORIES; index++)
+        if (!as_expected(memories[index].memory)) {
+            printf("memory differs: %s\n", memories[index].name);
             return 0;
         }
     return 1;
@@ -173,7 +178,7 @@ static int run_label(void)
     uint64_t count = 0;
     if (number == 0) {
         count = take_number(1600);
-        take_entries(&labels_given);
+        take_entries(&out_given);
     }
     if (!well_formed())
         return 0;
@@ -185,7 +190,7 @@ static int run_label(void)
             lent_entries(&out), entries(&out), lent_entries(&work),
             entries(&work));
         if (number == 0)
-            expect(&out, labels_given.bytes, labels_given.length);
+            expect(&out, out_given.bytes, out_given.length);
         if (!check(result, number, count))
             return 0;
     }
@@ -297,6 +302,30 @@ static int run_pass(void)
     return 1;
 }
 
+static int run_watershed(void)
+{
+    take_picture();
+    size_t out_length = take_length();
+    size_t work_length = take_length();
+    uint64_t number = take_number(12);
+    if (number == 0)
+        take_bytes(&out_given);
+    if (!well_formed())
+        return 0;
+    for (unsigned turn = 0; turn < 2; turn++) {
+        prepare_picture_and_work(work_length, turn);
+        prepare(&out, out_length, 1, 5, turn);
+        uint64_t result = bench_watershed_of(
+            adjacency, width, height, lent(&pixels), pixels.length,
+            lent(&out), out.length, lent_entries(&work), entries(&work));
+        if (number == 0)
+            expect(&out, out_given.bytes, out_given.length);
+        if (!check(result, number, 0))
+            return 0;
+    }
+    return 1;
+}
+
 static int run_place(void)
 {
     take_picture();
@@ -325,10 +354,14 @@ static int run_case(char **fields, int count)
         int (*run)(void);
     } kinds[] = {{"label", run_label}, {"lowerable", run_lowerable},
                  {"tree", run_tree},   {"check", run_check},
-                 {"pass", run_pass},   {"place", run_place}};
+                 {"pass", run_pass},   {"watershed", run_watershed},
+                 {"place", run_place}};
     next_field = fields;
     fields_left = count;
     malformed = 0;
+    /* What an earlier case left in memory is no fault of this one. */
+    for (size_t index = 0; index < MEMORIES; index++)
+        remember(memories[index].memory);
     const char *name = take_field();
     for (size_t index = 0; index < sizeof kinds / sizeof *kinds; index++)
         if (strcmp(name, kinds[index].name) == 0)

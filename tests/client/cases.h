@@ -28,6 +28,12 @@ struct memory {
     size_t length;
 };
 
+/* Takes the memory as it is for what it holds before a call. */
+static void remember(struct memory *memory)
+{
+    memcpy(memory->before, memory->bytes, sizeof memory->bytes);
+}
+
 /* Fills memory with a pattern; the length is in bytes. An odd turn moves the
  * start by one entry of this size. */
 static void prepare(struct memory *memory, size_t length, size_t entry_size,
@@ -39,7 +45,7 @@ static void prepare(struct memory *memory, size_t length, size_t entry_size,
         uint8_t byte = (uint8_t)(index * 37 + index / 256 * 11 + seed * 101);
         memory->bytes[index] = turn % 2 == 0 ? byte : (uint8_t)~byte;
     }
-    memcpy(memory->before, memory->bytes, sizeof memory->bytes);
+    remember(memory);
 }
 
 /* Memory that holds these bytes. */
@@ -49,7 +55,7 @@ static void prepare_input(struct memory *memory, const uint8_t *bytes,
 {
     prepare(memory, length, entry_size, seed, turn);
     memcpy(memory->bytes + memory->start, bytes, length);
-    memcpy(memory->before, memory->bytes, sizeof memory->bytes);
+    remember(memory);
 }
 
 static uint8_t *lent(struct memory *memory)

@@ -9,6 +9,7 @@
 //!         MAP-LENGTH WORK-LENGTH NUMBER [TREE]
 //!     check ADJACENCY WIDTH HEIGHT PIXELS TREE WORK-LENGTH NUMBER
 //!     pass ADJACENCY WIDTH HEIGHT PIXELS TREE PLACE PLACE WORK-LENGTH NUMBER [PASS]
+//!     watershed ADJACENCY WIDTH HEIGHT PIXELS OUT-LENGTH WORK-LENGTH NUMBER [OUT]
 //!     place ADJACENCY WIDTH HEIGHT PIXELS PLACE WORK-LENGTH NUMBER [VALUE PATCH]
 
 use crate::cases;
@@ -41,12 +42,23 @@ enum Question {
         lent: LentTree,
         places: [u32; 2],
     },
+    Watershed {
+        out_length: usize,
+    },
     Place {
         place: u32,
     },
 }
 
-const KINDS: [&str; 6] = ["label", "lowerable", "tree", "check", "pass", "place"];
+const KINDS: [&str; 7] = [
+    "label",
+    "lowerable",
+    "tree",
+    "check",
+    "pass",
+    "watershed",
+    "place",
+];
 
 #[derive(Clone)]
 struct Call {
@@ -99,7 +111,9 @@ impl Question {
     /// The length of the shortest memory that only this call lends.
     fn least_length(&self) -> Option<usize> {
         match self {
-            Question::Label { out_length, .. } => Some(*out_length),
+            Question::Label { out_length, .. } | Question::Watershed { out_length } => {
+                Some(*out_length)
+            }
             Question::Tree { lengths } => lengths.iter().copied().min(),
             Question::Check { lent } | Question::Pass { lent, .. } => Some(lent.least_length()),
             _ => None,
@@ -136,6 +150,7 @@ impl Question {
                 let [one, other] = places;
                 ("pass", format!("{} {} {} ", lent.text(), one, other))
             }
+            Question::Watershed { out_length } => ("watershed", format!("{} ", out_length)),
             Question::Place { place } => ("place", format!("{} ", place)),
         }
     }
@@ -157,6 +172,9 @@ impl Question {
             Question::Pass { places, .. } => {
                 let [one, other] = places.map(|place| place as usize);
                 format!(" {}", pass_of(picture, one, other))
+            }
+            Question::Watershed { .. } => {
+                format!(" {}", hexadecimal(&quick::watershed(picture).pixels))
             }
             Question::Place { place } => {
                 let answer = place_query_of(picture, *place as usize);
@@ -251,6 +269,7 @@ fn calls_of_worked_pictures() -> Vec<Call> {
                 lengths: [count; 4],
             });
             ask(Question::Check { lent: lent.clone() });
+            ask(Question::Watershed { out_length });
             for one in 0..count as u32 {
                 ask(Question::Lowerable { place: one });
                 ask(Question::Place { place: one });
@@ -323,6 +342,7 @@ fn calls_of_h10() -> Vec<Call> {
             lent,
             places: [0, 5],
         },
+        Question::Watershed { out_length: 6 },
         Question::Place { place: 5 },
     ];
     questions
@@ -334,7 +354,9 @@ fn calls_of_h10() -> Vec<Call> {
 /// Sets the length of one of the lists that only this call lends.
 fn set_length(question: &mut Question, which: usize, length: usize) {
     match question {
-        Question::Label { out_length, .. } => *out_length = length,
+        Question::Label { out_length, .. } | Question::Watershed { out_length } => {
+            *out_length = length
+        }
         Question::Tree { lengths } => lengths[which] = length,
         Question::Check { lent } | Question::Pass { lent, .. } => lent.set_length(which, length),
         _ => {}
@@ -486,6 +508,9 @@ fn question(random: &mut Random, kind: &str, picture: &Picture) -> Question {
             let places = [place, random.below(count) as u32];
             Question::Pass { lent, places }
         }
+        "watershed" => Question::Watershed {
+            out_length: count + random.one_of(&[0, 0, 1, 7, 100]),
+        },
         _ => Question::Place { place },
     }
 }
@@ -560,7 +585,7 @@ mod tests {
     fn number_field(kind: &str) -> usize {
         match kind {
             "label" => 8,
-            "lowerable" | "place" => 7,
+            "lowerable" | "watershed" | "place" => 7,
             "tree" => 10,
             "check" => 11,
             _ => 13,
@@ -581,6 +606,7 @@ mod tests {
             ("tree", vec![0, 3, 7, 8, 9]),
             ("check", vec![0, 3, 7, 8, 9, 11]),
             ("pass", vec![0, 3, 7, 8, 9, 10, 11]),
+            ("watershed", vec![0, 3, 7, 8, 9]),
             ("place", vec![0, 3, 7, 8, 9, 10]),
         ] {
             let occurring: usize = counts.keys().filter(|key| key.0 == name).count();
