@@ -7,116 +7,17 @@
  *   place ADJACENCY WIDTH HEIGHT PIXELS PLACE OUT-LENGTH WORK-LENGTH NUMBER
  *         [VALUE PATCH]
  *
- * Bytes are in hexadecimal, no bytes are a hyphen. The fields in brackets
- * stand there only if the number is 0.
- *
- * Each case runs twice. The second time every byte of output and work memory
- * has all its bits inverted first, so that a byte left unwritten is seen.
+ * cases.h has the form of the fields. The fields in brackets stand there only
+ * if the number is 0.
  */
 
 #include "board.h"
-
-#include <stdio.h>
-#include <stdlib.h>
-#include <string.h>
-
-#define LINE_ROOM 65536
-#define MEMORY_ROOM 32768
-#define GUARD 64
-#define MAXIMUM_FIELDS 12
-
-/* Memory that is lent to a call, with guard bytes before and behind. */
-struct memory {
-    uint8_t bytes[GUARD + 1 + MEMORY_ROOM + GUARD];
-    uint8_t before[GUARD + 1 + MEMORY_ROOM + GUARD];
-    size_t start;
-    size_t length;
-};
+#include "cases.h"
 
 static struct memory input;
 static struct memory out;
 static struct memory work;
 static uint8_t expected[MEMORY_ROOM];
-
-static char line[LINE_ROOM];
-static char copy[LINE_ROOM];
-
-/* Fills memory with a pattern. An odd turn gives an odd start. */
-static void prepare(struct memory *memory, size_t length, unsigned seed,
-                    unsigned turn)
-{
-    memory->start = GUARD + turn % 2;
-    memory->length = length;
-    for (size_t index = 0; index < sizeof memory->bytes; index++) {
-        uint8_t byte = (uint8_t)(index * 37 + index / 256 * 11 + seed * 101);
-        memory->bytes[index] = turn % 2 == 0 ? byte : (uint8_t)~byte;
-    }
-    memcpy(memory->before, memory->bytes, sizeof memory->bytes);
-}
-
-static void prepare_input(const uint8_t *bytes, size_t length, unsigned turn)
-{
-    prepare(&input, length, 3, turn);
-    memcpy(input.bytes + input.start, bytes, length);
-    memcpy(input.before, input.bytes, sizeof input.bytes);
-}
-
-static uint8_t *lent(struct memory *memory)
-{
-    return memory->bytes + memory->start;
-}
-
-/* Whether the memory is as before but for its first `count` bytes, and
- * these are as wanted. The guard bytes are included. */
-static int holds_exactly(struct memory *memory, const uint8_t *wanted,
-                         size_t count)
-{
-    memcpy(memory->before + memory->start, wanted, count);
-    return memcmp(memory->bytes, memory->before, sizeof memory->bytes) == 0;
-}
-
-static int unchanged(struct memory *memory)
-{
-    return memcmp(memory->bytes, memory->before, sizeof memory->bytes) == 0;
-}
-
-static int hexadecimal_digit(char digit)
-{
-    if (digit >= '0' && digit <= '9')
-        return digit - '0';
-    if (digit >= 'a' && digit <= 'f')
-        return digit - 'a' + 10;
-    return -1;
-}
-
-/* Reads bytes in hexadecimal. Answers 1, or 0 if they are malformed. */
-static int parse_bytes(const char *field, uint8_t *bytes, size_t *length)
-{
-    *length = 0;
-    if (strcmp(field, "-") == 0)
-        return 1;
-    size_t digits = strlen(field);
-    if (digits % 2 != 0 || digits / 2 > MEMORY_ROOM)
-        return 0;
-    for (size_t index = 0; index < digits / 2; index++) {
-        int high = hexadecimal_digit(field[2 * index]);
-        int low = hexadecimal_digit(field[2 * index + 1]);
-        if (high < 0 || low < 0)
-            return 0;
-        bytes[index] = (uint8_t)(16 * high + low);
-    }
-    *length = digits / 2;
-    return 1;
-}
-
-static int parse_number(const char *field, uint64_t most, uint64_t *number)
-{
-    char *end;
-    if (field[0] < '0' || field[0] > '9')
-        return 0;
-    *number = strtoull(field, &end, 10);
-    return *end == '\0' && *number <= most;
-}
 
 /* Writes a number as eight bytes, lowest first. */
 static void eight_bytes(uint8_t *bytes, uint64_t number)
@@ -133,25 +34,22 @@ static int wrong(const char *what, uint32_t result, uint64_t number)
     return 0;
 }
 
-/* Checks memory after a call; `count` bytes of `expected` are the output,
- * `zeroed` bytes of work are zero. */
+/* Checks memory after a call: after success `count` bytes of `expected` are
+ * the output and `zeroed` bytes of work are zero. */
 static int check(uint32_t result, uint64_t number, size_t count, size_t zeroed)
 {
     static const uint8_t zeros[MEMORY_ROOM];
     if (result != number)
         return wrong("wrong number", result, number);
-    if (!unchanged(&input))
-        return wrong("input memory changed", result, number);
-    if (number != 0) {
-        if (!unchanged(&out))
-            return wrong("output memory changed on a refusal", result, number);
-        if (!unchanged(&work))
-            return wrong("work memory changed on a refusal", result, number);
-        return 1;
+    if (number == 0) {
+        expect(&out, expected, count);
+        expect(&work, zeros, zeroed);
     }
-    if (!holds_exactly(&out, expected, count))
+    if (!as_expected(&input))
+        return wrong("input memory changed", result, number);
+    if (!as_expected(&out))
         return wrong("output memory differs", result, number);
-    if (!holds_exactly(&work, zeros, zeroed))
+    if (!as_expected(&work))
         return wrong("work memory differs", result, number);
     return 1;
 }
@@ -175,9 +73,9 @@ static int run_read(char **fields, int count)
         }
     }
     for (unsigned turn = 0; turn < 2; turn++) {
-        prepare_input(file, file_length, turn);
-        prepare(&out, out_length, 5, turn);
-        prepare(&work, 0, 7, turn);
+        prepare_input(&input, file, file_length, 1, 3, turn);
+        prepare(&out, out_length, 1, 5, turn);
+        prepare(&work, 0, 1, 7, turn);
         uint32_t result = board_read(lent(&input), input.length, lent(&out),
                                      out.length);
         if (!check(result, number, 32, 0))
@@ -204,9 +102,9 @@ static int run_watershed(char **fields, int count)
                         expected_length != pixels_length))
         return wrong("case malformed", 0, 0);
     for (unsigned turn = 0; turn < 2; turn++) {
-        prepare_input(pixels, pixels_length, turn);
-        prepare(&out, out_length, 5, turn);
-        prepare(&work, work_length, 7, turn);
+        prepare_input(&input, pixels, pixels_length, 1, 3, turn);
+        prepare(&out, out_length, 1, 5, turn);
+        prepare(&work, work_length, 1, 7, turn);
         uint32_t result = board_watershed(
             (uint32_t)adjacency, (uint32_t)width, (uint32_t)height,
             lent(&input), input.length, lent(&out), out.length, lent(&work),
@@ -241,9 +139,9 @@ static int run_place(char **fields, int count)
         eight_bytes(expected + 8, patch);
     }
     for (unsigned turn = 0; turn < 2; turn++) {
-        prepare_input(pixels, pixels_length, turn);
-        prepare(&out, out_length, 5, turn);
-        prepare(&work, work_length, 7, turn);
+        prepare_input(&input, pixels, pixels_length, 1, 3, turn);
+        prepare(&out, out_length, 1, 5, turn);
+        prepare(&work, work_length, 1, 7, turn);
         uint32_t result = board_place(
             (uint32_t)adjacency, (uint32_t)width, (uint32_t)height,
             lent(&input), input.length, (uint32_t)place, lent(&out),
@@ -254,17 +152,8 @@ static int run_place(char **fields, int count)
     return 1;
 }
 
-static int run_case(void)
+static int run_case(char **fields, int count)
 {
-    char *fields[MAXIMUM_FIELDS];
-    int count = 0;
-    for (char *field = strtok(copy, " \n"); field != NULL;
-         field = strtok(NULL, " \n")) {
-        if (count == MAXIMUM_FIELDS)
-            return wrong("case malformed", 0, 0);
-        fields[count] = field;
-        count++;
-    }
     if (count > 0 && strcmp(fields[0], "read") == 0)
         return run_read(fields, count);
     if (count > 0 && strcmp(fields[0], "watershed") == 0)
@@ -276,16 +165,5 @@ static int run_case(void)
 
 int main(void)
 {
-    unsigned long cases = 0;
-    unsigned long wrong_cases = 0;
-    while (fgets(line, sizeof line, stdin) != NULL) {
-        strcpy(copy, line);
-        cases++;
-        if (!run_case()) {
-            wrong_cases++;
-            printf("case %lu: %s", cases, line);
-        }
-    }
-    printf("%lu cases, %lu wrong\n", cases, wrong_cases);
-    return cases > 0 && wrong_cases == 0 ? 0 : 1;
+    return run_cases(run_case);
 }

@@ -30,46 +30,69 @@ struct Call {
 const PLACE_OUT: usize = 16;
 const READ_OUT: usize = 32;
 
-impl Call {
-    /// The refusal's number or 0. The order is 7, 3, 8, 9, 10.
-    fn refusal(&self) -> u32 {
-        if self.adjacency != 4 && self.adjacency != 8 {
-            return 7;
-        }
-        if !(1..=40).contains(&self.width) || !(1..=40).contains(&self.height) {
-            return 3;
-        }
-        let count = (self.width * self.height) as usize;
-        if self.pixels.len() != count {
-            return 8;
-        }
-        let out_needed = if self.place.is_some() {
-            PLACE_OUT
+/// The refusal's number or 0. The order is 7, 3, 8, 9, 10. `enough` says
+/// whether the lent memory is enough for n pixels.
+pub fn refusal(
+    adjacency: u32,
+    sides: (u32, u32),
+    length: usize,
+    enough: impl Fn(usize) -> bool,
+    places: &[u32],
+) -> u32 {
+    let (width, height) = sides;
+    if adjacency != 4 && adjacency != 8 {
+        return 7;
+    }
+    if !(1..=40).contains(&width) || !(1..=40).contains(&height) {
+        return 3;
+    }
+    let count = (width * height) as usize;
+    if length != count {
+        return 8;
+    }
+    if !enough(count) {
+        return 9;
+    }
+    if places.iter().any(|place| *place as usize >= count) {
+        return 10;
+    }
+    0
+}
+
+/// The picture of arguments that are not refused.
+pub fn picture(adjacency: u32, sides: (u32, u32), pixels: &[u8]) -> Picture {
+    Picture {
+        width: sides.0 as usize,
+        height: sides.1 as usize,
+        pixels: pixels.to_vec(),
+        adjacency: if adjacency == 4 {
+            Adjacency::Four
         } else {
-            count
-        };
-        if self.out_length < out_needed || self.work_length < 10 * count {
-            return 9;
-        }
-        if let Some(place) = self.place {
-            if place as usize >= count {
-                return 10;
-            }
-        }
-        0
+            Adjacency::Eight
+        },
+    }
+}
+
+impl Call {
+    fn refusal(&self) -> u32 {
+        refusal(
+            self.adjacency,
+            (self.width, self.height),
+            self.pixels.len(),
+            |count| {
+                let out_needed = if self.place.is_some() {
+                    PLACE_OUT
+                } else {
+                    count
+                };
+                self.out_length >= out_needed && self.work_length >= 10 * count
+            },
+            self.place.as_slice(),
+        )
     }
 
     fn picture(&self) -> Picture {
-        Picture {
-            width: self.width as usize,
-            height: self.height as usize,
-            pixels: self.pixels.clone(),
-            adjacency: if self.adjacency == 4 {
-                Adjacency::Four
-            } else {
-                Adjacency::Eight
-            },
-        }
+        picture(self.adjacency, (self.width, self.height), &self.pixels)
     }
 
     fn line(&self) -> String {

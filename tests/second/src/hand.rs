@@ -5,53 +5,7 @@ use crate::holds;
 use crate::literal::{self, Adjacency, Patch, Picture, PlaceAnswer, Tree, NO_FATHER};
 use crate::quick;
 use crate::random::Random;
-
-/// A picture from its rows, parted by slashes.
-fn picture(rows: &str, adjacency: Adjacency) -> Picture {
-    let rows: Vec<Vec<u8>> = rows
-        .split('/')
-        .map(|row| {
-            row.split_whitespace()
-                .map(|word| word.parse().unwrap())
-                .collect()
-        })
-        .collect();
-    Picture {
-        width: rows[0].len(),
-        height: rows.len(),
-        pixels: rows.concat(),
-        adjacency,
-    }
-}
-
-fn four(rows: &str) -> Picture {
-    picture(rows, Adjacency::Four)
-}
-
-/// Mark, picture, watershed.
-fn table() -> Vec<(&'static str, Picture, Picture)> {
-    let eight = |rows| picture(rows, Adjacency::Eight);
-    vec![
-        ("H1", four("9"), four("9")),
-        ("H2", four("0 1"), four("0 0")),
-        ("H3", four("3 1 4 0 2"), four("1 1 4 0 0")),
-        ("H4", four("0 5 / 5 0"), four("0 5 / 5 0")),
-        ("H5", eight("0 5 / 5 0"), eight("0 0 / 0 0")),
-        (
-            "H6",
-            four("7 7 7 / 7 7 7 / 7 7 7"),
-            four("7 7 7 / 7 7 7 / 7 7 7"),
-        ),
-        (
-            "H7",
-            four("0 0 0 / 0 5 0 / 0 0 0"),
-            four("0 0 0 / 0 0 0 / 0 0 0"),
-        ),
-        ("H8", four("0 3 3 3 1"), four("0 0 0 3 1")),
-        ("H9", four("0 3 3 1"), four("0 0 3 1")),
-        ("H10", four("0 5 2 / 3 3 3"), four("0 3 2 / 0 0 3")),
-    ]
-}
+use crate::worked::{four, table};
 
 #[test]
 fn watersheds_literal() {
@@ -195,7 +149,20 @@ fn literal_and_quick_agree_on_small_pictures() {
                 "{:?}",
                 picture
             );
+            assert_eq!(
+                quick::tree(picture),
+                literal::tree(picture),
+                "{:?}",
+                picture
+            );
             for place in 0..picture.count() {
+                let other = random.below(picture.count());
+                assert_eq!(
+                    quick::pass(picture, place, other),
+                    literal::pass(picture, place, other),
+                    "{:?}",
+                    picture
+                );
                 assert_eq!(
                     quick::place_query(picture, place),
                     literal::place_query(picture, place),

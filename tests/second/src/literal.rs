@@ -1,5 +1,5 @@
-//! The definitions, word by word, on sets of places. Slow: the tests use all
-//! of it, the program only the picture and the records.
+//! The definitions, word by word, on sets of places. Slow: the program uses
+//! them on small pictures only, and the tests compare the quick ones with them.
 
 #![cfg_attr(not(test), allow(dead_code))]
 

@@ -5,8 +5,10 @@
 //!     second edges                  the expected output of the edge cases
 //!     second compare HOLDS [count]  compares a `holds` program with this one
 //!     second cases [count]          test cases for the C client
+//!     second calls [count]          test cases for the calls on 16-bit memory
 //!     second wall                   an example picture as a P5 file
 
+mod calls;
 mod cases;
 mod compare;
 mod edges;
@@ -15,10 +17,12 @@ mod generate;
 #[cfg(test)]
 mod hand;
 mod holds;
+mod lent;
 mod literal;
 mod quick;
 mod random;
 mod wall;
+mod worked;
 
 use std::io::{Read, Write};
 use std::process::ExitCode;
@@ -39,7 +43,7 @@ fn print(bytes: &[u8]) -> ExitCode {
 }
 
 fn usage() -> ExitCode {
-    eprintln!("usage: second holds | edges | compare HOLDS [count] | cases [count] | wall");
+    eprintln!("usage: second holds | edges | compare HOLDS [count] | cases [count] | calls [count] | wall");
     ExitCode::from(2)
 }
 
@@ -62,6 +66,10 @@ fn main() -> ExitCode {
         },
         ["cases", rest @ ..] => match count(rest, 900) {
             Some(count) => print(cases::text(count).as_bytes()),
+            None => usage(),
+        },
+        ["calls", rest @ ..] => match count(rest, 500) {
+            Some(count) => print(calls::text(count).as_bytes()),
             None => usage(),
         },
         ["wall"] => print(&wall::file()),

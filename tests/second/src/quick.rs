@@ -1,7 +1,7 @@
 //! The same answers as the literal module, quick enough for 40 by 40
 //! pictures. The tests compare the two on small pictures.
 
-use crate::literal::{Patch, Picture, PlaceAnswer};
+use crate::literal::{Patch, Picture, PlaceAnswer, Tree, NO_FATHER};
 use std::collections::BTreeSet;
 
 fn all_neighbours(picture: &Picture) -> Vec<Vec<usize>> {
@@ -165,6 +165,72 @@ fn contained_counts(labels: &[Vec<usize>]) -> Vec<Vec<usize>> {
     counts
 }
 
+/// The least node above a place and a height is the first fork above.
+fn fork_above(
+    labels: &[Vec<usize>],
+    counts: &[Vec<usize>],
+    place: usize,
+    height: i32,
+) -> Option<usize> {
+    (height as usize + 1..=255).find(|above| counts[*above][labels[*above][place]] >= 2)
+}
+
+/// The tree, from the labels of all sections.
+pub fn tree(picture: &Picture) -> Tree {
+    let labels = labels_of_all_sections(picture, &all_neighbours(picture));
+    let counts = contained_counts(&labels);
+    let mut heights = Vec::new();
+    let mut first_places = Vec::new();
+    // For each height and label the node that the component goes down to.
+    let mut nodes: Vec<Vec<usize>> = Vec::new();
+    for height in 0..=255 {
+        let mut of_height = vec![0; counts[height].len()];
+        let mut last_label = 0;
+        for (place, label) in labels[height].iter().copied().enumerate() {
+            let first = label > last_label;
+            if first {
+                last_label = label;
+            }
+            if first && counts[height][label] != 1 {
+                of_height[label] = heights.len();
+                heights.push(height as i32);
+                first_places.push(place);
+            } else if counts[height][label] == 1 && labels[height - 1][place] != 0 {
+                of_height[label] = nodes[height - 1][labels[height - 1][place]];
+            }
+        }
+        nodes.push(of_height);
+    }
+    let node = |height: usize, place: usize| nodes[height][labels[height][place]];
+    let fathers = (0..heights.len())
+        .map(|number| {
+            let first = first_places[number];
+            fork_above(&labels, &counts, first, heights[number])
+                .map_or(NO_FATHER, |above| node(above, first))
+        })
+        .collect();
+    let map = (0..picture.count())
+        .map(|place| node(usize::from(picture.pixels[place]), place))
+        .collect();
+    Tree {
+        heights,
+        first_places,
+        fathers,
+        map,
+    }
+}
+
+/// The least height at which both places have the same label.
+pub fn pass(picture: &Picture, one: usize, other: usize) -> i32 {
+    let neighbours = all_neighbours(picture);
+    (0..=255)
+        .find(|height| {
+            let labels = labels_of_section(picture, &neighbours, *height);
+            labels[one] != 0 && labels[one] == labels[other]
+        })
+        .unwrap()
+}
+
 pub fn patches(picture: &Picture) -> Vec<Patch> {
     let neighbours = all_neighbours(picture);
     let labels = labels_of_all_sections(picture, &neighbours);
@@ -173,13 +239,8 @@ pub fn patches(picture: &Picture) -> Vec<Patch> {
     for (index, places) in minima(picture, &neighbours).iter().enumerate() {
         let first = places[0];
         let height = picture.value(first);
-        // The father is the first fork above.
-        let father_height = (height + 1..=255).find(|above| {
-            let above = *above as usize;
-            counts[above][labels[above][first]] >= 2
-        });
-        let depth = match father_height {
-            Some(father_height) => father_height - height,
+        let depth = match fork_above(&labels, &counts, first, height) {
+            Some(father_height) => father_height as i32 - height,
             None => picture.largest_value() - height,
         };
         patches.push(Patch {
