@@ -56,6 +56,10 @@ extern uint64_t bench_gather(uint32_t a, uint32_t w, uint32_t h,
     const uint8_t *pixels, size_t n, size_t room,
     uint16_t *work, size_t work_length);
 
+/* The fault of that call alone, for which the minima are counted. */
+extern uint8_t bench_list_fault(uint32_t a, uint32_t w, uint32_t h,
+    const uint8_t *pixels, size_t n, size_t room, size_t work_length);
+
 extern label_section_call bench_label_section, peer_label_section;
 extern is_lowerable_call bench_is_lowerable, peer_is_lowerable;
 extern component_tree_call bench_component_tree, peer_component_tree;

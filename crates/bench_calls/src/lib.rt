@@ -143,3 +143,15 @@ pub extern "C" fn bench_gather(
 ) -> u64 {
     as_number(board::listing::gather(a, w, h, pixels, room, work))
 }
+
+#[no_mangle]
+pub extern "C" fn bench_list_fault(
+    a: u32,
+    w: u32,
+    h: u32,
+    pixels: &[u8],
+    room: usize,
+    work: usize,
+) -> u8 {
+    board::listing::list_fault(a, w, h, pixels, room, work)
+}

@@ -26,7 +26,7 @@ fn count_patches(a: u32, w: u32, h: u32, pixels: &[u8]) -> usize
 }
 
 // The fault of the call, from the picture and the two lengths; 0 for none. Nothing lent is written.
-fn list_fault(a: u32, w: u32, h: u32, pixels: &[u8], room: usize, work: usize) -> u8
+pub fn list_fault(a: u32, w: u32, h: u32, pixels: &[u8], room: usize, work: usize) -> u8
     ensures { λ r. ⌜ r ≡ listFault (pictureOf a w h (now (pixels .entry))) room work ⌝ }
 {
     let fault = work_fault(a, w, h, pixels.len(), work);
