@@ -6,7 +6,8 @@
  *
  * With the argument `once` each call runs once at 40 by 40, ours and then the
  * peer's, in the function `counted`, for a tool that counts instructions; a
- * line for each pair names it.
+ * line for each pair names it. With `growth` each of ours runs once on noise
+ * at each side.
  */
 
 #define _POSIX_C_SOURCE 199309L
@@ -336,8 +337,24 @@ static void run_once(void)
         }
 }
 
+static void run_growth(void)
+{
+    for (unsigned adjacency = 4; adjacency <= 8; adjacency += 4)
+        for (unsigned s = 0; s < SIDES; s++) {
+            take(NOISE, sides[s], adjacency);
+            for (unsigned call = 0; call < CALLS; call++) {
+                printf("%u|%u|%s\n", adjacency, sides[s], call_names[call]);
+                counted(call, 1);
+            }
+        }
+}
+
 int main(int arguments, char **argument)
 {
+    if (arguments > 1 && strcmp(argument[1], "growth") == 0) {
+        run_growth();
+        return 0;
+    }
     if (arguments > 1 && strcmp(argument[1], "once") == 0) {
         run_once();
         return 0;
