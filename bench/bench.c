@@ -202,38 +202,21 @@ static void measure(struct times *least)
 }
 
 static struct times table[2][SIDES][PICTURE_COUNT][CALLS];
-/* Least times in seconds of the tree, of counting the minima, and of that with the figures of all patches: list_patches but for its records. */
-#define PARTS 3
-static const char *const part_names[PARTS - 1] = {
-    "minima counted, over our component_tree", "minima and figures, over our component_tree",
-};
-static double parts[2][PICTURE_COUNT][PARTS];
+static double figures[2][PICTURE_COUNT];
 
-static uint64_t run_part(unsigned part)
+/* The least time in seconds of the figures of all patches. */
+static double measure_figures(void)
 {
-    switch (part) {
-    case 0:
-        return run(3, 1, &ours);
-    case 1:
-        return bench_list_fault(a, w, w, pixels, n, n, 5 * n);
-    default:
-        return bench_gather(a, w, w, pixels, n, n, ours.work, 5 * n);
+    double least = 1e9;
+    for (unsigned i = 0; i < ROUNDS; i++) {
+        double begin = now();
+        for (unsigned j = 0; j < 10; j++)
+            sink = bench_figures(a, w, w, pixels, n, ours.work, 5 * n);
+        double taken = (now() - begin) / 10;
+        if (taken < least)
+            least = taken;
     }
-}
-
-static void measure_parts(double *least)
-{
-    for (unsigned part = 0; part < PARTS; part++)
-        least[part] = 1e9;
-    for (unsigned i = 0; i < 2 * ROUNDS; i++)
-        for (unsigned part = 0; part < PARTS; part++) {
-            double begin = now();
-            for (unsigned j = 0; j < 10; j++)
-                sink = run_part(part);
-            double taken = (now() - begin) / 10;
-            if (taken < least[part])
-                least[part] = taken;
-        }
+    return least;
 }
 
 static void print_head(const char *first)
@@ -298,8 +281,8 @@ static void print_growth(unsigned adjacency, unsigned picture)
 
 static void print_against_tree(void)
 {
-    printf("\nTime of query_place, of counting the minima and of the figures of all patches over time of component_tree, ours, 40 by 40\n");
-    printf("\n| picture | query_place, 4 | query_place, 8 | count, 4 | count, 8 | figures, 4 | figures, 8 |\n|---|---|---|---|---|---|---|\n");
+    printf("\nTime of query_place and of the figures of all patches over time of component_tree, ours, 40 by 40\n");
+    printf("\n| picture | query_place, 4 | query_place, 8 | figures, 4 | figures, 8 |\n|---|---|---|---|---|\n");
     for (unsigned p = 0; p < PICTURE_COUNT; p++) {
         printf("| %s |", picture_names[p]);
         for (unsigned adjacency = 0; adjacency < 2; adjacency++) {
@@ -307,18 +290,18 @@ static void print_against_tree(void)
             printf(" %.2f |", t[7].ours / t[3].ours);
         }
         for (unsigned adjacency = 0; adjacency < 2; adjacency++)
-            printf(" %.2f |", parts[adjacency][p][1] / parts[adjacency][p][0]);
-        for (unsigned adjacency = 0; adjacency < 2; adjacency++)
-            printf(" %.2f |", (parts[adjacency][p][2] - parts[adjacency][p][1]) / parts[adjacency][p][0]);
+            printf(" %.2f |", figures[adjacency][p] / table[adjacency][SIDES - 1][p][3].ours);
         printf("\n");
     }
 }
 
-/* Calls from CALLS on are parts of list_patches, beside our tree in the peer's place. */
+/* The call CALLS is that of the figures of all patches, with our tree in the peer's place. */
 __attribute__((noinline)) static void counted(unsigned call, int is_ours)
 {
-    if (call >= CALLS)
-        sink = run_part(is_ours ? call - CALLS + 1 : 0);
+    if (call == CALLS && is_ours)
+        sink = bench_figures(a, w, w, pixels, n, ours.work, 5 * n);
+    else if (call == CALLS)
+        sink = run(3, 1, &ours);
     else
         sink = run(call, is_ours, is_ours ? &ours : &peer);
 }
@@ -328,9 +311,10 @@ static void run_once(void)
     for (unsigned adjacency = 4; adjacency <= 8; adjacency += 4)
         for (unsigned p = 0; p < PICTURE_COUNT; p++) {
             take(p, LARGEST_SIDE, adjacency);
-            for (unsigned call = 0; call < CALLS + PARTS - 1; call++) {
+            for (unsigned call = 0; call <= CALLS; call++) {
                 printf("%u|%s|%s\n", adjacency, picture_names[p],
-                       call < CALLS ? call_names[call] : part_names[call - CALLS]);
+                       call < CALLS ? call_names[call]
+                       : "figures of all patches, over our component_tree");
                 counted(call, 1);
                 counted(call, 0);
             }
@@ -374,7 +358,7 @@ int main(int arguments, char **argument)
                 take(p, sides[s], adjacency ? 8 : 4);
                 measure(table[adjacency][s][p]);
                 if (s == SIDES - 1)
-                    measure_parts(parts[adjacency][p]);
+                    figures[adjacency][p] = measure_figures();
             }
     for (unsigned adjacency = 0; adjacency < 2; adjacency++) {
         print_ratios(adjacency);

@@ -51,14 +51,9 @@ typedef uint64_t query_place_call(uint32_t a, uint32_t w, uint32_t h,
     const uint8_t *pixels, size_t n, uint32_t place,
     uint16_t *work, size_t work_length);
 
-/* The figures of the patches left in work, with room for so many records: list_patches before it writes records. */
-extern uint64_t bench_gather(uint32_t a, uint32_t w, uint32_t h,
-    const uint8_t *pixels, size_t n, size_t room,
-    uint16_t *work, size_t work_length);
-
-/* The fault of that call alone, for which the minima are counted. */
-extern uint8_t bench_list_fault(uint32_t a, uint32_t w, uint32_t h,
-    const uint8_t *pixels, size_t n, size_t room, size_t work_length);
+/* The figures of all patches left in work, their number the answer: what list_patches writes into its records. */
+extern uint64_t bench_figures(uint32_t a, uint32_t w, uint32_t h,
+    const uint8_t *pixels, size_t n, uint16_t *work, size_t work_length);
 
 extern label_section_call bench_label_section, peer_label_section;
 extern is_lowerable_call bench_is_lowerable, peer_is_lowerable;

@@ -1,6 +1,8 @@
 // The calls for measurements from C: numbers and memory as they are, the answer as one number. They promise nothing but safety.
 use board::Answer;
 use board::Ground;
+use board::faults::work_fault;
+use board::listing::fill_figures;
 ghost use Prim.Native.Nat.{_≤_};
 
 // The refusal's number above 32 bits of value.
@@ -132,26 +134,11 @@ pub extern "C" fn bench_query_place(
     answer.number as u64 * 4294967296 + answer.value as u64 * 65536 + patch_of(ground)
 }
 
+// The figures of all patches left in work; 0 for a refusal.
 #[no_mangle]
-pub extern "C" fn bench_gather(
-    a: u32,
-    w: u32,
-    h: u32,
-    pixels: &[u8],
-    room: usize,
-    work: &mut [u16],
-) -> u64 {
-    as_number(board::listing::gather(a, w, h, pixels, room, work))
-}
-
-#[no_mangle]
-pub extern "C" fn bench_list_fault(
-    a: u32,
-    w: u32,
-    h: u32,
-    pixels: &[u8],
-    room: usize,
-    work: usize,
-) -> u8 {
-    board::listing::list_fault(a, w, h, pixels, room, work)
+pub extern "C" fn bench_figures(a: u32, w: u32, h: u32, pixels: &[u8], work: &mut [u16]) -> u64 {
+    if work_fault(a, w, h, pixels.len(), work.len()) != 0 {
+        return 0;
+    }
+    fill_figures(a, w, h, pixels, work) as u64
 }

@@ -26,7 +26,7 @@ fn count_patches(a: u32, w: u32, h: u32, pixels: &[u8]) -> usize
 }
 
 // The fault of the call, from the picture and the two lengths; 0 for none. Nothing lent is written.
-pub fn list_fault(a: u32, w: u32, h: u32, pixels: &[u8], room: usize, work: usize) -> u8
+fn list_fault(a: u32, w: u32, h: u32, pixels: &[u8], room: usize, work: usize) -> u8
     ensures { λ r. ⌜ r ≡ listFault (pictureOf a w h (now (pixels .entry))) room work ⌝ }
 {
     let fault = work_fault(a, w, h, pixels.len(), work);
@@ -40,7 +40,7 @@ pub fn list_fault(a: u32, w: u32, h: u32, pixels: &[u8], room: usize, work: usiz
 }
 
 // Leaves the figures of the patches in the first 5 n entries of work, and answers how many patches there are.
-fn fill_figures(a: u32, w: u32, h: u32, pixels: &[u8], work: &mut [u16]) -> usize
+pub fn fill_figures(a: u32, w: u32, h: u32, pixels: &[u8], work: &mut [u16]) -> usize
     requires { ⌜ (isPicture (pictureOf a w h (now pixels)) ≡ true) × (5 * length (now pixels) ≤ length (now work)) ⌝ }
     ensures { λ r. ⌜ Figured (pictureOf a w h (now (pixels .entry))) (now (work .entry)) (now (work .exit)) r ⌝ }
 {

@@ -1,0 +1,35 @@
+-- `bench_calls::bench_figures` is safe: without a fault the picture is accepted and work has room.
+use mathlib.Core.Path.{sym, _∙_}
+use native.Mathlib.Omega.{arith}
+use Rattle.picture.specs.Pictures.{pictureOf}
+use Rattle.board.proofs.Shell.{admitted}
+use borrow.Author.Needs.{needs}
+use Rattle.bench_calls.proofs.bench_figures.Statement.{statement}
+use Rattle.bench_calls.proofs.bench_figures.Tie as tie
+
+work-fault-requires : tie.Need-work-fault-requires
+work-fault-requires c κs = search needs
+
+returns : tie.Need-returns
+returns c = search needs
+
+fill-figures-requires : tie.Need-fill-figures-requires
+fill-figures-requires c κs =
+    let t = c .before .before in
+    let s = t .before .before .before in
+    let known = t .before .before .shared-slice-known in
+    let a =
+    admitted (pictureOf (s .args .a) (s .args .w) (s .args .h) (s .args .pixels .now)) _ (sym (t .work-fault .ensures) ∙ c .before .if1 .left)
+    (λ i. let q = known .given i in omega arith)
+    in
+    (a .picture, a .room)
+
+same-length : tie.Need-same-length
+same-length c = search needs
+
+returns-2 : tie.Need-returns-2
+returns-2 c = search needs
+
+pub bench-figures-spec : {M : Type 1} → statement M
+bench-figures-spec =
+    tie.close (tie.spec work-fault-requires returns fill-figures-requires same-length returns-2)
