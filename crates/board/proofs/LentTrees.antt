@@ -19,7 +19,7 @@ use Rattle.topology.proofs.Accepted.{accepted-is}
 use Rattle.topology.proofs.Nodes.{nodes-few}
 use Rattle.topology.proofs.Grid.{pass-byte}
 use Rattle.topology.proofs.TreeLists.{length-heights, length-fathers, length-firsts, length-map-of, heights-at, fathers-at, firsts-at, map-at}
-use Rattle.tree.specs.Lists.{Rooms, InFront}
+use Rattle.tree_lists.specs.Lists.{Rooms, InFront}
 use Rattle.verify.specs.Lent.{HoldsTree, Says}
 use Rattle.verify.specs.Climbs.{PassReady}
 use Rattle.board.specs.Faults.{outputFault}

@@ -12,7 +12,7 @@ pub use patch_records::Patch;
 use patch_records::write_records;
 use patches::cores::query;
 use picture::clearing::clear;
-use tree::lists::tree_lists;
+use tree_lists::build_lists;
 use trees::tree_fault;
 use verify::climb::pass;
 use watershed::whole::watershed_core;
@@ -146,7 +146,7 @@ pub fn component_tree(
     if fault != 0 {
         return refused(fault);
     }
-    let count = tree_lists(a, w, h, pixels, heights, fathers, firsts, map, work);
+    let count = build_lists(a, w, h, pixels, heights, fathers, firsts, map, work);
     finish(work, pixels.len(), count as u32)
 }
 

@@ -1,3 +1,2 @@
 -- Laws of the tree's cells.
 pub mod Trees
-pub mod Handing

@@ -1,4 +1,3 @@
 -- What the arrays of the tree hold.
 pub mod Arrays
 pub mod Built
-pub mod Lists

@@ -4,5 +4,4 @@ pub mod buckets;
 pub mod build;
 pub mod levels;
 pub mod list;
-pub mod lists;
 pub mod union_find;

@@ -62,21 +62,21 @@ returns c =
       work = refused-left _ _ e d _ _;
     }
 
-tree-lists-requires : tie.Need-tree-lists-requires
-tree-lists-requires c κs =
+build-lists-requires : tie.Need-build-lists-requires
+build-lists-requires c κs =
     let a = lends (c .before .before .before .before .before) in (a .0 .picture, tree-rooms _ _ _ _ _ _ (a .0) (a .1))
 
 cast-finish : tie.Need-cast-finish
 cast-finish c =
     let a = lends (c .before .before .before .before .before .before .before .before .before .before .before .before .before .before .before .before .before) .0 in
-    let t = c .before .before .before .before .before .before .before .before .before .before .before .tree-lists .ensures .0 in
+    let t = c .before .before .before .before .before .before .before .before .before .before .before .build-lists .ensures .0 in
     let few = nodes-few (pictured (origin (c .before .before .before .before .before .before .before .before .before .before .before .before .before .before .before .before .before .before))) in
     record { fits = omega (arith, a .few, few, t .count) }
 
 finish-requires : tie.Need-finish-requires
 finish-requires c κs =
     let a = lends (c .before .before .before .before .before .before .before .before .before .before .before .before .before .before .before .before .before) .0 in
-    let t = c .before .before .before .before .before .before .before .before .before .before .before .tree-lists .ensures .0 in
+    let t = c .before .before .before .before .before .before .before .before .before .before .before .build-lists .ensures .0 in
     (omega (arith, a .size, a .few), omega (arith, a .room, t .room))
 
 same-length : tie.Need-same-length
@@ -100,7 +100,7 @@ returns-2 c =
     let s = origin (e .before) in
     let z = none e in
     let a = lends e .0 in
-    let t = c .before .before .before .before .before .before .before .before .before .before .before .before .before .before .tree-lists .ensures in
+    let t = c .before .before .before .before .before .before .before .before .before .before .before .before .before .before .build-lists .ensures in
     let f = c .before .before .finish in
     record {
       answer = accepted-answer _ _ _ _ z (t .0 .count) (f .ensures .answer);
@@ -122,7 +122,7 @@ component-tree-spec =
     output-fault-requires
     refused-requires
     returns
-    tree-lists-requires
+    build-lists-requires
     cast-finish
     finish-requires
     same-length

@@ -1,5 +1,5 @@
 // The component tree as lists: built in blocks of work, then copied.
-use crate::build::build;
+use tree::build::build;
 ghost use mathlib.Core.Path.{_≡_};
 ghost use mathlib.Core.Bool.{true};
 ghost use Prim.Native.Nat.{_≤_, _+_, _*_};
@@ -7,7 +7,7 @@ ghost use lib.ListN.{length};
 ghost use Rattle.picture.specs.Pictures.{isPicture, pictureOf};
 ghost use Rattle.picture.specs.Trees.{treeOf};
 ghost use Rattle.topology.proofs.Copies.{Copied};
-ghost use Rattle.tree.specs.Lists.{Bytes, Rooms, InFront, Handed};
+ghost use Rattle.tree_lists.specs.Lists.{Bytes, Rooms, InFront, Handed};
 
 // Copies m entries from b on to the front of a list.
 fn copy(from: &[u16], b: usize, to: &mut [u16], m: usize)
@@ -34,7 +34,7 @@ fn copy_bytes(from: &[u16], to: &mut [u8], m: usize)
 }
 
 // The tree of an accepted picture of n pixels in front of the lists, of which the map serves the union-find first: answers the number of nodes.
-pub fn tree_lists(
+pub fn build_lists(
     a: u32,
     w: u32,
     h: u32,

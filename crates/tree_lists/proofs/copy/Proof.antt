@@ -1,11 +1,11 @@
--- `tree::lists::copy` meets its contract. The loop's invariant: the first i entries are copied.
+-- `tree_lists::copy` meets its contract. The loop's invariant: the first i entries are copied.
 use mathlib.Core.Path.{refl}
 use Prim.Native.Nat.{ℕ, _-_, _≤_}
 use native.Mathlib.Omega.{arith}
 use borrow.Author.Needs.{needs}
 use Rattle.topology.proofs.Copies.{Copied, copy-whole, copy-start, copy-turn}
-use Rattle.tree.proofs.lists.copy.Statement.{statement}
-use Rattle.tree.proofs.lists.copy.Tie as tie
+use Rattle.tree_lists.proofs.copy.Statement.{statement}
+use Rattle.tree_lists.proofs.copy.Tie as tie
 
 abbrev Inv-loop : tie.InvT-loop
 Inv-loop from b to₀ m i₀ to i = (i ≤ m) × Copied from b i to₀ to

@@ -1,12 +1,12 @@
--- `tree::lists::copy_bytes` meets its contract. The loop's invariant: the first i entries are copied.
+-- `tree_lists::copy_bytes` meets its contract. The loop's invariant: the first i entries are copied.
 use mathlib.Core.Path.{_≡_, ap}
 use Prim.Native.Nat.{ℕ, _+_, _-_, _≤_}
 use native.Mathlib.Omega.{arith}
 use lib.ListN.{getD}
 use borrow.Author.Needs.{needs}
 use Rattle.topology.proofs.Copies.{Copied, copy-whole, copy-start, copy-turn}
-use Rattle.tree.proofs.lists.copy_bytes.Statement.{statement}
-use Rattle.tree.proofs.lists.copy_bytes.Tie as tie
+use Rattle.tree_lists.proofs.copy_bytes.Statement.{statement}
+use Rattle.tree_lists.proofs.copy_bytes.Tie as tie
 
 abbrev Inv-loop : tie.InvT-loop
 Inv-loop from to₀ m i₀ to i = (i ≤ m) × Copied from 0 i to₀ to

@@ -1,10 +1,10 @@
--- `tree::lists::tree_lists` meets its contract: the tree is built, and each block copied.
+-- `tree_lists::build_lists` meets its contract: the tree is built, and each block copied.
 use mathlib.Core.Path.{refl}
 use native.Mathlib.Omega.{arith}
-use Rattle.tree.proofs.Handing.{built-few, built-bytes, heights-handed, fathers-handed, firsts-handed, map-handed, handed-over}
+use Rattle.tree_lists.proofs.Handing.{built-few, built-bytes, heights-handed, fathers-handed, firsts-handed, map-handed, handed-over}
 use borrow.Author.Needs.{needs}
-use Rattle.tree.proofs.lists.tree_lists.Statement.{statement}
-use Rattle.tree.proofs.lists.tree_lists.Tie as tie
+use Rattle.tree_lists.proofs.build_lists.Statement.{statement}
+use Rattle.tree_lists.proofs.build_lists.Tie as tie
 
 mul-n : tie.Need-mul-n
 mul-n c = search needs
@@ -67,8 +67,8 @@ returns c =
     let b = t .build .ensures in
     (handed-over _ _ _ _ _ _ b, (heights-handed _ _ _ _ _ _ b _ _ (s .pre .1 .heights) (c .before .before .before .before .before .before .before .before .before .before .before .before .before .before .before .before .before .copy-bytes .ensures), (fathers-handed _ _ _ _ _ _ b _ _ (s .pre .1 .fathers) _ refl (c .before .before .before .before .before .before .before .before .before .before .before .before .copy .ensures), (firsts-handed _ _ _ _ _ _ b _ _ (s .pre .1 .firsts) _ refl (c .before .before .before .before .before .before .before .copy2 .ensures), map-handed _ _ _ _ _ _ b _ _ refl (s .pre .1 .map) (c .before .before .copy3 .ensures)))))
 
-pub tree-lists-spec : {M : Type 1} → statement M
-tree-lists-spec =
+pub build-lists-spec : {M : Type 1} → statement M
+build-lists-spec =
     tie.close
     (tie.spec
     mul-n

@@ -9,9 +9,9 @@ use Rattle.picture.specs.Trees.{nodes, nodeAt, treeOf}
 use Rattle.topology.proofs.Nodes.{nodes-few, node-is}
 use Rattle.topology.proofs.TreeLists.{length-heights, length-fathers, length-firsts, length-map-of, heights-at, fathers-at, firsts-at, map-at}
 use Rattle.topology.proofs.Copies.{Copied, copy-end}
 use Rattle.tree.specs.Arrays.{row, TreeIn}
 use Rattle.tree.specs.Built.{Built}
-use Rattle.tree.specs.Lists.{Bytes, InFront, Handed}
+use Rattle.tree_lists.specs.Lists.{Bytes, InFront, Handed}
 
 -- a copied block of the tree is its list in front of what was there
 pub handed-front :

@@ -1,0 +1,2 @@
+-- What the tree as lists is.
+pub mod Lists
