@@ -17,7 +17,7 @@ use Rattle.topology.proofs.Water.{watershed-shape, watershed-watered}
 use Rattle.topology.proofs.Demand.{demand-3, other-fails}
 use Rattle.board.specs.declared.Answer.{Answer}
 use Rattle.board.specs.Calls.{over, outputFaultOf, WaterSays}
-use Rattle.board.proofs.Shell.{output-enough, admitted}
+use Rattle.faults.proofs.Laws.{output-enough, admitted}
 
 -- the picture that an unrefused call leaves in the first n bytes of its output
 abbrev pub leftBy : Picture → List ℕ → Picture

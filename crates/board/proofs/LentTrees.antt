@@ -22,10 +22,11 @@ use Rattle.topology.proofs.TreeLists.{length-heights, length-fathers, length-fi
 use Rattle.tree_lists.specs.Lists.{Rooms, InFront}
 use Rattle.verify.specs.Lent.{HoldsTree, Says}
 use Rattle.verify.specs.Climbs.{PassReady}
-use Rattle.board.specs.Faults.{outputFault}
+use Rattle.faults.specs.Faults.{outputFault}
 use Rattle.board.specs.Calls.{over, afterCall}
 use Rattle.board.specs.Trees.{begins, isTree, shortest, treeFaultOf, placesFaultOf, checkedFault, TreeLent}
-use Rattle.board.proofs.Shell.{Admitted, admitted, workFaultOf, output-enough, written-left, first-some, first-none, first-zero, when-zero}
+use Rattle.faults.proofs.Laws.{Admitted, admitted, workFaultOf, output-enough, first-some, first-none, first-zero, when-zero}
+use Rattle.board.proofs.Shell.{written-left}
 
 -- a list begins with another: entry by entry
 begins-at : (xs ys : List ℕ) → begins xs ys ≡ true → (i : ℕ) → i < length xs → getD ys i 0 ≡ getD xs i 0

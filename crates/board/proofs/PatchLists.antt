@@ -25,10 +25,11 @@ use Rattle.patches.specs.Figures.{noPatch, Figures}
 use Rattle.patch_records.specs.declared.Patch.{Patch as PatchRecord}
 use Rattle.patch_records.specs.Records.{Entry, Entries, recordAt, records}
 use Rattle.board.specs.declared.Answer.{Answer}
-use Rattle.board.specs.Faults.{workFault}
+use Rattle.faults.specs.Faults.{workFault}
 use Rattle.board.specs.Calls.{afterCall, workAfter, cleared, Refused, Accepted as Accepting}
 use Rattle.board.specs.PatchLists.{listFault, recordOf, PatchesSay, Figured, Gathered}
-use Rattle.board.proofs.Shell.{first-some, first-none, first-zero, first-either, when-zero, workFaultOf, refused-answer, refused-left, accepted-answer, cleared-left, lent-length, behind-lent}
+use Rattle.faults.proofs.Laws.{first-some, first-none, first-zero, first-either, when-zero, workFaultOf}
+use Rattle.board.proofs.Shell.{refused-answer, refused-left, accepted-answer, cleared-left, lent-length, behind-lent}
 
 -- the fault, after that of the picture and of work
 module _ (p : Picture) (room work : ℕ) where

@@ -9,7 +9,7 @@ use Rattle.picture.specs.Lists.{pick}
 use Rattle.picture.specs.Pictures.{Picture, places, valueAt, isPicture}
 use Rattle.picture.specs.Components.{components, labels}
 use Rattle.picture.specs.Watersheds.{lowerable, watershed}
-use Rattle.board.specs.Faults.{outputFault, placeFault}
+use Rattle.faults.specs.Faults.{outputFault, placeFault}
 use Rattle.picture.specs.Patches.{patchAt}
 use Rattle.board.specs.declared.Answer.{Answer}
 use Rattle.board.specs.declared.Ground.{Ground}

@@ -1,6 +1,5 @@
 -- What the public calls promise.
 pub mod Reads
-pub mod Faults
 pub mod Calls
 pub mod Trees
 pub mod Answers

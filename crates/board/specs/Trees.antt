@@ -10,7 +10,7 @@ use Rattle.picture.specs.Components.{pass}
 use Rattle.picture.specs.Trees.{nodes, treeOf}
 use Rattle.picture.specs.Faults.{firstOf, when}
 use Rattle.board.specs.declared.Answer.{Answer}
-use Rattle.board.specs.Faults.{outputFault}
+use Rattle.faults.specs.Faults.{outputFault}
 use Rattle.board.specs.Calls.{over, afterCall, workAfter, Answered}
 
 -- the first list is a prefix of the second

@@ -17,7 +17,6 @@ use trees::tree_fault;
 use verify::climb::pass;
 use watershed::whole::watershed_core;
 
-pub mod faults;
 pub mod listing;
 mod reading;
 mod trees;

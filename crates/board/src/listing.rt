@@ -1,8 +1,8 @@
 // The list of patches before and after its records are written: the refusal, the figures in work, the clearing.
 use crate::Answer;
 use crate::accepted;
-use crate::faults::work_fault;
 use crate::refused;
+use faults::work_fault;
 use patches::cores::patch_figures;
 use patches::minima::count_minima;
 use picture::clearing::clear;

@@ -12,7 +12,7 @@ use Rattle.picture.specs.Watersheds.{watershed}
 use Rattle.picture.specs.Kept.{nowhereAbove, keepsAt, Kept}
 use Rattle.topology.proofs.Accepted.{byte-at}
 use Rattle.board.specs.Calls.{over}
-use Rattle.board.proofs.Shell.{first-zero, shell-picture}
+use Rattle.faults.proofs.Laws.{first-zero, shell-picture}
 use Rattle.board.proofs.Demands.{leftBy, demand-3-of-bytes, others-fail-bytes}
 use Rattle.board_c.specs.CalledByC.{waterFaultForC, WaterForC}
 

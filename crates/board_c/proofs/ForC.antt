@@ -19,9 +19,10 @@ use Rattle.p5.specs.Files.{readFile, numberOf, headerOf}
 use Rattle.text.specs.Writing.{Written}
 use Rattle.board.specs.declared.Answer.{Answer}
 use Rattle.board.specs.declared.Queried.{Queried}
-use Rattle.board.specs.Faults.{workFault, outputFault}
+use Rattle.faults.specs.Faults.{workFault, outputFault}
 use Rattle.board.specs.Calls.{over, afterCall, workAfter, outputFaultOf, placeFaultOf, groundOf, WaterSays, QuerySays}
-use Rattle.board.proofs.Shell.{first-some, first-none, first-zero, when-zero, place-fine, workFaultOf, work-size, fault-size, fault-few, work-enough, work-none, output-none, output-enough, place-behind, refused-left, written-left}
+use Rattle.faults.proofs.Laws.{first-some, first-none, first-zero, when-zero, place-fine, workFaultOf, work-size, fault-size, fault-few, work-enough, work-none, output-none, output-enough, place-behind}
+use Rattle.board.proofs.Shell.{refused-left, written-left}
 use Rattle.board_c.specs.CalledByC.{pair, readFaultForC, headerBytes, ReadForC, waterFaultForC, bytesAfter, WaterForC, placeFaultForC, placeFaultForCOf, patchNumber, PlaceForC}
 use Rattle.board_c.specs.Packing.{packed}
 use Rattle.board_c.proofs.Packed.{written-front, packed-zeros}

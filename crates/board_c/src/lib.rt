@@ -1,10 +1,10 @@
 // The calls for C: numbers and byte memory only.
 use board::Ground;
-use board::faults::output_fault;
-use board::faults::work_fault;
 use board::query_place;
 use board::read_file;
 use board::watershed_of;
+use faults::output_fault;
+use faults::work_fault;
 use packing::pack;
 use packing::unpack;
 use text::put_little;

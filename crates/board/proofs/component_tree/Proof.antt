@@ -6,7 +6,8 @@ use lib.ListN.{length, getD}
 use Rattle.picture.specs.Pictures.{Picture, places, pictureOf}
 use Rattle.topology.proofs.Nodes.{nodes-few}
 use Rattle.board.specs.Trees.{shortest, treeFaultOf}
-use Rattle.board.proofs.Shell.{Admitted, refused-answer, refused-left, accepted-answer, cleared-left}
+use Rattle.faults.proofs.Laws.{Admitted}
+use Rattle.board.proofs.Shell.{refused-answer, refused-left, accepted-answer, cleared-left}
 use Rattle.board.proofs.LentTrees.{lists-fault, tree-admitted, tree-rooms, list-left, drop-more}
 use borrow.Author.Needs.{needs}
 use Rattle.board.proofs.component_tree.Statement.{statement}

@@ -4,7 +4,7 @@ use Prim.Native.Nat.{_/_}
 use native.Mathlib.Omega.{arith}
 use lib.ListN.{length}
 use Rattle.picture.specs.Pictures.{Picture, pictureOf}
-use Rattle.board.specs.Faults.{outputFault}
+use Rattle.faults.specs.Faults.{outputFault}
 use Rattle.board_c.proofs.ForC.{Lent, unpack-room, pack-room, water-refused, water-lent, water-done}
 use borrow.Author.Needs.{needs}
 use Rattle.board_c.proofs.board_watershed.Statement.{statement}

@@ -4,7 +4,7 @@ use native.Mathlib.Omega.{arith}
 use lib.ListN.{length}
 use Rattle.picture.specs.Pictures.{Picture, pictureOf}
 use Rattle.board.specs.PatchLists.{listFault}
-use Rattle.board.proofs.Shell.{Admitted, admitted}
+use Rattle.faults.proofs.Laws.{Admitted, admitted}
 use Rattle.board.proofs.PatchLists.{list-enough, patches-few, gathered-refused, gathered-accepted}
 use borrow.Author.Needs.{needs}
 use Rattle.board.proofs.listing.gather.Statement.{statement}

@@ -3,7 +3,7 @@ use mathlib.Core.Path.{_≡_, sym, subst, _∙_}
 use Prim.Native.Nat.{ℕ, _≤_, _<_}
 use native.Mathlib.Omega.{arith}
 use Rattle.picture.specs.Pictures.{Picture, pictureOf}
-use Rattle.board.proofs.Shell.{workFaultOf, admitted}
+use Rattle.faults.proofs.Laws.{workFaultOf, admitted}
 use Rattle.board.proofs.PatchLists.{list-first, list-short, list-none}
 use borrow.Author.Needs.{needs}
 use Rattle.board.proofs.listing.list_fault.Statement.{statement}

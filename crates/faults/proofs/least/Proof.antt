@@ -1,7 +1,7 @@
--- `board::faults::least` meets its contract. The checker would find this by itself; it is written out so that an edit of the function is refused here, at the fact that fails.
+-- `faults::least` meets its contract. The checker would find this by itself; it is written out so that an edit of the function is refused here, at the fact that fails.
 use borrow.Author.Needs.{needs}
-use Rattle.board.proofs.faults.least.Statement.{statement}
-use Rattle.board.proofs.faults.least.Tie as tie
+use Rattle.faults.proofs.least.Statement.{statement}
+use Rattle.faults.proofs.least.Tie as tie
 
 lesser-requires : tie.Need-lesser-requires
 lesser-requires c κs = search needs

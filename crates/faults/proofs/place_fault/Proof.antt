@@ -1,12 +1,12 @@
--- `board::faults::place_fault` meets its contract.
+-- `faults::place_fault` meets its contract.
 use mathlib.Core.Path.{ap, _∙_}
 use Prim.Native.Nat.{ℕ}
 use lib.Dec.{leb}
 use Rattle.picture.specs.Faults.{firstOf, when}
-use Rattle.board.proofs.Shell.{place-behind}
+use Rattle.faults.proofs.Laws.{place-behind}
 use borrow.Author.Needs.{needs}
-use Rattle.board.proofs.faults.place_fault.Statement.{statement}
-use Rattle.board.proofs.faults.place_fault.Tie as tie
+use Rattle.faults.proofs.place_fault.Statement.{statement}
+use Rattle.faults.proofs.place_fault.Tie as tie
 
 work-fault-requires : tie.Need-work-fault-requires
 work-fault-requires c κs = search needs

@@ -1,10 +1,10 @@
--- `board::faults::work_fault` meets its contract: each return is one law of the fault.
+-- `faults::work_fault` meets its contract: each return is one law of the fault.
 use mathlib.Core.Path.{_≡_, sym, _∙_}
 use native.Mathlib.Omega.{arith}
-use Rattle.board.proofs.Shell.{work-first, work-short, work-none, fault-size, fault-few}
+use Rattle.faults.proofs.Laws.{work-first, work-short, work-none, fault-size, fault-few}
 use borrow.Author.Needs.{needs}
-use Rattle.board.proofs.faults.work_fault.Statement.{statement}
-use Rattle.board.proofs.faults.work_fault.Tie as tie
+use Rattle.faults.proofs.work_fault.Statement.{statement}
+use Rattle.faults.proofs.work_fault.Tie as tie
 
 picture-fault-requires : tie.Need-picture-fault-requires
 picture-fault-requires c κs = search needs

@@ -1,9 +1,9 @@
--- `board::faults::output_fault` meets its contract: each return is one law of the fault.
+-- `faults::output_fault` meets its contract: each return is one law of the fault.
 use mathlib.Core.Path.{_≡_, sym, _∙_}
-use Rattle.board.proofs.Shell.{output-first, output-short, output-none}
+use Rattle.faults.proofs.Laws.{output-first, output-short, output-none}
 use borrow.Author.Needs.{needs}
-use Rattle.board.proofs.faults.output_fault.Statement.{statement}
-use Rattle.board.proofs.faults.output_fault.Tie as tie
+use Rattle.faults.proofs.output_fault.Statement.{statement}
+use Rattle.faults.proofs.output_fault.Tie as tie
 
 work-fault-requires : tie.Need-work-fault-requires
 work-fault-requires c κs = search needs

@@ -1,8 +1,8 @@
--- `board::faults::place_after` meets its contract: each return is one law of the fault.
+-- `faults::place_after` meets its contract: each return is one law of the fault.
 use mathlib.Core.Path.{refl}
-use Rattle.board.proofs.Shell.{first-some, place-late, place-fine}
-use Rattle.board.proofs.faults.place_after.Statement.{statement}
-use Rattle.board.proofs.faults.place_after.Tie as tie
+use Rattle.faults.proofs.Laws.{first-some, place-late, place-fine}
+use Rattle.faults.proofs.place_after.Statement.{statement}
+use Rattle.faults.proofs.place_after.Tie as tie
 
 returns : tie.Need-returns
 returns c = first-some _ _ _ refl (c .if1 .taken)

@@ -5,7 +5,7 @@ ghost use mathlib.Core.Bool.{_||_};
 ghost use Prim.Native.Nat.{min};
 ghost use lib.Dec.{leb};
 ghost use Rattle.picture.specs.Faults.{firstOf, when};
-ghost use Rattle.board.specs.Faults.{workFault, outputFault, placeFault};
+ghost use Rattle.faults.specs.Faults.{workFault, outputFault, placeFault};
 
 // A picture's arguments and the length of work.
 pub fn work_fault(a: u32, w: u32, h: u32, length: usize, work: usize) -> u8

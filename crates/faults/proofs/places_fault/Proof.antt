@@ -1,12 +1,12 @@
--- `board::faults::places_fault` meets its contract: one number for either of two places.
+-- `faults::places_fault` meets its contract: one number for either of two places.
 use mathlib.Core.Path.{ap, _∙_}
 use Prim.Native.Nat.{ℕ}
 use lib.Dec.{leb}
 use Rattle.picture.specs.Faults.{firstOf, when}
-use Rattle.board.proofs.Shell.{first-either}
+use Rattle.faults.proofs.Laws.{first-either}
 use borrow.Author.Needs.{needs}
-use Rattle.board.proofs.faults.places_fault.Statement.{statement}
-use Rattle.board.proofs.faults.places_fault.Tie as tie
+use Rattle.faults.proofs.places_fault.Statement.{statement}
+use Rattle.faults.proofs.places_fault.Tie as tie
 
 place-after-requires : tie.Need-place-after-requires
 place-after-requires c κs = search needs

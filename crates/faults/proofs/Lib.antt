@@ -1,0 +1,2 @@
+-- Laws of the faults.
+pub mod Laws

@@ -1,0 +1,2 @@
+-- The faults of a call.
+pub mod Faults
