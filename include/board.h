@@ -29,7 +29,7 @@
  * but for `file` and `pixels`.
  *
  * Numbers are 32-bit; a caller with wider ones tests them first.
- * board_watershed and board_place have 19,728 bytes of arrays on the stack.
+ * board_watershed and board_place take some 20,100 bytes of stack.
  */
 
 #ifndef BOARD_H

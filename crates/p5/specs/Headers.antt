@@ -27,7 +27,7 @@ leading t (b ∷ s) = pick (t b) (suc (leading t s)) 0
 unfoldable pub gapEnd : List ℕ → ℕ → ℕ
 gapEnd f p = p + leading isWhite (drop p f)
 
--- a decimalValue digit is one of the bytes 48 to 57
+-- a decimal digit is one of the bytes 48 to 57
 abbrev pub isDigit : ℕ → Bool
 isDigit b = leb 48 b && leb b 57
 

@@ -14,7 +14,7 @@ pub record Gap (g : List ℕ) : Type 0 where
   pub some : 1 ≤ length g
   pub white : all isWhite g ≡ true
 
--- a number: 1 to 5 decimalValue digits and their value
+-- a number: 1 to 5 decimal digits and their value
 pub record Numeral (d : List ℕ) (v : ℕ) : Type 0 where
   pub some : 1 ≤ length d
   pub most : length d ≤ 5

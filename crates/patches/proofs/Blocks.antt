@@ -7,13 +7,13 @@ use native.Mathlib.Decide.{ℕ-discrete}
 use native.Mathlib.Omega.{arith}
 use lib.ListN.{length, getD, set, length-set}
 use lib.Seq.{getD-set-same, getD-set-other}
-use Rattle.patches.specs.Blocks.{Untouched, Filled}
+use Rattle.patches.specs.Blocks.{UntouchedOutside, Filled}
 
-pub kept-refl : (b n : ℕ) (l : List ℕ) → Untouched b n l l
+pub kept-refl : (b n : ℕ) (l : List ℕ) → UntouchedOutside b n l l
 kept-refl b n l = record { size = refl; outside = λ j h. refl }
 
 -- a store inside the block
-pub kept-store : (b n j v : ℕ) (l m : List ℕ) → b ≤ j → j < b + n → Untouched b n l m → Untouched b n l (set m j v)
+pub kept-store : (b n j v : ℕ) (l m : List ℕ) → b ≤ j → j < b + n → UntouchedOutside b n l m → UntouchedOutside b n l (set m j v)
 kept-store b n j v l m h c k =
     record {
       size = length-set m j v ∙ k .size;
@@ -23,7 +23,7 @@ kept-store b n j v l m h c k =
           getD-set-other m j i v 0 d ∙ k .outside i g;
     }
 
-pub kept-set : (b n i v : ℕ) (l m : List ℕ) → i < n → Untouched b n l m → Untouched b n l (set m (b + i) v)
+pub kept-set : (b n i v : ℕ) (l m : List ℕ) → i < n → UntouchedOutside b n l m → UntouchedOutside b n l (set m (b + i) v)
 kept-set b n i v l m h k = kept-store b n (b + i) v l m (omega arith) (omega arith) k
 
 pub filled-none : (b v : ℕ) (l : List ℕ) → Filled b 0 v l l

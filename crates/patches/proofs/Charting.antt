@@ -21,7 +21,7 @@ use Rattle.topology.proofs.Fathers.{father-found, map-found, number-small}
 use Rattle.topology.proofs.Leaves.{bottom}
 use Rattle.topology.proofs.PatchFigures.{bottom-number}
 use Rattle.topology.proofs.LeafNodes.{leafNode, leaf-bottom, bottom-map, bottom-leaf, leaf-mapped, map-bottom, patch-leaf, patch-line, father-leaf, childless-leaf, depth-root, depth-father}
-use Rattle.patches.specs.Blocks.{Untouched}
+use Rattle.patches.specs.Blocks.{UntouchedOutside}
 use Rattle.patches.specs.Numbers.{starts, Leaves, patchIn}
 use Rattle.patches.specs.Figures.{depthIn}
 use Rattle.patches.proofs.Numbering.{kept-row, starts-true, starts-is, patch-other, patch-node}
@@ -57,7 +57,7 @@ module _ (n : ℕ) (work : List ℕ) (most m f : ℕ) (e : f ≡ row work n m) w
   depth-top h =
       sym (ap (λ (b : Bool). pick b (getD work (row work n m) 0) most - getD work m 0) (le-ltb (row work n m) n (omega arith)))
 
-pub depth-kept : (n most m : ℕ) (work l : List ℕ) → Untouched (3 * n) (2 * n) work l → m < n → depthIn n l most m ≡ depthIn n work most m
+pub depth-kept : (n most m : ℕ) (work l : List ℕ) → UntouchedOutside (3 * n) (2 * n) work l → m < n → depthIn n l most m ≡ depthIn n work most m
 depth-kept n most m work l k h =
     let f = row work n m in
     let e = kept-row (3 * n) (2 * n) n m k (omega arith) in

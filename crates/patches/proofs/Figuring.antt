@@ -19,7 +19,7 @@ use Rattle.topology.proofs.Accepted.{Accepted, accepted-is}
 use Rattle.topology.proofs.Nodes.{nodes-few}
 use Rattle.topology.proofs.PatchFigures.{patches-count}
 use Rattle.topology.proofs.PatchSums.{count-few, patch-most, patch-number, patch-size, patch-columns, patch-rows}
-use Rattle.patches.specs.Blocks.{Untouched, Filled}
+use Rattle.patches.specs.Blocks.{UntouchedOutside, Filled}
 use Rattle.patches.specs.Numbers.{Sizes, Mapped, Leaves, patchIn}
 use Rattle.patches.specs.declared.sums.Figure.the-variants.{Size, Columns, Rows}
 use Rattle.patches.specs.Sums.{figureOf, Summing, Summed}
@@ -86,7 +86,7 @@ module _ (w n : ℕ) (numbers work : List ℕ) (f : Frame w n numbers work) wher
             }
 
 -- the tree is not touched by changes from the fifth block on
-pub tree-kept : (p : Picture) (l m : List ℕ) → Untouched (4 * places p) (places p) l m → TreeIn p l → TreeIn p m
+pub tree-kept : (p : Picture) (l m : List ℕ) → UntouchedOutside (4 * places p) (places p) l m → TreeIn p l → TreeIn p m
 tree-kept p l m k t =
     let few = nodes-few p in
     record {

@@ -17,15 +17,15 @@ use Rattle.topology.proofs.Tests.{and-left, and-right, and-both, clash}
 use Rattle.topology.proofs.Lists.{tally-length, length-range}
 use Rattle.topology.proofs.Positions.{tally-next-in, tally-next-out}
 use Rattle.topology.proofs.Zones.{set-cases}
-use Rattle.patches.specs.Blocks.{Untouched, Filled}
+use Rattle.patches.specs.Blocks.{UntouchedOutside, Filled}
 use Rattle.patches.specs.Numbers.{Mapped, Cleared, Mark, beyond, marked, Son, Marks, starts, Number, passed, given, Numbers, patchIn}
 use Rattle.patches.proofs.Blocks.{kept-refl, kept-set}
 
 -- an entry before the block that may have changed
-pub kept-row : (b n o i : ℕ) {l m : List ℕ} → Untouched b n l m → o + i < b → row m o i ≡ row l o i
+pub kept-row : (b n o i : ℕ) {l m : List ℕ} → UntouchedOutside b n l m → o + i < b → row m o i ≡ row l o i
 kept-row b n o i k h = k .outside (o + i) (inl h)
 
-pub cleared-mapped : (n : ℕ) (l m : List ℕ) → Untouched (4 * n) n l m → Mapped n l → Mapped n m
+pub cleared-mapped : (n : ℕ) (l m : List ℕ) → UntouchedOutside (4 * n) n l m → Mapped n l → Mapped n m
 cleared-mapped n l m k a =
     record {
       map = λ x h. let e = kept-row (4 * n) n (2 * n) x k (omega arith) in let q = a .map x h in omega arith;

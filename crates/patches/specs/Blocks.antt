@@ -6,11 +6,11 @@ use Prim.Native.Nat.{ℕ, _+_, _≤_, _<_}
 use lib.ListN.{length, getD}
 
 -- nothing but the n entries from b on has changed
-pub record Untouched (b n : ℕ) (cells after : List ℕ) : Type 0 where
+pub record UntouchedOutside (b n : ℕ) (cells after : List ℕ) : Type 0 where
   pub size : length after ≡ length cells
   pub outside : (j : ℕ) → (j < b) ⊎ (b + n ≤ j) → getD after j 0 ≡ getD cells j 0
 
 -- the n entries from b on are v, and the others as they were
 pub record Filled (b n v : ℕ) (cells after : List ℕ) : Type 0 where
-  pub kept : Untouched b n cells after
+  pub kept : UntouchedOutside b n cells after
   pub inside : (i : ℕ) → i < n → getD after (b + i) 0 ≡ v

@@ -14,7 +14,7 @@ use Rattle.tree.specs.Arrays.{row, TreeIn}
 use Rattle.topology.proofs.Leaves.{bottom}
 use Rattle.topology.proofs.PatchSums.{sumAt}
 use Rattle.patches.specs.declared.sums.Figure.the-variants.{Size, Columns, Rows}
-use Rattle.patches.specs.Blocks.{Untouched}
+use Rattle.patches.specs.Blocks.{UntouchedOutside}
 use Rattle.patches.specs.Sums.{figureOf}
 
 -- the cells hold the tree of an accepted picture, of count nodes
@@ -56,7 +56,7 @@ pub record Charted (p : Picture) (n : ℕ) (pixels numbers : List ℕ) (most : �
 
 -- the depths and the heights are those of every picture with that tree and those numbers
 pub record Patched (n : ℕ) (pixels numbers : List ℕ) (most x : ℕ) (work : List ℕ) (r : ℕ) (after : List ℕ) : Type 0 where
-  pub kept : Untouched (3 * n) (2 * n) work after
+  pub kept : UntouchedOutside (3 * n) (2 * n) work after
   pub few : r ≤ x
   pub begun : (p : Picture) → Charted p n pixels numbers most work → Begun p n x r after
 
@@ -71,7 +71,7 @@ pub record Frame (w n : ℕ) (numbers work : List ℕ) : Type 0 where
 
 -- the first three blocks hold the sizes, the sums of columns and the sums of rows by number, from 1 on
 pub record Sums (w n : ℕ) (numbers work after : List ℕ) : Type 0 where
-  pub kept : Untouched 0 (3 * n) work after
+  pub kept : UntouchedOutside 0 (3 * n) work after
   pub sizes : (i : ℕ) → i < n → row after 0 i ≡ sumAt (figureOf Size w) numbers (suc i) n
   pub columns : (i : ℕ) → i < n → row after n i ≡ sumAt (figureOf Columns w) numbers (suc i) n
   pub rows : (i : ℕ) → i < n → row after (2 * n) i ≡ sumAt (figureOf Rows w) numbers (suc i) n

@@ -8,7 +8,7 @@ use lib.Dec.{eqb}
 use lib.ListN.{length, getD, set}
 use Rattle.picture.specs.Lists.{pick, tally, range}
 use Rattle.tree.specs.Arrays.{row}
-use Rattle.patches.specs.Blocks.{Untouched}
+use Rattle.patches.specs.Blocks.{UntouchedOutside}
 
 -- five blocks of n cells, and n cells or pixels beside them
 pub record Sizes (n : ℕ) (work cells : List ℕ) : Type 0 where
@@ -54,7 +54,7 @@ pub data Number (n x : ℕ) (work marks : List ℕ) (r : ℕ) (after : List ℕ)
 
 -- the nodes that start before x have their numbers in the fifth block, r of them, and the others there 0
 pub record Numbers (n : ℕ) (work marks : List ℕ) (x r : ℕ) (after : List ℕ) : Type 0 where
-  pub kept : Untouched (4 * n) n work after
+  pub kept : UntouchedOutside (4 * n) n work after
   pub count : r ≡ tally (starts n work marks) (range 0 x)
   pub number :
       (z : ℕ) → z < x → starts n work marks z ≡ true →
@@ -67,7 +67,7 @@ pub record Numbers (n : ℕ) (work marks : List ℕ) (x r : ℕ) (after : List �
 pub record Leaves (n count : ℕ) (work : List ℕ) (r : ℕ) (after : List ℕ) : Type 0 where
   pub marks : List ℕ
   pub cleared : List ℕ
-  pub kept : Untouched (4 * n) n work cleared
+  pub kept : UntouchedOutside (4 * n) n work cleared
   pub mark : Marks n count work marks
   pub numbers : Numbers n cleared marks n r after
 

@@ -7,7 +7,7 @@ use Rattle.tree.specs.Arrays.{row}
 use Rattle.topology.proofs.PatchSums.{sumAt}
 use Rattle.patches.specs.declared.sums.Figure.{Figure}
 use Rattle.patches.specs.declared.sums.Figure.the-variants.{Size, Columns, Rows}
-use Rattle.patches.specs.Blocks.{Untouched}
+use Rattle.patches.specs.Blocks.{UntouchedOutside}
 
 -- what a place adds to a figure, by the width
 abbrev pub figureOf : Figure → ℕ → ℕ → ℕ
@@ -46,5 +46,5 @@ pub record Summing (w n : ℕ) (numbers work : List ℕ) (b : ℕ) : Type 0 wher
 
 -- the n cells from b on hold the sums of g over the first x places by number, from 1 on
 pub record Summed (g : ℕ → ℕ) (n : ℕ) (numbers : List ℕ) (b x : ℕ) (work after : List ℕ) : Type 0 where
-  pub kept : Untouched b n work after
+  pub kept : UntouchedOutside b n work after
   pub sum : (i : ℕ) → i < n → row after b i ≡ sumAt g numbers (suc i) x
