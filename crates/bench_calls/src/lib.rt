@@ -1,8 +1,8 @@
 // The calls for measurements from C: numbers and memory as they are, the answer as one number. They promise nothing but safety.
 use board::Answer;
 use board::Ground;
-use board::listing::fill_figures;
 use faults::work_fault;
+use patch_lists::fill_figures;
 ghost use Prim.Native.Nat.{_≤_};
 
 // The refusal's number above 32 bits of value.

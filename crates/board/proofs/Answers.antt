@@ -22,8 +22,9 @@ use Rattle.topology.proofs.Fathers.{father-found}
 use Rattle.topology.proofs.Accepted.{accepted-is}
 use Rattle.topology.proofs.Tree.{one-root}
 use Rattle.topology.proofs.TreeLists.{length-heights, length-fathers, length-firsts, heights-at, fathers-at, firsts-at}
-use Rattle.board.specs.declared.Answer.{Answer}
-use Rattle.board.specs.Calls.{over, afterCall, WaterSays}
+use Rattle.answers.specs.declared.Answer.{Answer}
+use Rattle.answers.specs.Answers.{over, afterCall}
+use Rattle.board.specs.Calls.{WaterSays}
 use Rattle.board.specs.Trees.{begins, isTree, treeFaultOf, placesFaultOf, checkedFault, TreeSays, PassSays}
 use Rattle.board.specs.Answers.{answeredNode, TreesKept}
 use Rattle.board.proofs.Demands.{leftBy, accepted-of-call, demand-3-of-call}

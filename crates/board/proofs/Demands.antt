@@ -15,8 +15,9 @@ use Rattle.picture.specs.Kept.{nowhereAbove, keepsAt, Kept}
 use Rattle.topology.proofs.Accepted.{byte-at, accepted-is}
 use Rattle.topology.proofs.Water.{watershed-shape, watershed-watered}
 use Rattle.topology.proofs.Demand.{demand-3, other-fails}
-use Rattle.board.specs.declared.Answer.{Answer}
-use Rattle.board.specs.Calls.{over, outputFaultOf, WaterSays}
+use Rattle.answers.specs.declared.Answer.{Answer}
+use Rattle.answers.specs.Answers.{over}
+use Rattle.board.specs.Calls.{outputFaultOf, WaterSays}
 use Rattle.faults.proofs.Laws.{output-enough, admitted}
 
 -- the picture that an unrefused call leaves in the first n bytes of its output

@@ -12,7 +12,7 @@ use borrow.Author.Tests.{eqb-true, eq-eqb, leb-false, le-leb, lt-leb}
 use Rattle.picture.specs.Pictures.{Picture, places, isPicture}
 use Rattle.picture.specs.Components.{pass}
 use Rattle.picture.specs.Trees.{nodes, treeOf}
-use Rattle.picture.specs.Faults.{firstOf, when}
+use Rattle.faults.specs.PictureFault.{firstOf, when}
 use Rattle.picture.proofs.Lists.{and-left, and-right}
 use Rattle.topology.proofs.Tests.{and-both, clash, on-test}
 use Rattle.topology.proofs.Accepted.{accepted-is}
@@ -20,13 +20,14 @@ use Rattle.topology.proofs.Nodes.{nodes-few}
 use Rattle.topology.proofs.Grid.{pass-byte}
 use Rattle.topology.proofs.TreeLists.{length-heights, length-fathers, length-firsts, length-map-of, heights-at, fathers-at, firsts-at, map-at}
 use Rattle.tree_lists.specs.Lists.{Rooms, InFront}
-use Rattle.verify.specs.Lent.{HoldsTree, Says}
-use Rattle.verify.specs.Climbs.{PassReady}
+use Rattle.lent_tree.specs.Lent.{HoldsTree}
+use Rattle.verify.specs.Checked.{Says}
+use Rattle.lent_tree.specs.Climbs.{PassReady}
 use Rattle.faults.specs.Faults.{outputFault}
-use Rattle.board.specs.Calls.{over, afterCall}
+use Rattle.answers.specs.Answers.{over, afterCall}
 use Rattle.board.specs.Trees.{begins, isTree, shortest, treeFaultOf, placesFaultOf, checkedFault, TreeLent}
 use Rattle.faults.proofs.Laws.{Admitted, admitted, workFaultOf, output-enough, first-some, first-none, first-zero, when-zero}
-use Rattle.board.proofs.Shell.{written-left}
+use Rattle.answers.proofs.Shell.{written-left}
 
 -- a list begins with another: entry by entry
 begins-at : (xs ys : List ℕ) → begins xs ys ≡ true → (i : ℕ) → i < length xs → getD ys i 0 ≡ getD xs i 0

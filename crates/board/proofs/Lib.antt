@@ -1,6 +1,6 @@
 -- Laws of what the public calls promise.
 pub mod Files
-pub mod Shell
+pub mod Queries
 pub mod LentTrees
 pub mod Demands
 pub mod Answers

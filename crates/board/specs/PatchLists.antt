@@ -1,34 +1,16 @@
--- What the call that lists the patches promises, and the functions below it.
+-- What the call that lists the patches promises.
 use mathlib.Core.Path.{_≡_}
-use mathlib.Core.Bool.{_||_}
-use mathlib.Core.List.{List, [], _++_, map}
-use Prim.Native.Nat.{ℕ, _*_, _≤_}
-use lib.Dec.{eqb, ltb}
+use mathlib.Core.List.{List, _++_, map}
+use Prim.Native.Nat.{ℕ}
+use lib.Dec.{eqb}
 use lib.ListN.{length, drop}
 use Rattle.picture.specs.Lists.{pick}
-use Rattle.picture.specs.Pictures.{Picture, places}
-use Rattle.picture.specs.Faults.{firstOf, when, pictureFault}
-use Rattle.picture.specs.Patches.{Patch, patches}
+use Rattle.picture.specs.Pictures.{Picture}
+use Rattle.picture.specs.Patches.{patches}
 use Rattle.patch_records.specs.declared.Patch.{Patch as PatchRecord}
-use Rattle.patch_records.specs.Records.{Entries, records}
-use Rattle.board.specs.declared.Answer.{Answer}
-use Rattle.board.specs.Calls.{afterCall, workAfter, cleared, Answered}
-
--- the fault of a call that lends a list of so many records and work of so many entries: that of the picture, then 9 for fewer records than patches or work of fewer than 5 n entries
-unfoldable pub listFault : Picture → ℕ → ℕ → ℕ
-listFault p room work = firstOf (pictureFault p) (when (ltb room (length (patches p)) || ltb work (5 * places p)) 9)
-
--- the record of a patch in a list
-abbrev pub recordOf : Patch → PatchRecord
-recordOf x =
-    record {
-      number = x .number;
-      size = x .size;
-      height = x .height;
-      depth = x .depth;
-      columns = x .columns;
-      rows = x .rows;
-    }
+use Rattle.patch_lists.specs.PatchLists.{listFault, recordOf}
+use Rattle.answers.specs.declared.Answer.{Answer}
+use Rattle.answers.specs.Answers.{workAfter, Answered}
 
 -- the list of a call with the fault f: the records of the patches in front of what follows there, as before on a refusal
 abbrev pub listAfter : ℕ → Picture → List PatchRecord → List PatchRecord
@@ -39,19 +21,3 @@ pub record PatchesSay (p : Picture) (o o′ : List PatchRecord) (q q′ : List �
   pub answer : Answered (listFault p (length o) (length q)) (length (patches p)) r
   pub output : o′ ≡ listAfter (listFault p (length o) (length q)) p o
   pub work : q′ ≡ workAfter (listFault p (length o) (length q)) p q
-
--- the figures of the r patches are in the first 5 n entries of work
-pub record Figured (p : Picture) (q q′ : List ℕ) (r : ℕ) : Type 0 where
-  pub count : r ≡ length (patches p)
-  pub entries : Entries (length (p .pixels)) q′ r
-  pub records : records (length (p .pixels)) q′ r ≡ map recordOf (patches p)
-  pub rest : drop (5 * length (p .pixels)) q′ ≡ drop (5 * length (p .pixels)) q
-
--- the answer, with as many figures in work as it says; work is to be cleared if there is no refusal
-pub record Gathered (p : Picture) (room : ℕ) (q q′ : List ℕ) (r : Answer) : Type 0 where
-  pub answer : Answered (listFault p room (length q)) (length (patches p)) r
-  pub fits : r .value ≤ room
-  pub entries : Entries (length (p .pixels)) q′ (r .value)
-  pub records : records (length (p .pixels)) q′ (r .value) ≡ pick (eqb (r .number) 0) (map recordOf (patches p)) []
-  pub enough : r .number ≡ 0 → (length (p .pixels) ≤ 1600) × (5 * length (p .pixels) ≤ length q′)
-  pub left : afterCall (r .number) (cleared (length (p .pixels)) q′) q′ ≡ workAfter (r .number) p q

@@ -8,10 +8,10 @@ use lib.ListN.{length}
 use Rattle.picture.specs.Pictures.{Picture, places, isPicture}
 use Rattle.picture.specs.Components.{pass}
 use Rattle.picture.specs.Trees.{nodes, treeOf}
-use Rattle.picture.specs.Faults.{firstOf, when}
-use Rattle.board.specs.declared.Answer.{Answer}
+use Rattle.faults.specs.PictureFault.{firstOf, when}
+use Rattle.answers.specs.declared.Answer.{Answer}
 use Rattle.faults.specs.Faults.{outputFault}
-use Rattle.board.specs.Calls.{over, afterCall, workAfter, Answered}
+use Rattle.answers.specs.Answers.{over, afterCall, workAfter, Answered}
 
 -- the first list is a prefix of the second
 abbrev pub begins : List ℕ → List ℕ → Bool

@@ -1,23 +1,25 @@
 // The public calls; a is the adjacency. Each decides its refusal before it writes anything, from numbers and lengths, for a lent tree also from its
 // entries, for a list of patches from their number; then a core works, and work is cleared.
+pub use answers::Answer;
+use answers::clear_accepted;
+use answers::finish;
+use answers::refused;
+use cells::clear;
 use faults::least;
 use faults::output_fault;
 use faults::place_fault;
 use faults::places_fault;
 use labels::lowerable::lowerable;
 use labels::scan::label;
-use listing::clear_accepted;
-use listing::gather;
+use lent_tree::pass;
+use patch_lists::gather;
 pub use patch_records::Patch;
 use patch_records::write_records;
 use patches::cores::query;
-use picture::clearing::clear;
 use tree_lists::build_lists;
 use trees::tree_fault;
-use verify::climb::pass;
 use watershed::whole::watershed_core;
 
-pub mod listing;
 mod reading;
 mod trees;
 
@@ -26,8 +28,9 @@ ghost use Prim.Native.Nat.{_*_, _≤_};
 ghost use lib.ListN.{length};
 ghost use Rattle.picture.specs.Lists.{pick};
 ghost use Rattle.picture.specs.Pictures.{pictureOf};
+ghost use Rattle.answers.specs.Answers.{cleared};
 ghost use Rattle.board.specs.Reads.{ReadSays, PixelsSay};
-ghost use Rattle.board.specs.Calls.{Refused, Accepted, Finished, LabelsSay, LowerSays, WaterSays, cleared, groundOf, Admits, QueryIs, QuerySays};
+ghost use Rattle.board.specs.Calls.{LabelsSay, LowerSays, WaterSays, groundOf, Admits, QueryIs, QuerySays};
 ghost use Rattle.board.specs.Trees.{TreeSays, CheckSays, PassSays};
 ghost use Rattle.picture.specs.Patches.{patchAt};
 ghost use Rattle.board.specs.PatchLists.{PatchesSay};
@@ -62,30 +65,6 @@ pub fn file_pixels<'a>(file: &'a [u8]) -> &'a [u8]
     }
 }
 
-// The number of a refusal, or 0 with the number of components, nodes or patches, the pass, 1 for yes, or 0 where nothing is counted.
-pub struct Answer {
-    pub number: u8,
-    pub value: u32,
-}
-
-fn refused(number: u8) -> Answer
-    ensures { λ r. ⌜ Refused number r ⌝ }
-{
-    Answer {
-        number: number,
-        value: 0,
-    }
-}
-
-fn accepted(value: u32) -> Answer
-    ensures { λ r. ⌜ Accepted value r ⌝ }
-{
-    Answer {
-        number: 0,
-        value: value,
-    }
-}
-
 // 1 for yes, 0 for no.
 fn one_if(yes: bool) -> u32
     ensures { λ r. ⌜ r ≡ pick yes 1 0 ⌝ }
@@ -94,15 +73,6 @@ fn one_if(yes: bool) -> u32
         return 1;
     }
     0
-}
-
-// The end of a call that is not refused: work is cleared over 5 n entries, and the value answered.
-fn finish(work: &mut [u16], n: usize, value: u32) -> Answer
-    requires { ⌜ (n ≤ 1600) × (5 * n ≤ length (now work)) ⌝ }
-    ensures { λ r. ⌜ Finished n value (now (work .entry)) (now (work .exit)) r ⌝ }
-{
-    clear(work, 5 * n);
-    accepted(value)
 }
 
 // The labels of the section at height k; answers the number of its components.

@@ -11,18 +11,19 @@ use lib.Seq.{take-at}
 use borrow.Author.Tests.{eq-eqb, ltb-true, ltb-false, lt-ltb, le-ltb, le-leb, lt-leb, leb-false}
 use Rattle.picture.specs.Lists.{pick}
 use Rattle.picture.specs.Pictures.{Picture, places, valueAt}
-use Rattle.picture.specs.Faults.{firstOf, when, faultOf, pictureFault}
+use Rattle.faults.specs.PictureFault.{firstOf, when, faultOf, pictureFault}
 use Rattle.picture.specs.Watersheds.{watershed}
 use Rattle.picture.specs.Patches.{patchAt}
 use Rattle.topology.proofs.Tests.{on-test}
 use Rattle.p5.specs.Files.{readFile, numberOf, headerOf}
 use Rattle.text.specs.Writing.{Written}
-use Rattle.board.specs.declared.Answer.{Answer}
+use Rattle.answers.specs.declared.Answer.{Answer}
 use Rattle.board.specs.declared.Queried.{Queried}
 use Rattle.faults.specs.Faults.{workFault, outputFault}
-use Rattle.board.specs.Calls.{over, afterCall, workAfter, outputFaultOf, placeFaultOf, groundOf, WaterSays, QuerySays}
+use Rattle.answers.specs.Answers.{over, afterCall, workAfter}
+use Rattle.board.specs.Calls.{outputFaultOf, placeFaultOf, groundOf, WaterSays, QuerySays}
 use Rattle.faults.proofs.Laws.{first-some, first-none, first-zero, when-zero, place-fine, workFaultOf, work-size, fault-size, fault-few, work-enough, work-none, output-none, output-enough, place-behind}
-use Rattle.board.proofs.Shell.{refused-left, written-left}
+use Rattle.answers.proofs.Shell.{refused-left, written-left}
 use Rattle.board_c.specs.CalledByC.{pair, readFaultForC, headerBytes, ReadForC, waterFaultForC, bytesAfter, WaterForC, placeFaultForC, placeFaultForCOf, patchNumber, PlaceForC}
 use Rattle.board_c.specs.Packing.{packed}
 use Rattle.board_c.proofs.Packed.{written-front, packed-zeros}

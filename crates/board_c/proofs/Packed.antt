@@ -11,7 +11,7 @@ use Rattle.topology.proofs.Filling.{written-next}
 use Rattle.text.specs.Little.{littleEndian}
 use Rattle.text.specs.Writing.{Written}
 use Rattle.text.proofs.Writings.{written-then}
-use Rattle.board.specs.Calls.{over}
+use Rattle.answers.specs.Answers.{over}
 use Rattle.board_c.specs.Packing.{entryAt, entries, packed}
 
 -- bytes written from the beginning stand over what was there

@@ -6,14 +6,14 @@ use Prim.Native.Nat.{ℕ, _*_}
 use lib.Dec.{ltb, leb}
 use lib.ListN.{length, replicate}
 use Rattle.picture.specs.Pictures.{Picture, places, valueAt}
-use Rattle.picture.specs.Faults.{firstOf, when, faultOf, pictureFault}
+use Rattle.faults.specs.PictureFault.{firstOf, when, faultOf, pictureFault}
 use Rattle.picture.specs.Watersheds.{watershed}
 use Rattle.picture.specs.Patches.{patchAt}
 use Rattle.p5.specs.Files.{readFile, numberOf, headerOf}
 use Rattle.text.specs.Little.{littleEndian}
 use Rattle.board.specs.declared.Ground.{Ground}
 use Rattle.board.specs.declared.Ground.the-variants as G
-use Rattle.board.specs.Calls.{over, afterCall}
+use Rattle.answers.specs.Answers.{over, afterCall}
 
 -- two numbers as eight bytes each, lowest first
 abbrev pub pair : ℕ → ℕ → List ℕ

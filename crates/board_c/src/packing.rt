@@ -6,7 +6,7 @@ ghost use Prim.Native.Nat.{_+_, _*_, _≤_};
 ghost use lib.ListN.{length, take, drop};
 ghost use Rattle.text.specs.Little.{littleEndian};
 ghost use Rattle.text.specs.Writing.{Written};
-ghost use Rattle.board.specs.Calls.{over};
+ghost use Rattle.answers.specs.Answers.{over};
 ghost use Rattle.board_c.specs.Packing.{entries, packed};
 
 // The entry of two bytes.

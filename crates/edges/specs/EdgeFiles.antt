@@ -5,7 +5,7 @@ use lib.Dec.{ltb}
 use lib.ListN.{replicate}
 use Rattle.picture.specs.Lists.{pick, range}
 use Rattle.text.specs.Decimal.{fields}
-use Rattle.hold_list.specs.Figures.{flat}
+use Rattle.hold_lines.specs.Figures.{flat}
 
 -- how many values a pixel can have at a largest sample: one more than it, at most 256
 abbrev pub valuesOf : ℕ → ℕ

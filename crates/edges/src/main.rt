@@ -1,7 +1,7 @@
 // Prints for each edge case a line with its name, then what `holds` prints for its file.
 use files::put_file;
-use hold_list::lines::put_word;
-use hold_list::whole::put_text;
+use hold_lines::put_word;
+use hold_list::put_text;
 
 mod files;
 

@@ -8,10 +8,10 @@ use lib.Dec.{ltb, leb}
 use lib.ListN.{length, getD}
 use borrow.Author.Tests.{eqb-true, ltb-false, leb-false, lt-ltb, le-ltb, le-leb, lt-leb}
 use Rattle.picture.specs.Pictures.{Picture, places, sideFits, isPicture}
-use Rattle.picture.specs.Faults.{firstOf, when, faultOf, pictureFault}
+use Rattle.faults.specs.PictureFault.{firstOf, when, faultOf, pictureFault}
 use Rattle.picture.proofs.Lists.{and-left, and-right}
 use Rattle.picture.proofs.Sides.{side-most, area-most}
-use Rattle.picture.proofs.Accepted.{Sound, no-fault, accepted}
+use Rattle.faults.proofs.Accepted.{Sound, no-fault, accepted}
 use Rattle.topology.proofs.Accepted.{at-byte}
 use Rattle.faults.specs.Faults.{workFault, outputFault, placeFault}
 

@@ -1,2 +1,3 @@
 -- Laws of the faults.
+pub mod Accepted
 pub mod Laws

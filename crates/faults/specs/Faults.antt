@@ -2,7 +2,7 @@
 use mathlib.Core.Bool.{Bool, _||_}
 use Prim.Native.Nat.{ℕ, _*_}
 use lib.Dec.{ltb, leb}
-use Rattle.picture.specs.Faults.{firstOf, when, faultOf}
+use Rattle.faults.specs.PictureFault.{firstOf, when, faultOf}
 
 -- adjacency, sides and number of pixels, then work of fewer than 5 n entries
 unfoldable pub workFault : ℕ → ℕ → ℕ → ℕ → ℕ → ℕ

@@ -1,2 +1,3 @@
 -- The faults of a call.
+pub mod PictureFault
 pub mod Faults

@@ -1,10 +1,13 @@
 // The fault of a call's arguments, from numbers and lengths alone; 0 for none.
-use picture::faults::picture_fault;
+use crate::picture_fault::picture_fault;
+
+mod picture_fault;
+
 ghost use mathlib.Core.Path.{_≡_};
 ghost use mathlib.Core.Bool.{_||_};
 ghost use Prim.Native.Nat.{min};
 ghost use lib.Dec.{leb};
-ghost use Rattle.picture.specs.Faults.{firstOf, when};
+ghost use Rattle.faults.specs.PictureFault.{firstOf, when};
 ghost use Rattle.faults.specs.Faults.{workFault, outputFault, placeFault};
 
 // A picture's arguments and the length of work.

@@ -18,9 +18,10 @@ use Rattle.topology.proofs.PatchSums.{sumAt, sum-in, sum-out, patch-begins, cou
 use Rattle.tree.specs.Arrays.{row}
 use Rattle.p5.proofs.Answers.{rest-is}
 use Rattle.patches.specs.Figures.{noPatch, Figures}
-use Rattle.hold_list.specs.Figures.{flat, lineAt, Lists}
-use Rattle.hold_list.specs.HoldText.{patchLine, patchLines, headLines, patchList}
-use Rattle.hold_list.proofs.Lengths.{line-is}
+use Rattle.hold_lines.specs.Figures.{flat, lineAt, Lists}
+use Rattle.hold_lines.specs.Lines.{headLines}
+use Rattle.hold_list.specs.HoldText.{patchLine, patchLines, patchList}
+use Rattle.hold_lines.proofs.Lengths.{line-is}
 
 -- lines one by one
 pub lines-from :

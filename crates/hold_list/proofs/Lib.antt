@@ -1,5 +1,4 @@
 -- Laws that the proofs of the functions cite, and a worked text.
-pub mod Lengths
 pub mod Figured
 pub mod Texts
 pub mod Worked

@@ -16,7 +16,8 @@ use Rattle.topology.proofs.Demand.{demand-3}
 use Rattle.p5.specs.Files.{readFile, numberOf, headerOf}
 use Rattle.p5.proofs.Accepted.{accepted-number}
 use Rattle.p5.proofs.Answers.{rest-is}
-use Rattle.hold_list.specs.HoldText.{patchList, holdList, refusedLine, pictureIn, holdText}
+use Rattle.hold_lines.specs.Lines.{refusedLine}
+use Rattle.hold_list.specs.HoldText.{patchList, holdList, pictureIn, holdText}
 
 -- a picture with adjacency 4
 abbrev picture : ℕ → ℕ → List ℕ → Picture

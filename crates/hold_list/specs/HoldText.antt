@@ -8,20 +8,8 @@ use Rattle.picture.specs.Pictures.{Picture}
 use Rattle.picture.specs.Watersheds.{watershed}
 use Rattle.picture.specs.Patches.{Patch, patches, lineCount, centre}
 use Rattle.p5.specs.Files.{readFile, numberOf, headerOf}
-use Rattle.text.specs.Decimal.{decimal, fields}
-
--- the words `picture`, `patches` and `refused`, each with the space behind it, and `line` between spaces
-abbrev pub pictureWord : List ℕ
-pictureWord = 112 ∷ 105 ∷ 99 ∷ 116 ∷ 117 ∷ 114 ∷ 101 ∷ 32 ∷ []
-
-abbrev pub patchesWord : List ℕ
-patchesWord = 112 ∷ 97 ∷ 116 ∷ 99 ∷ 104 ∷ 101 ∷ 115 ∷ 32 ∷ []
-
-abbrev pub lineWord : List ℕ
-lineWord = 32 ∷ 108 ∷ 105 ∷ 110 ∷ 101 ∷ 32 ∷ []
-
-abbrev pub refusedWord : List ℕ
-refusedWord = 114 ∷ 101 ∷ 102 ∷ 117 ∷ 115 ∷ 101 ∷ 100 ∷ 32 ∷ []
+use Rattle.text.specs.Decimal.{fields}
+use Rattle.hold_lines.specs.Lines.{headLines, refusedLine}
 
 -- the line of a patch: number, size, height, depth, centre column and centre row in tenths
 abbrev pub patchLine : Patch → List ℕ
@@ -34,11 +22,6 @@ abbrev pub patchLines : List Patch → List ℕ
 patchLines [] = []
 patchLines (q ∷ qs) = patchLine q ++ patchLines qs
 
--- the two lines above them: the sides, and how many patches and line pixels there are
-abbrev pub headLines : ℕ → ℕ → ℕ → ℕ → List ℕ
-headLines w h count line =
-    pictureWord ++ (fields (w ∷ h ∷ []) ++ (patchesWord ++ (decimal count ++ (lineWord ++ fields (line ∷ [])))))
-
 -- the list of the patches of a picture under its two lines
 unfoldable pub patchList : Picture → List ℕ
 patchList a = headLines (a .width) (a .height) (length (patches a)) (lineCount a) ++ patchLines (patches a)
@@ -46,10 +29,6 @@ patchList a = headLines (a .width) (a .height) (length (patches a)) (lineCount a
 -- the hold list of a picture: the patches and the line of its watershed
 unfoldable pub holdList : Picture → List ℕ
 holdList p = patchList (watershed p)
-
--- the line of a refusal
-abbrev pub refusedLine : ℕ → List ℕ
-refusedLine n = refusedWord ++ fields (n ∷ [])
 
 -- the picture of an accepted file, with adjacency 4
 abbrev pub pictureIn : List ℕ → Picture

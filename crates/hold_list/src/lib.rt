@@ -1,3 +1,120 @@
-// The hold list as text.
-pub mod lines;
-pub mod whole;
+// The text for a whole file: its refusal, or the hold list of its picture.
+use board::read_file;
+use hold_lines::put_head;
+use hold_lines::put_lines;
+use hold_lines::put_refusal;
+use patches::cores::patch_figures;
+use patches::numbers::count_line;
+use watershed::whole::watershed_core;
+ghost use mathlib.Core.Path.{_≡_};
+ghost use mathlib.Core.Bool.{true};
+ghost use Prim.Native.Nat.{_*_, _≤_};
+ghost use lib.ListN.{length};
+ghost use Rattle.picture.specs.Pictures.{isPicture, pictureOf};
+ghost use Rattle.patches.specs.Figures.{Figures};
+ghost use Rattle.patches.specs.Numbers.{Sizes};
+ghost use Rattle.text.specs.Writing.{Written};
+ghost use Rattle.hold_list.specs.HoldText.{patchList, holdList, holdText};
+
+// Writes the list of the patches of a picture with adjacency 4 from their figures, and answers the place behind it.
+fn put_list(
+    w: u32,
+    h: u32,
+    pixels: &[u8],
+    count: usize,
+    work: &[u16],
+    cells: &[u16],
+    out: &mut [u8],
+) -> usize
+    requires { ⌜ (isPicture (pictureOf 4 w h (now pixels)) ≡ true) × Sizes (w * h) (now work) (now cells) × Figures (pictureOf 4 w h (now pixels)) count (now work) (now cells) × (59264 ≤ length (now out)) ⌝ }
+    ensures { λ r. ⌜ Written 0 (patchList (pictureOf 4 w h (now (pixels .entry)))) (now (out .entry)) r (now (out .exit)) ⌝ }
+{
+    // where the blocks of row sums, depths and heights begin; sizes are at 0, column sums at n
+    let n = pixels.len();
+    let rows = 2 * n;
+    let depths = 3 * n;
+    let heights = 4 * n;
+    let line = count_line(cells);
+    let next = put_head(out, w, h, count as u32, line as u32);
+    put_lines(
+        out,
+        next,
+        count,
+        &work[..n],
+        &work[heights..],
+        &work[depths..],
+        &work[n..],
+        &work[rows..],
+    )
+}
+
+// Writes the list of the patches of a picture with adjacency 4, and answers the place behind it.
+fn put_patches(
+    w: u32,
+    h: u32,
+    pixels: &[u8],
+    work: &mut [u16],
+    cells: &mut [u16],
+    out: &mut [u8],
+) -> usize
+    requires { ⌜ (isPicture (pictureOf 4 w h (now pixels)) ≡ true) × Sizes (w * h) (now work) (now cells) × (59264 ≤ length (now out)) ⌝ }
+    ensures { λ r. ⌜ Written 0 (patchList (pictureOf 4 w h (now (pixels .entry)))) (now (out .entry)) r (now (out .exit)) ⌝ }
+{
+    let count = patch_figures(4, w, h, pixels, work, cells);
+    put_list(w, h, pixels, count, work, cells, out)
+}
+
+// Writes the hold list of a picture with adjacency 4 with lent memory, and answers the place behind it: the patches of its watershed.
+fn put_holds_with(
+    w: u32,
+    h: u32,
+    pixels: &[u8],
+    water: &mut [u8],
+    work: &mut [u16],
+    cells: &mut [u16],
+    out: &mut [u8],
+) -> usize
+    requires { ⌜ (isPicture (pictureOf 4 w h (now pixels)) ≡ true) × (length (now water) ≡ w * h) × Sizes (w * h) (now work) (now cells) × (59264 ≤ length (now out)) ⌝ }
+    ensures { λ r. ⌜ Written 0 (holdList (pictureOf 4 w h (now (pixels .entry)))) (now (out .entry)) r (now (out .exit)) ⌝ }
+{
+    watershed_core(4, w, h, pixels, water, work);
+    put_patches(w, h, water, work, cells, out)
+}
+
+// Writes the hold list of a picture with adjacency 4, and answers the place behind it.
+fn put_holds(w: u32, h: u32, pixels: &[u8], out: &mut [u8]) -> usize
+    requires { ⌜ (isPicture (pictureOf 4 w h (now pixels)) ≡ true) × (59264 ≤ length (now out)) ⌝ }
+    ensures { λ r. ⌜ Written 0 (holdList (pictureOf 4 w h (now (pixels .entry)))) (now (out .entry)) r (now (out .exit)) ⌝ }
+{
+    let n = pixels.len();
+    let whole = 5 * n;
+    let mut water = [0u8; 1600];
+    let mut work = [0u16; 8000];
+    let mut cells = [0u16; 1600];
+    put_holds_with(
+        w,
+        h,
+        pixels,
+        &mut water[..n],
+        &mut work[..whole],
+        &mut cells[..n],
+        out,
+    )
+}
+
+// Writes the text for a file and answers the place behind it: 64 bytes and 37 for each of 1,600 patches are room enough.
+pub fn put_text(file: &[u8], out: &mut [u8]) -> usize
+    requires { ⌜ 59264 ≤ length (now out) ⌝ }
+    ensures { λ r. ⌜ Written 0 (holdText (now (file .entry))) (now (out .entry)) r (now (out .exit)) ⌝ }
+{
+    if 4096 < file.len() {
+        return put_refusal(out, 12);
+    }
+    let answer = read_file(file);
+    let number = answer.number;
+    if number != 0 {
+        return put_refusal(out, number as u32);
+    }
+    let offset = answer.offset;
+    put_holds(answer.width, answer.height, &file[offset..], out)
+}

@@ -1,5 +1,5 @@
 // Prints the hold list of the file on standard input, with adjacency 4.
-use hold_list::whole::put_text;
+use hold_list::put_text;
 
 fn main() {
     // one byte more than a file may have, so that a longer one is refused

@@ -1,5 +1,6 @@
 // The flood of one component of a section.
-use picture::geometry::neighbours;
+use cells::wide;
+use geometry::neighbours;
 ghost use mathlib.Core.Path.{_≡_};
 ghost use mathlib.Core.Logic.{_≢_};
 ghost use mathlib.Core.List.{[]};
@@ -9,13 +10,6 @@ ghost use lib.ListN.{length};
 ghost use Rattle.picture.specs.Geometry.{Placed, neighboursOf};
 ghost use Rattle.labels.specs.Floods.{Room, Visited, Spread, Seed, Floods};
 ghost use Rattle.picture.specs.Pictures.{pictureOf};
-
-// A place as an index.
-pub fn wide(x: u16) -> usize
-    ensures { λ r. ⌜ r ≡ x ⌝ }
-{
-    x as usize
-}
 
 // A pixel lies in the section at height k.
 pub fn in_section(pixel: u8, k: u8) -> bool

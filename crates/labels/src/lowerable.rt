@@ -1,7 +1,7 @@
 // The lowerable test: the labels of the section below a pixel agree around it.
-use crate::flood::wide;
 use crate::scan::label;
-use picture::geometry::neighbours;
+use cells::wide;
+use geometry::neighbours;
 ghost use mathlib.Core.Path.{_≡_};
 ghost use mathlib.Core.Logic.{_≢_};
 ghost use mathlib.Core.Bool.{true};

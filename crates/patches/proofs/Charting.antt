@@ -21,7 +21,7 @@ use Rattle.topology.proofs.Fathers.{father-found, map-found, number-small}
 use Rattle.topology.proofs.Leaves.{bottom}
 use Rattle.topology.proofs.PatchFigures.{bottom-number}
 use Rattle.topology.proofs.LeafNodes.{leafNode, leaf-bottom, bottom-map, bottom-leaf, leaf-mapped, map-bottom, patch-leaf, patch-line, father-leaf, childless-leaf, depth-root, depth-father}
-use Rattle.patches.specs.Blocks.{UntouchedOutside}
+use Rattle.cells.specs.Blocks.{UntouchedOutside}
 use Rattle.patches.specs.Numbers.{starts, Leaves, patchIn}
 use Rattle.patches.specs.Figures.{depthIn}
 use Rattle.patches.proofs.Numbering.{kept-row, starts-true, starts-is, patch-other, patch-node}

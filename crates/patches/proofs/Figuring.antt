@@ -19,7 +19,7 @@ use Rattle.topology.proofs.Accepted.{Accepted, accepted-is}
 use Rattle.topology.proofs.Nodes.{nodes-few}
 use Rattle.topology.proofs.PatchFigures.{patches-count}
 use Rattle.topology.proofs.PatchSums.{count-few, patch-most, patch-number, patch-size, patch-columns, patch-rows}
-use Rattle.patches.specs.Blocks.{UntouchedOutside, Filled}
+use Rattle.cells.specs.Blocks.{UntouchedOutside, Filled}
 use Rattle.patches.specs.Numbers.{Sizes, Mapped, Leaves, patchIn}
 use Rattle.patches.specs.declared.sums.Figure.the-variants.{Size, Columns, Rows}
 use Rattle.patches.specs.Sums.{figureOf, Summing, Summed}

@@ -1,5 +1,3 @@
-pub mod Blocks
-pub mod Floods
 pub mod Numbering
 pub mod Summing
 pub mod Charting

@@ -17,9 +17,9 @@ use Rattle.topology.proofs.Tests.{and-left, and-right, and-both, clash}
 use Rattle.topology.proofs.Lists.{tally-length, length-range}
 use Rattle.topology.proofs.Positions.{tally-next-in, tally-next-out}
 use Rattle.topology.proofs.Zones.{set-cases}
-use Rattle.patches.specs.Blocks.{UntouchedOutside, Filled}
+use Rattle.cells.specs.Blocks.{UntouchedOutside, Filled}
 use Rattle.patches.specs.Numbers.{Mapped, Cleared, Mark, beyond, marked, Son, Marks, starts, Number, passed, given, Numbers, patchIn}
-use Rattle.patches.proofs.Blocks.{kept-refl, kept-set}
+use Rattle.cells.proofs.Blocks.{kept-refl, kept-set}
 
 -- an entry before the block that may have changed
 pub kept-row : (b n o i : ℕ) {l m : List ℕ} → UntouchedOutside b n l m → o + i < b → row m o i ≡ row l o i

@@ -25,7 +25,7 @@ use Rattle.topology.proofs.PatchFigures.{bottom-number}
 use Rattle.topology.proofs.PatchSums.{next-bottom, patch-height, patch-depth}
 use Rattle.patches.specs.Numbers.{Mapped}
 use Rattle.patches.specs.Figures.{depthIn, Put, passed, begun, noPatch, Begun, Charted, Patched}
-use Rattle.patches.proofs.Blocks.{kept-refl, kept-store}
+use Rattle.cells.proofs.Blocks.{kept-refl, kept-store}
 use Rattle.patches.proofs.Numbering.{kept-row}
 use Rattle.patches.proofs.Charting.{arrays, depth-is, depth-kept}
 

@@ -14,7 +14,7 @@ use Rattle.topology.proofs.PatchSums.{sumAt, sum-none, sum-in, sum-out, sum-mos
 use Rattle.patches.specs.declared.sums.Figure.{Figure}
 use Rattle.patches.specs.declared.sums.Figure.the-variants.{Size, Columns, Rows}
 use Rattle.patches.specs.Sums.{figureOf, Framed, Ready, Added, none, some, Summing, Summed}
-use Rattle.patches.proofs.Blocks.{kept-refl, kept-set}
+use Rattle.cells.proofs.Blocks.{kept-refl, kept-set}
 
 pub column-few : (w x : ℕ) → Framed w x → x % w ≤ 39
 column-few w x f = let a = mod-lt x {m = w} (f .some) in let b = f .wide in omega arith

@@ -14,7 +14,7 @@ use Rattle.tree.specs.Arrays.{row, TreeIn}
 use Rattle.topology.proofs.Leaves.{bottom}
 use Rattle.topology.proofs.PatchSums.{sumAt}
 use Rattle.patches.specs.declared.sums.Figure.the-variants.{Size, Columns, Rows}
-use Rattle.patches.specs.Blocks.{UntouchedOutside}
+use Rattle.cells.specs.Blocks.{UntouchedOutside}
 use Rattle.patches.specs.Sums.{figureOf}
 
 -- the cells hold the tree of an accepted picture, of count nodes

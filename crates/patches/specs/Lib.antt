@@ -1,6 +1,4 @@
 -- What the cores of the patches promise.
-pub mod Blocks
-pub mod Minima
 pub mod Numbers
 pub mod Sums
 pub mod Figures

@@ -8,7 +8,7 @@ use lib.Dec.{eqb}
 use lib.ListN.{length, getD, set}
 use Rattle.picture.specs.Lists.{pick, tally, range}
 use Rattle.tree.specs.Arrays.{row}
-use Rattle.patches.specs.Blocks.{UntouchedOutside}
+use Rattle.cells.specs.Blocks.{UntouchedOutside}
 
 -- five blocks of n cells, and n cells or pixels beside them
 pub record Sizes (n : ℕ) (work cells : List ℕ) : Type 0 where

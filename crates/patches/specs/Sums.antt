@@ -7,7 +7,7 @@ use Rattle.tree.specs.Arrays.{row}
 use Rattle.topology.proofs.PatchSums.{sumAt}
 use Rattle.patches.specs.declared.sums.Figure.{Figure}
 use Rattle.patches.specs.declared.sums.Figure.the-variants.{Size, Columns, Rows}
-use Rattle.patches.specs.Blocks.{UntouchedOutside}
+use Rattle.cells.specs.Blocks.{UntouchedOutside}
 
 -- what a place adds to a figure, by the width
 abbrev pub figureOf : Figure → ℕ → ℕ → ℕ

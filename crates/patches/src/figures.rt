@@ -1,11 +1,11 @@
 // The figures of the patches, each in a block of cells by number: sizes, columns, rows, depths, heights.
-use crate::cells::fill;
-use crate::cells::level;
-use crate::cells::wide;
 use crate::numbers::map_patches;
 use crate::numbers::number;
 use crate::sums::Figure;
 use crate::sums::sum_block;
+use cells::fill;
+use cells::level;
+use cells::wide;
 ghost use mathlib.Core.Path.{_≡_};
 ghost use Prim.Native.Nat.{_+_, _-_, _*_, _/_, _≤_, _<_};
 ghost use lib.ListN.{length};

@@ -1,7 +1,5 @@
 // Patches: the minima of a picture, their number, their figures and the patch of a place.
-pub mod cells;
 pub mod cores;
 pub mod figures;
-pub mod minima;
 pub mod numbers;
 pub mod sums;

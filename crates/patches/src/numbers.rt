@@ -1,7 +1,7 @@
 // The patch of a place, from the tree: leaves are numbered by first place, and a pixel of its leaf's height is in its patch.
-use crate::cells::fill;
-use crate::cells::level;
-use crate::cells::wide;
+use cells::fill;
+use cells::level;
+use cells::wide;
 ghost use mathlib.Core.Path.{_≡_};
 ghost use Prim.Native.Nat.{ℕ, _+_, _*_, _≤_, _<_};
 ghost use lib.ListN.{length, getD};

@@ -1,5 +1,5 @@
 // Sums over the places of each patch: sizes, columns, rows.
-use crate::cells::wide;
+use cells::wide;
 ghost use mathlib.Core.Path.{_≡_};
 ghost use lib.ListN.{getD};
 ghost use Rattle.patches.specs.Sums.{figureOf, Framed, Ready, Added, Summing, Summed};

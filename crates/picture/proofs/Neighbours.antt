@@ -14,7 +14,7 @@ use Rattle.picture.specs.Lists.{pick, any, all, select, range, isIn}
 use Rattle.picture.specs.Pictures.{Picture, places, distance, adjacent, touch}
 use Rattle.picture.specs.Geometry.{steps, Offset, offset, everySecond, within, stays, placeBy, neighboursOf, neighboursIn}
 use Rattle.picture.proofs.Lists.{and-left, and-right, and-both, on-pick, implied, any-all, any-mono, any-map-select, select-most, all-below, isIn-at, isIn-index, distinct, pairwise, distinct-images}
-use Rattle.picture.proofs.Steps.{within-some, within-most}
+use Rattle.picture.proofs.Sides.{within-some, within-most}
 
 -- the distance of two numbers as a sum of differences, of which one is 0
 pub distance-is : (a b : ℕ) → distance a b ≡ a - b + (b - a)

@@ -6,14 +6,22 @@ use native.Mathlib.Nat.{mul-le-mul}
 use lib.Dec.{leb}
 use borrow.Author.Tests.{leb-true}
 use Rattle.picture.specs.Pictures.{sideFits}
+use Rattle.picture.specs.Geometry.{within}
 use Rattle.picture.proofs.Lists.{and-left, and-right}
+
+-- a number from 1 to side
+pub within-some : (side c : ℕ) → within side c ≡ true → 1 ≤ c
+within-some side c e = leb-true 1 c (and-left (leb 1 c) _ e)
+
+pub within-most : (side c : ℕ) → within side c ≡ true → c ≤ side
+within-most side c e = leb-true c side (and-right (leb 1 c) _ e)
 
 -- a side that fits is at least 1 and at most 40
 pub side-some : (w : ℕ) → sideFits w ≡ true → 1 ≤ w
-side-some w e = leb-true 1 w (and-left (leb 1 w) _ e)
+side-some = within-some 40
 
 pub side-most : (w : ℕ) → sideFits w ≡ true → w ≤ 40
-side-most w e = leb-true w 40 (and-right (leb 1 w) _ e)
+side-most = within-most 40
 
 -- sides of at most 40 make at most 1,600 places
 pub area-most : (w h : ℕ) → w ≤ 40 → h ≤ 40 → w * h ≤ 1600

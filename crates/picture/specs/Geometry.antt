@@ -6,7 +6,7 @@ use Prim.Native.Nat.{ℕ, _+_, _-_, _*_, _/_, _%_, _≤_, _<_}
 use lib.Dec.{eqb, leb}
 use lib.ListN.{length, drop}
 use lib.IntN.{ℤ, pos, negsuc}
-use Rattle.picture.specs.declared.geometry.Step.{Step}
+use Rattle.picture.specs.declared.Step.{Step}
 use Rattle.picture.specs.Lists.{pick, select}
 use Rattle.picture.specs.Pictures.{Picture}
 

@@ -7,5 +7,3 @@ pub mod Watersheds
 pub mod Patches
 pub mod Kept
 pub mod Geometry
-pub mod Faults
-pub mod Steps

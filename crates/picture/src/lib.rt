@@ -1,4 +1,7 @@
-// Pictures: the neighbours of a place, the fault of a picture's arguments, and the clearing of memory.
-pub mod clearing;
-pub mod faults;
-pub mod geometry;
+// Pictures: the definitions are in specs/, and here the step that they share with the code.
+
+// A step to a neighbour.
+pub struct Step {
+    pub column: i8,
+    pub row: i8,
+}

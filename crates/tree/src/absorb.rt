@@ -1,7 +1,7 @@
 // The pixels of one height join the classes of the places below them.
 use crate::union_find::find;
 use crate::union_find::join;
-use crate::union_find::wide;
+use cells::wide;
 ghost use mathlib.Core.Path.{_≡_};
 ghost use Prim.Native.Nat.{_<_, _≤_, _+_, _*_};
 ghost use lib.ListN.{length, getD};
@@ -78,7 +78,7 @@ fn absorb(
     ensures { λ r. ⌜ Absorbed (pictureOf a w h (now (pixels .entry))) k x r (now (cells .exit)) (now (work .entry)) (now (work .exit)) ⌝ }
 {
     let mut near = [0u16; 8];
-    let count = picture::geometry::neighbours(a, w, h, x, &mut near);
+    let count = geometry::neighbours(a, w, h, x, &mut near);
     let mut root = find(cells, x);
     let mut i = 0;
     while i < count {

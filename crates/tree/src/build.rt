@@ -1,7 +1,7 @@
 // The component tree of a picture: the heights one after the other, then the fathers.
 use crate::buckets::thread;
 use crate::levels::levels;
-use crate::union_find::wide;
+use cells::wide;
 ghost use mathlib.Core.Path.{_≡_};
 ghost use mathlib.Core.Bool.{true};
 ghost use Prim.Native.Nat.{_<_, _≤_, _+_, _*_};

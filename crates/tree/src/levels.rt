@@ -2,7 +2,7 @@
 use crate::absorb::absorb_level;
 use crate::list::list_level;
 use crate::union_find::find;
-use crate::union_find::wide;
+use cells::wide;
 ghost use mathlib.Core.Path.{_≡_};
 ghost use Prim.Native.Nat.{ℕ, suc, _<_, _≤_, _+_, _*_};
 ghost use lib.ListN.{length, getD};

@@ -24,7 +24,7 @@ use Rattle.topology.proofs.Counts.{soFar, so-few}
 use Rattle.topology.proofs.Numbering.{Member, Listed, Numbered, joined-root, root-first, free-fork, fork-free, number-new, count-next, next-level, named-all, edges-next}
 use Rattle.topology.proofs.Forests.{Forest, Found, Parents, forest-parents, root-cell, forest-state}
 use Rattle.topology.proofs.Checks.{Agree, Checking}
-use Rattle.verify.specs.Lent.{HoldsTree}
+use Rattle.lent_tree.specs.Lent.{HoldsTree}
 use Rattle.verify.specs.Steps.{Run, Counted, Fits}
 use Rattle.verify.proofs.Places.{height-least, firsts-rise}
 

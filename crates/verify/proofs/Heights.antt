@@ -21,7 +21,8 @@ use Rattle.topology.proofs.Counts.{so-none}
 use Rattle.topology.proofs.Numbering.{level-start, edges-start}
 use Rattle.topology.proofs.Checks.{Checking}
 use Rattle.topology.proofs.Looks.{Passed}
-use Rattle.verify.specs.Lent.{HoldsTree, Says}
+use Rattle.lent_tree.specs.Lent.{HoldsTree}
+use Rattle.verify.specs.Checked.{Says}
 use Rattle.verify.specs.Steps.{Run, Counted, Matched, CountReady, NodesChecked, MapReady, MapChecked, Verified}
 use Rattle.verify.specs.Heights.{Sizes, LevelChecked, Fresh}
 use Rattle.verify.proofs.Counted.{counted-start}

@@ -6,4 +6,3 @@ pub mod Matched
 pub mod Steps
 pub mod Verified
 pub mod Heights
-pub mod Climbs

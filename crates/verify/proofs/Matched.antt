@@ -28,7 +28,7 @@ use Rattle.topology.proofs.Numbering.{Member, Listed, Numbered, joined-root, ro
 use Rattle.topology.proofs.LastFathers.{LastFather, missing, pixel, last-father}
 use Rattle.topology.proofs.Forests.{Forest, Found, Parents, forest-parents}
 use Rattle.topology.proofs.Checks.{Differs, Agree, Checking}
-use Rattle.verify.specs.Lent.{HoldsTree}
+use Rattle.lent_tree.specs.Lent.{HoldsTree}
 use Rattle.verify.specs.Steps.{Run, Counted, Matched}
 use Rattle.verify.proofs.Places.{height-least, before-is}
 

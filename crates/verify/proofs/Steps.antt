@@ -12,7 +12,7 @@ use Rattle.picture.specs.Pictures.{Picture, places, valueAt}
 use Rattle.topology.proofs.Tests.{clash}
 use Rattle.topology.proofs.Descent.{under, map-under}
 use Rattle.topology.proofs.Forests.{Found, Parents, forest-parents}
-use Rattle.verify.specs.Lent.{HoldsTree}
+use Rattle.lent_tree.specs.Lent.{HoldsTree}
 use Rattle.verify.specs.Steps.{Run, Counted, Matched, Fit, CountReady, NodesChecked, MapReady, MapChecked}
 use Rattle.verify.proofs.Counted.{counted-turn, tree-fits}
 use Rattle.verify.proofs.Matched.{matched-pass, matched-turn, matched-cell, says, tree-complete}

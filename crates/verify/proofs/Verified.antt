@@ -24,7 +24,7 @@ use Rattle.topology.proofs.Numbering.{Member, joined-root, free-fork}
 use Rattle.topology.proofs.LastFathers.{LastFather, missing, pixel, last-father}
 use Rattle.topology.proofs.Forests.{Found, Parents, forest-parents}
 use Rattle.topology.proofs.Checks.{Differs, Agree, Checking}
-use Rattle.verify.specs.Lent.{HoldsTree}
+use Rattle.lent_tree.specs.Lent.{HoldsTree}
 use Rattle.verify.specs.Steps.{Run, Matched, Verified}
 use Rattle.verify.proofs.Counted.{counted-start, counted-turn, tree-fits}
 use Rattle.verify.proofs.Matched.{matched-start, matched-pass, matched-turn, says, count-is, node-new, checking-next, tree-complete}

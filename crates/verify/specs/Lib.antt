@@ -1,5 +1,4 @@
 -- What the check of a lent tree promises.
-pub mod Lent
+pub mod Checked
 pub mod Steps
 pub mod Heights
-pub mod Climbs

@@ -14,7 +14,7 @@ use Rattle.topology.proofs.Counts.{soFar}
 use Rattle.topology.proofs.Numbering.{Member}
 use Rattle.topology.proofs.Forests.{Forest}
 use Rattle.topology.proofs.Checks.{Agree, Checking}
-use Rattle.verify.specs.Lent.{HoldsTree}
+use Rattle.lent_tree.specs.Lent.{HoldsTree}
 
 -- the lent heights from c on, before d, are k, and d is the count or has another
 pub record Run (k c d count : ℕ) (hs : List ℕ) : Type 0 where

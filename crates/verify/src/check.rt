@@ -8,7 +8,7 @@ ghost use mathlib.Core.Bool.{true};
 ghost use Prim.Native.Nat.{_<_, _≤_, _+_, _*_};
 ghost use lib.ListN.{length, drop};
 ghost use Rattle.picture.specs.Pictures.{isPicture, pictureOf};
-ghost use Rattle.verify.specs.Lent.{Says};
+ghost use Rattle.verify.specs.Checked.{Says};
 ghost use Rattle.verify.specs.Steps.{Verified};
 ghost use Rattle.verify.specs.Heights.{Sizes, LevelChecked, Fresh};
 

@@ -1,5 +1,4 @@
-// The check of a lent component tree, and the pass read off it.
+// The check of a lent component tree.
 pub mod check;
-pub mod climb;
 pub mod look;
 pub mod nodes;

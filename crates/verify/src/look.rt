@@ -1,8 +1,8 @@
 // The pixels of one height join the classes; at each link the lent fathers are compared.
+use cells::wide;
 use tree::absorb::comes_before;
 use tree::absorb::height;
 use tree::union_find::find;
-use tree::union_find::wide;
 ghost use mathlib.Core.Path.{_≡_};
 ghost use Prim.Native.Nat.{_<_, _≤_, _+_, _*_};
 ghost use lib.ListN.{length, getD, set};
@@ -124,7 +124,7 @@ fn check_pixel(
         return true;
     }
     let mut near = [0u16; 8];
-    let count = picture::geometry::neighbours(a, w, h, x, &mut near);
+    let count = geometry::neighbours(a, w, h, x, &mut near);
     let mut root = find(cells, x);
     let mut i = 0;
     while i < count {

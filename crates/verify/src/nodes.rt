@@ -1,7 +1,7 @@
 // The lent nodes of one height against the new roots, and the lent map against their numbers.
+use cells::wide;
 use tree::absorb::height;
 use tree::union_find::find;
-use tree::union_find::wide;
 ghost use mathlib.Core.Path.{_≡_};
 ghost use Prim.Native.Nat.{_<_, _≤_, _+_, _*_};
 ghost use lib.ListN.{length, getD};

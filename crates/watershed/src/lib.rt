@@ -1,5 +1,3 @@
-// The watershed: the climb in the tree, how far a pixel falls, the run down.
-pub mod climb;
-pub mod fall;
+// The watershed: the run of falls, and the whole.
 pub mod run;
 pub mod whole;

@@ -1,13 +1,13 @@
 // The run down: the winner is taken away and falls as far as it may, until no candidate is left.
-use crate::fall::lowest;
-use crate::fall::stop_at;
-use picture::geometry::neighbours;
+use cells::value;
+use cells::wide;
+use falls::fall::lowest;
+use falls::fall::stop_at;
+use geometry::neighbours;
 use winner::NONE;
 use winner::assign;
 use winner::build;
-use winner::value;
 use winner::wake_all;
-use winner::wide;
 ghost use mathlib.Core.Path.{_≡_};
 ghost use mathlib.Core.Bool.{true};
 ghost use mathlib.Core.List.{[]};

@@ -1,4 +1,6 @@
 // The winner tree over the candidates: cell n + x is the leaf of the place x, cell i below n the better of the cells 2 i and 2 i + 1.
+use cells::value;
+use cells::wide;
 ghost use mathlib.Core.Path.{_≡_};
 ghost use mathlib.Core.Logic.{_⊎_};
 ghost use Prim.Native.Nat.{_+_, _*_, _≤_, _<_};
@@ -9,20 +11,6 @@ ghost use Rattle.topology.proofs.Stopping.{Places};
 
 // The mark of no candidate.
 pub const NONE: u16 = 65535;
-
-// A cell as a number.
-pub fn wide(cell: u16) -> usize
-    ensures { λ r. ⌜ r ≡ cell ⌝ }
-{
-    cell as usize
-}
-
-// A pixel's value as a number.
-pub fn value(pixel: u8) -> usize
-    ensures { λ r. ⌜ r ≡ pixel ⌝ }
-{
-    pixel as usize
-}
 
 // The better of two candidates: of lesser value, then of smaller place.
 fn better(pixels: &[u8], a: u16, b: u16) -> u16

@@ -1,5 +1,5 @@
 -- `board::ground_of` meets its contract.
-use Rattle.board.proofs.Shell.{ground-patch}
+use Rattle.board.proofs.Queries.{ground-patch}
 use borrow.Author.Needs.{needs}
 use Rattle.board.proofs.ground_of.Statement.{statement}
 use Rattle.board.proofs.ground_of.Tie as tie

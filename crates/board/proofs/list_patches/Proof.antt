@@ -51,21 +51,21 @@ use Rattle.patch_records.proofs.write_records as write
 use Rattle.patch_records.proofs.write_records.Symbol as write-def
 use Rattle.patch_records.proofs.write_records.Symbol.{name as #write}
 use Rattle.patch_records.proofs.write_records.Met as write-thm
-use Rattle.board.specs.declared.Answer.{Answer}
-use Rattle.board.specs.Calls.{afterCall, cleared}
-use Rattle.board.specs.PatchLists.{Gathered}
-use Rattle.board.proofs.Answer as S
-use Rattle.board.proofs.Answer.Laws as S′
+use Rattle.answers.specs.declared.Answer.{Answer}
+use Rattle.answers.specs.Answers.{afterCall, cleared}
+use Rattle.patch_lists.specs.PatchLists.{Gathered}
+use Rattle.answers.proofs.Answer as S
+use Rattle.answers.proofs.Answer.Laws as S′
 use Rattle.board.proofs.Lending.{LentAgain, SharedAgain, lends-again, comes-back, shares-again, unshared}
 use Rattle.board.proofs.PatchLists.{listed}
-use Rattle.board.proofs.listing.gather as gather
-use Rattle.board.proofs.listing.gather.Symbol as gather-def
-use Rattle.board.proofs.listing.gather.Symbol.{name as #gather}
-use Rattle.board.proofs.listing.gather.Met as gather-thm
-use Rattle.board.proofs.listing.clear_accepted as clear
-use Rattle.board.proofs.listing.clear_accepted.Symbol as clear-def
-use Rattle.board.proofs.listing.clear_accepted.Symbol.{name as #clear}
-use Rattle.board.proofs.listing.clear_accepted.Met as clear-thm
+use Rattle.patch_lists.proofs.gather as gather
+use Rattle.patch_lists.proofs.gather.Symbol as gather-def
+use Rattle.patch_lists.proofs.gather.Symbol.{name as #gather}
+use Rattle.patch_lists.proofs.gather.Met as gather-thm
+use Rattle.answers.proofs.clear_accepted as clear
+use Rattle.answers.proofs.clear_accepted.Symbol as clear-def
+use Rattle.answers.proofs.clear_accepted.Symbol.{name as #clear}
+use Rattle.answers.proofs.clear_accepted.Met as clear-thm
 use Rattle.board.proofs.list_patches.Key.{name as #list-patches}
 use Rattle.board.proofs.list_patches as list-patches
 use Rattle.board.proofs.list_patches.Statement as stated
@@ -453,6 +453,6 @@ list-patches-spec 𝓤 H 𝓜 𝓖 𝓡 =
     entered 𝓤 H (tripleOf 𝓤 H (𝓖 .A) list-patches.signature (list-patches.spec 𝓤 H (𝓖 .A) (𝓜 .mem) (𝓡 .run)))
     (tables 𝓤 H 𝓜 𝓡 code.env .C) (tables 𝓤 H 𝓜 𝓡 code.env .Λ) #list-patches code.function (code.unfolded 𝓤 H 𝓜 𝓡)
     (list-patches-meets 𝓤 H (𝓖 .A) (givenOf 𝓤 H 𝓜 𝓖) (𝓜 .mem) (𝓡 .run) (tablesOf 𝓤 H 𝓜 (tables 𝓤 H 𝓜 𝓡 code.env))
-    (cited 𝓤 H (TheGather 𝓤 H (𝓖 .A) (𝓜 .mem) (𝓡 .run)) 𝓜 𝓡 code.env #gather gather-def.routine code.calls-board·listing·gather (gather-thm.met 𝓤 H 𝓜 𝓖 𝓡))
+    (cited 𝓤 H (TheGather 𝓤 H (𝓖 .A) (𝓜 .mem) (𝓡 .run)) 𝓜 𝓡 code.env #gather gather-def.routine code.calls-patch-lists·gather (gather-thm.met 𝓤 H 𝓜 𝓖 𝓡))
     (cited 𝓤 H (TheWrite 𝓤 H (𝓖 .A) (𝓜 .mem) (𝓡 .run)) 𝓜 𝓡 code.env #write write-def.routine code.calls-patch-records·write-records (write-thm.met 𝓤 H 𝓜 𝓖 𝓡))
-    (cited 𝓤 H (TheClear 𝓤 H (𝓖 .A) (𝓜 .mem) (𝓡 .run)) 𝓜 𝓡 code.env #clear clear-def.routine code.calls-board·listing·clear-accepted (clear-thm.met 𝓤 H 𝓜 𝓖 𝓡)))
+    (cited 𝓤 H (TheClear 𝓤 H (𝓖 .A) (𝓜 .mem) (𝓡 .run)) 𝓜 𝓡 code.env #clear clear-def.routine code.calls-answers·clear-accepted (clear-thm.met 𝓤 H 𝓜 𝓖 𝓡)))

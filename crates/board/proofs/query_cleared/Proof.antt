@@ -5,7 +5,7 @@ use Prim.Native.Nat.{ℕ, _*_}
 use native.Mathlib.Omega.{arith}
 use lib.ListN.{length, replicate, length-replicate}
 use Rattle.patches.specs.Numbers.{Sizes}
-use Rattle.board.proofs.Shell.{lent-length, behind-lent}
+use Rattle.answers.proofs.Shell.{lent-length, behind-lent}
 use borrow.Author.Needs.{needs}
 use Rattle.board.proofs.query_cleared.Statement.{statement}
 use Rattle.board.proofs.query_cleared.Tie as tie

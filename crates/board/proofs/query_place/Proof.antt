@@ -4,7 +4,7 @@ use Prim.Native.Nat.{ℕ}
 use native.Mathlib.Omega.{arith}
 use Rattle.picture.specs.Pictures.{Picture, pictureOf}
 use Rattle.board.specs.Calls.{placeFaultOf, Admits}
-use Rattle.board.proofs.Shell.{admits, refused-query, answered-query}
+use Rattle.board.proofs.Queries.{admits, refused-query, answered-query}
 use borrow.Author.Needs.{needs}
 use Rattle.board.proofs.query_place.Statement.{statement}
 use Rattle.board.proofs.query_place.Tie as tie

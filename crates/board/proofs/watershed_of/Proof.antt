@@ -7,7 +7,7 @@ use Rattle.picture.specs.Pictures.{Picture, places, pictureOf}
 use Rattle.topology.proofs.Water.{watershed-watered}
 use Rattle.board.specs.Calls.{outputFaultOf}
 use Rattle.faults.proofs.Laws.{workFaultOf, output-enough, Admitted, admitted}
-use Rattle.board.proofs.Shell.{refused-answer, refused-left, accepted-answer, written-over, lent-length, back-room, behind-lent, cleared-left}
+use Rattle.answers.proofs.Shell.{refused-answer, refused-left, accepted-answer, written-over, lent-length, back-room, behind-lent, cleared-left}
 use borrow.Author.Needs.{needs}
 use Rattle.board.proofs.watershed_of.Statement.{statement}
 use Rattle.board.proofs.watershed_of.Tie as tie

@@ -1,5 +1,5 @@
 -- `edges::print_name` is safe: the name lies within the memory.
-use Rattle.hold_list.proofs.Lengths.{text-within}
+use Rattle.hold_lines.proofs.Lengths.{text-within}
 use borrow.Author.Needs.{needs}
 use Rattle.edges.proofs.print_name.Statement.{statement}
 use Rattle.edges.proofs.print_name.Tie as tie

@@ -2,7 +2,7 @@
 use mathlib.Core.Path.{ap, _∙_}
 use Prim.Native.Nat.{ℕ}
 use lib.Dec.{leb}
-use Rattle.picture.specs.Faults.{firstOf, when}
+use Rattle.faults.specs.PictureFault.{firstOf, when}
 use Rattle.faults.proofs.Laws.{first-either}
 use borrow.Author.Needs.{needs}
 use Rattle.faults.proofs.places_fault.Statement.{statement}

@@ -7,8 +7,8 @@ use Rattle.winner.proofs.wake.Statement.{statement}
 use Rattle.winner.proofs.wake.Tie as tie
 use Rattle.winner.proofs.wake.Reads as reads
 use Rattle.winner.proofs.wake.Lts as lts
-use Rattle.winner.proofs.wide.Reads as wide-reads
-use Rattle.winner.proofs.value.Reads as value-reads
+use Rattle.cells.proofs.wide.Reads as wide-reads
+use Rattle.cells.proofs.value.Reads as value-reads
 use Rattle.winner.proofs.assign.Reads as assign-reads
 
 shared-slice-read-value : tie.Need-shared-slice-read-value

@@ -8,7 +8,7 @@ use Rattle.winner.proofs.wake_all.Statement.{statement}
 use Rattle.winner.proofs.wake_all.Tie as tie
 use Rattle.winner.proofs.wake_all.Reads as reads
 use Rattle.winner.proofs.wake_all.Lts as lts
-use Rattle.winner.proofs.wide.Reads as wide-reads
+use Rattle.cells.proofs.wide.Reads as wide-reads
 use Rattle.winner.proofs.wake.Reads as wake-reads
 
 abbrev Inv-loop : tie.InvT-loop

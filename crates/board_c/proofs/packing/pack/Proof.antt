@@ -6,7 +6,7 @@ use lib.ListN.{length, take}
 use borrow.Author.Needs.{needs}
 use Rattle.text.specs.Writing.{Written}
 use Rattle.text.proofs.Writings.{written-none}
-use Rattle.board.specs.Calls.{over}
+use Rattle.answers.specs.Answers.{over}
 use Rattle.board_c.specs.Packing.{packed}
 use Rattle.board_c.proofs.Packed.{written-front, packed-next}
 use Rattle.board_c.proofs.packing.pack.Statement.{statement}

@@ -5,7 +5,7 @@ use native.Mathlib.Omega.{arith}
 use lib.ListN.{length, getD, length-set}
 use borrow.Author.Needs.{needs}
 use Rattle.patches.specs.Numbers.{patchIn}
-use Rattle.patches.proofs.Blocks.{below-set}
+use Rattle.cells.proofs.Blocks.{below-set}
 use Rattle.patches.proofs.numbers.map_patches.Statement.{statement}
 use Rattle.patches.proofs.numbers.map_patches.Tie as tie
 

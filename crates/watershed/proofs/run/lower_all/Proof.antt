@@ -18,7 +18,7 @@ use Rattle.watershed.proofs.run.lower_all.Statement.{statement}
 use Rattle.watershed.proofs.run.lower_all.Tie as tie
 use Rattle.watershed.proofs.run.lower_all.Reads as reads
 use Rattle.watershed.proofs.run.lower_all.Lts as lts
-use Rattle.winner.proofs.wide.Reads as wide-reads
+use Rattle.cells.proofs.wide.Reads as wide-reads
 use Rattle.watershed.proofs.run.turn.Reads as turn-reads
 use Rattle.winner.proofs.build.Reads as build-reads
 

@@ -13,10 +13,10 @@ use Rattle.watershed.proofs.run.settle.Statement.{statement}
 use Rattle.watershed.proofs.run.settle.Tie as tie
 use Rattle.watershed.proofs.run.settle.Reads as reads
 use Rattle.watershed.proofs.run.settle.Lts as lts
-use Rattle.picture.proofs.geometry.neighbours.Reads as neighbours-reads
-use Rattle.watershed.proofs.fall.lowest.Reads as lowest-reads
-use Rattle.watershed.proofs.fall.stop_at.Reads as stop-at-reads
-use Rattle.winner.proofs.value.Reads as value-reads
+use Rattle.geometry.proofs.neighbours.Reads as neighbours-reads
+use Rattle.falls.proofs.fall.lowest.Reads as lowest-reads
+use Rattle.falls.proofs.fall.stop_at.Reads as stop-at-reads
+use Rattle.cells.proofs.value.Reads as value-reads
 use Rattle.winner.proofs.wake_all.Reads as wake-all-reads
 
 -- what the loops over the neighbours have found

@@ -15,7 +15,7 @@ use Rattle.watershed.proofs.run.turn.Statement.{statement}
 use Rattle.watershed.proofs.run.turn.Tie as tie
 use Rattle.watershed.proofs.run.turn.Reads as reads
 use Rattle.watershed.proofs.run.turn.Lts as lts
-use Rattle.winner.proofs.wide.Reads as wide-reads
+use Rattle.cells.proofs.wide.Reads as wide-reads
 use Rattle.watershed.proofs.run.settle.Reads as settle-reads
 use Rattle.winner.proofs.assign.Reads as assign-reads
 

@@ -1,0 +1,2 @@
+-- Laws that every call shares.
+pub mod Shell

@@ -1,0 +1,42 @@
+-- The answer of a call, and what it leaves in each lent slice.
+use mathlib.Core.Path.{_≡_}
+use mathlib.Core.List.{List, _++_}
+use Prim.Native.Nat.{ℕ, _*_}
+use lib.Dec.{eqb}
+use lib.ListN.{length, drop, replicate}
+use Rattle.picture.specs.Lists.{pick}
+use Rattle.picture.specs.Pictures.{Picture, places}
+use Rattle.answers.specs.declared.Answer.{Answer}
+
+-- a list in front of what follows in another
+abbrev pub over : List ℕ → List ℕ → List ℕ
+over xs ys = xs ++ drop (length xs) ys
+
+-- what a call with the fault f leaves in a lent slice: the new content where there is no fault, else the old
+abbrev pub afterCall : ℕ → List ℕ → List ℕ → List ℕ
+afterCall f new old = pick (eqb f 0) new old
+
+-- work is zero over its named length after success, and as it was after a refusal
+abbrev pub workAfter : ℕ → Picture → List ℕ → List ℕ
+workAfter f p q = afterCall f (over (replicate (5 * places p) 0) q) q
+
+-- the number of the refusal, or 0 with the value
+pub record Answered (f v : ℕ) (r : Answer) : Type 0 where
+  pub number : r .number ≡ f
+  pub value : r .value ≡ pick (eqb f 0) v 0
+
+-- the record of a refusal, and that of an answer
+abbrev pub Refused : ℕ → Answer → Type 0
+Refused f r = r ≡ record { number = f; value = 0 }
+
+abbrev pub Accepted : ℕ → Answer → Type 0
+Accepted v r = r ≡ record { number = 0; value = v }
+
+-- work with its first 5 n entries cleared
+abbrev pub cleared : ℕ → List ℕ → List ℕ
+cleared n q = replicate {A = ℕ} (5 * n) 0 ++ drop (5 * n) q
+
+-- the end of a call that is not refused: the value, and work cleared over 5 n entries
+pub record Finished (n v : ℕ) (q q′ : List ℕ) (r : Answer) : Type 0 where
+  pub answer : Accepted v r
+  pub work : q′ ≡ cleared n q

@@ -1,0 +1,2 @@
+-- What every call promises.
+pub mod Answers

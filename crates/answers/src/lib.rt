@@ -1,0 +1,50 @@
+// The answer of a call, its refusal, and its end: what is the same in every call.
+use cells::clear;
+ghost use mathlib.Core.Path.{_≡_};
+ghost use Prim.Native.Nat.{_*_, _≤_};
+ghost use lib.ListN.{length};
+ghost use Rattle.answers.specs.Answers.{afterCall, Refused, Accepted, cleared, Finished};
+
+// The number of a refusal, or 0 with the number of components, nodes or patches, the pass, 1 for yes, or 0 where nothing is counted.
+pub struct Answer {
+    pub number: u8,
+    pub value: u32,
+}
+
+pub fn refused(number: u8) -> Answer
+    ensures { λ r. ⌜ Refused number r ⌝ }
+{
+    Answer {
+        number: number,
+        value: 0,
+    }
+}
+
+pub fn accepted(value: u32) -> Answer
+    ensures { λ r. ⌜ Accepted value r ⌝ }
+{
+    Answer {
+        number: 0,
+        value: value,
+    }
+}
+
+// The end of a call that is not refused: work is cleared over 5 n entries, and the value answered.
+pub fn finish(work: &mut [u16], n: usize, value: u32) -> Answer
+    requires { ⌜ (n ≤ 1600) × (5 * n ≤ length (now work)) ⌝ }
+    ensures { λ r. ⌜ Finished n value (now (work .entry)) (now (work .exit)) r ⌝ }
+{
+    clear(work, 5 * n);
+    accepted(value)
+}
+
+// Clears the first 5 n entries of work if the number is 0, as no refusal.
+pub fn clear_accepted(work: &mut [u16], n: usize, number: u8)
+    requires { ⌜ (number ≡ 0 → (n ≤ 1600) × (5 * n ≤ length (now work))) ⌝ }
+    ensures { λ _. ⌜ now (work .exit) ≡ afterCall number (cleared n (now (work .entry))) (now (work .entry)) ⌝ }
+{
+    if number != 0 {
+        return;
+    }
+    clear(work, 5 * n);
+}

@@ -1,0 +1,56 @@
+-- The laws of the place query: its ground, its arguments, its refusal and its answer.
+use mathlib.Core.Path.{_≡_, refl, sym, ap, ap₂, _∙_}
+use mathlib.Core.Bool.{Bool, false}
+use mathlib.Core.Logic.{_≢_}
+use mathlib.Core.List.{List}
+use Prim.Native.Nat.{ℕ, zero, suc, _≤_}
+use lib.Dec.{eqb}
+use lib.ListN.{length, getD}
+use borrow.Author.Tests.{eq-eqb, ne-eqb}
+use Rattle.picture.specs.Lists.{pick}
+use Rattle.picture.specs.Pictures.{Picture, places, valueAt}
+use Rattle.picture.specs.Patches.{patchAt}
+use Rattle.faults.proofs.Laws.{place-enough, admitted}
+use Rattle.answers.specs.Answers.{cleared}
+use Rattle.answers.proofs.Shell.{refused-left, cleared-left}
+use Rattle.board.specs.declared.Ground.the-variants as G
+use Rattle.board.specs.declared.Queried.{Queried}
+use Rattle.board.specs.Calls.{placeFaultOf, groundOf, QueryIs, Admits, QuerySays}
+
+-- the ground of a patch number that is not 0
+pub ground-patch : (n : ℕ) → n ≢ 0 → G.Patch n ≡ groundOf n
+ground-patch zero d = absurd (d refl)
+ground-patch (suc n) d = refl
+
+-- a place query without a fault, and with one
+pub admits : (p : Picture) (q : List ℕ) (x : ℕ) → placeFaultOf p q x ≡ 0 → ((i : ℕ) → getD (p .pixels) i 0 ≤ 255) → Admits p q x
+admits p q x e f =
+    let z = place-enough (p .adjacency) (p .width) (p .height) (length (p .pixels)) (length q) x e in
+    let a = admitted p (length q) (z .0) f in
+    record { accepted = a .picture; size = a .size; few = a .few; room = a .room; place = z .1 }
+
+pub refused-query : (p : Picture) (q : List ℕ) (x g : ℕ) (r : Queried) → g ≡ placeFaultOf p q x → g ≢ 0 → QueryIs g 0 0 r → QuerySays p x q q r
+refused-query p q x g r e d w =
+    let f = placeFaultOf p q x in
+    let n : eqb f 0 ≡ false = ne-eqb f 0 (λ z. d (e ∙ z)) in
+    record {
+      answer =
+          w ∙
+          (ap (λ (m : ℕ). record { number = m; value = 0; ground = groundOf 0 }) e ∙
+          sym (ap (λ (t : Bool). record { number = f; value = pick t (valueAt p x) 0; ground = groundOf (pick t (patchAt p x) 0) }) n));
+      work = refused-left f g e d _ q;
+    }
+
+pub answered-query :
+    (p : Picture) (q q′ : List ℕ) (x v m : ℕ) (r : Queried) → placeFaultOf p q x ≡ 0 → length (p .pixels) ≡ places p →
+    v ≡ valueAt p x → m ≡ patchAt p x → q′ ≡ cleared (length (p .pixels)) q → QueryIs 0 v m r → QuerySays p x q q′ r
+answered-query p q q′ x v m r z n ev em c w =
+    let f = placeFaultOf p q x in
+    record {
+      answer =
+          w ∙
+          (ap₂ (λ (a b : ℕ). record { number = 0; value = a; ground = groundOf b }) ev em ∙
+          (ap (λ (k : ℕ). record { number = k; value = valueAt p x; ground = groundOf (patchAt p x) }) (sym z) ∙
+          sym (ap (λ (t : Bool). record { number = f; value = pick t (valueAt p x) 0; ground = groundOf (pick t (patchAt p x) 0) }) (eq-eqb f 0 z))));
+      work = cleared-left f (length (p .pixels)) p q q q′ z n refl c;
+    }

@@ -1,0 +1,2 @@
+-- Laws of blocks of cells.
+pub mod Blocks

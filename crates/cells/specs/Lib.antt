@@ -1,0 +1,2 @@
+-- What the functions on cells say.
+pub mod Blocks

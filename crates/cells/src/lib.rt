@@ -1,0 +1,51 @@
+// Memory of 16-bit cells: a cell as a number, filling, clearing.
+ghost use mathlib.Core.Path.{_≡_};
+ghost use mathlib.Core.List.{_++_};
+ghost use Prim.Native.Nat.{_+_, _≤_};
+ghost use lib.ListN.{length, drop, replicate};
+ghost use Rattle.cells.specs.Blocks.{Filled};
+
+// A cell as an index.
+pub fn wide(x: u16) -> usize
+    ensures { λ r. ⌜ r ≡ x ⌝ }
+{
+    x as usize
+}
+
+// A pixel's value as a number.
+pub fn value(pixel: u8) -> usize
+    ensures { λ r. ⌜ r ≡ pixel ⌝ }
+{
+    pixel as usize
+}
+
+// A pixel's value as a cell.
+pub fn level(x: u8) -> u16
+    ensures { λ r. ⌜ r ≡ x ⌝ }
+{
+    x as u16
+}
+
+// The n entries from b on become v.
+pub fn fill(cells: &mut [u16], b: usize, n: usize, v: u16)
+    requires { ⌜ b + n ≤ length (now cells) ⌝ }
+    ensures { λ _. ⌜ Filled b n v (now (cells .entry)) (now (cells .exit)) ⌝ }
+{
+    let mut i = 0;
+    while i < n {
+        cells[b + i] = v;
+        i += 1;
+    }
+}
+
+// The first m entries become 0.
+pub fn clear(cells: &mut [u16], m: usize)
+    requires { ⌜ m ≤ length (now cells) ⌝ }
+    ensures { λ _. ⌜ now (cells .exit) ≡ replicate m 0 ++ drop m (now (cells .entry)) ⌝ }
+{
+    let mut i = 0;
+    while i < m {
+        cells[i] = 0;
+        i += 1;
+    }
+}

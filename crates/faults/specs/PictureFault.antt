@@ -1,0 +1,26 @@
+-- The fault of a picture's arguments.
+use mathlib.Core.Bool.{Bool, true, false, _&&_, _||_, not}
+use Prim.Native.Nat.{ℕ, zero, suc, _*_}
+use lib.Dec.{eqb}
+use lib.ListN.{length}
+use Rattle.picture.specs.Pictures.{Picture, sideFits}
+
+-- the first number that is not 0
+abbrev pub firstOf : ℕ → ℕ → ℕ
+firstOf zero b = b
+firstOf (suc a) b = suc a
+
+-- a number if the test passes, else 0
+abbrev pub when : Bool → ℕ → ℕ
+when true n = n
+when false n = 0
+
+-- the fault of an adjacency, two sides and a number of pixels: 7, 3 or 8, and 0 for none
+unfoldable pub faultOf : ℕ → ℕ → ℕ → ℕ → ℕ
+faultOf a w h l =
+    firstOf (when (not (eqb a 4 || eqb a 8)) 7)
+    (firstOf (when (not (sideFits w && sideFits h)) 3) (when (not (eqb l (w * h))) 8))
+
+-- the fault of a picture
+abbrev pub pictureFault : Picture → ℕ
+pictureFault p = faultOf (p .adjacency) (p .width) (p .height) (length (p .pixels))

@@ -1,0 +1,43 @@
+// The fault of a picture's arguments.
+use geometry::inside;
+ghost use mathlib.Core.Path.{_≡_};
+ghost use mathlib.Core.Bool.{_&&_, _||_};
+ghost use lib.Dec.{eqb};
+ghost use Rattle.picture.specs.Pictures.{sideFits};
+ghost use Rattle.faults.specs.PictureFault.{faultOf};
+
+// The adjacency is 4 or 8.
+fn adjacency_fits(a: u32) -> bool
+    ensures { λ r. ⌜ r ≡ (eqb a 4 || eqb a 8) ⌝ }
+{
+    if a == 4 {
+        return true;
+    }
+    a == 8
+}
+
+// Both sides are 1 to 40.
+fn sides_fit(w: u32, h: u32) -> bool
+    ensures { λ r. ⌜ r ≡ (sideFits w && sideFits h) ⌝ }
+{
+    if inside(w as usize, 40) {
+        return inside(h as usize, 40);
+    }
+    false
+}
+
+// The number of the first fault of an adjacency, two sides and a number of pixels; 0 for none.
+pub fn picture_fault(a: u32, w: u32, h: u32, length: usize) -> u8
+    ensures { λ r. ⌜ r ≡ faultOf a w h length ⌝ }
+{
+    if !adjacency_fits(a) {
+        return 7;
+    }
+    if !sides_fit(w, h) {
+        return 3;
+    }
+    if length != w as usize * h as usize {
+        return 8;
+    }
+    0
+}

@@ -1,0 +1,81 @@
+-- `geometry::put_tested` meets its contract: each return is one law of what is put.
+use mathlib.Core.Path.{_≡_, sym, _∙_}
+use mathlib.Core.Bool.{true}
+use native.Mathlib.Omega.{arith}
+use borrow.Author.Tests.{not-true, not-false}
+use Rattle.geometry.proofs.Front.{right-fits, down-fits, step-leads, target-place, put-beside, put-beyond, put-written}
+use borrow.Author.Needs.{needs}
+use Rattle.geometry.proofs.put_tested.Statement.{statement}
+use Rattle.geometry.proofs.put_tested.Tie as tie
+
+plus-one-requires : tie.Need-plus-one-requires
+plus-one-requires c κs = search needs
+
+add-right : tie.Need-add-right
+add-right c = let f = right-fits _ _ _ _ _ _ _ (c .before .before .before .pre) _ (c .plus-one .ensures) in record { fits = omega arith }
+
+plus-one-requires-2 : tie.Need-plus-one-requires-2
+plus-one-requires-2 c κs = search needs
+
+add-down : tie.Need-add-down
+add-down c = let f = down-fits _ _ _ _ _ _ _ (c .before .before .before .before .before .pre) _ (c .plus-one2 .ensures) in record { fits = omega arith }
+
+inside-requires : tie.Need-inside-requires
+inside-requires c κs = search needs
+
+returns : tie.Need-returns
+returns c =
+    let t = c .before .inside in
+    put-beside _ _ _ _ _ _ (step-leads _ _ _ _ _ _ _ (c .before .before .before .before .before .before .before .pre) _ _ (c .before .before .before .before .plus-one .ensures) (c .before .before .plus-one2 .ensures)) _ _
+    (sym (t .ensures) ∙ not-true (t .result) (c .if1 .taken))
+
+inside-requires-2 : tie.Need-inside-requires-2
+inside-requires-2 c κs = search needs
+
+returns-2 : tie.Need-returns-2
+returns-2 c =
+    let t = c .before .before .before .inside in
+    let u = c .before .inside2 in
+    put-beyond _ _ _ _ _ _ (step-leads _ _ _ _ _ _ _ (c .before .before .before .before .before .before .before .before .before .pre) _ _ (c .before .before .before .before .before .before .plus-one .ensures) (c .before .before .before .before .plus-one2 .ensures)) _ _
+    (sym (t .ensures) ∙ not-false (t .result) (c .before .before .if1 .left))
+    (sym (u .ensures) ∙ not-true (u .result) (c .if2 .taken))
+
+put-place-requires : tie.Need-put-place-requires
+put-place-requires c κs =
+    let t = c .before .before .before .before .inside in
+    let u = c .before .before .inside2 in
+    target-place _ _ _ _ _ _ _ (c .before .before .before .before .before .before .before .before .before .before .pre) _ _ (c .before .before .before .before .before .before .before .plus-one .ensures) (c .before .before .before .before .before .plus-one2 .ensures)
+    (sym (t .ensures) ∙ not-false (t .result) (c .before .before .before .if1 .left))
+    (sym (u .ensures) ∙ not-false (u .result) (c .before .if2 .left))
+
+same-length : tie.Need-same-length
+same-length c = search needs
+
+returns-3 : tie.Need-returns-3
+returns-3 c =
+    let t = c .before .before .before .before .before .before .before .inside in
+    let u = c .before .before .before .before .before .inside2 in
+    let p = c .before .before .before .before .before .before .before .before .before .before .before .before .before .pre in
+    let q = c .before .before .put-place .ensures in
+    put-written _ _ _ _ _ _ (step-leads _ _ _ _ _ _ _ p _ _ (c .before .before .before .before .before .before .before .before .before .before .plus-one .ensures) (c .before .before .before .before .before .before .before .before .plus-one2 .ensures)) _ _ _ _
+    (sym (t .ensures) ∙ not-false (t .result) (c .before .before .before .before .before .before .if1 .left))
+    (sym (u .ensures) ∙ not-false (u .result) (c .before .before .before .before .if2 .left))
+    (p .room)
+    (q .0)
+    (q .1)
+
+pub put-tested-spec : {M : Type 1} → statement M
+put-tested-spec =
+    tie.close
+    (tie.spec
+    plus-one-requires
+    add-right
+    plus-one-requires-2
+    add-down
+    inside-requires
+    returns
+    inside-requires-2
+    returns-2
+    put-place-requires
+    same-length
+    returns-3)

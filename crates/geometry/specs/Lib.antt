@@ -1,0 +1,2 @@
+-- What the functions behind the neighbours say.
+pub mod Steps

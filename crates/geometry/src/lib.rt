@@ -1,0 +1,167 @@
+// The neighbours of a place, from a table of eight steps.
+use picture::Step;
+ghost use mathlib.Core.Path.{_≡_};
+ghost use mathlib.Core.List.{[], _∷_};
+ghost use Prim.Native.Nat.{_+_, _-_, _*_, _≤_, _<_};
+ghost use mathlib.Core.Bool.{true};
+ghost use lib.ListN.{length, set};
+ghost use Rattle.picture.specs.Geometry.{plusOne, within, reached, neighboursOf, Placed, Listed};
+ghost use Rattle.geometry.specs.Steps.{isUnit, strideOf, offEdge, inner, Stepping, Put};
+
+// The eight steps in their order; adjacency 4 uses every second one.
+pub const STEPS: [Step; 8] = [
+    Step { column: 0, row: -1 },
+    Step { column: 1, row: -1 },
+    Step { column: 1, row: 0 },
+    Step { column: 1, row: 1 },
+    Step { column: 0, row: 1 },
+    Step { column: -1, row: 1 },
+    Step { column: -1, row: 0 },
+    Step {
+        column: -1,
+        row: -1,
+    },
+];
+
+// A step with one added, which is not negative.
+fn plus_one(step: i8) -> usize
+    requires { ⌜ isUnit step ≡ true ⌝ }
+    ensures { λ r. ⌜ r ≡ plusOne step ⌝ }
+{
+    (step as isize + 1) as usize
+}
+
+// The distance in the table from a step that an adjacency uses to the next.
+fn stride(a: u32) -> usize
+    ensures { λ r. ⌜ r ≡ strideOf a ⌝ }
+{
+    if a == 4 {
+        return 2;
+    }
+    1
+}
+
+// A number lies from 1 to a side.
+pub fn inside(c: usize, side: usize) -> bool
+    ensures { λ r. ⌜ r ≡ within side c ⌝ }
+{
+    if c < 1 {
+        return false;
+    }
+    c <= side
+}
+
+// A column or a row does not lie at the edge.
+fn off_edge(c: usize, side: usize) -> bool
+    requires { ⌜ c < 1600 ⌝ }
+    ensures { λ r. ⌜ r ≡ offEdge side c ⌝ }
+{
+    if c < 1 {
+        return false;
+    }
+    c + 1 < side
+}
+
+// Neither the column nor the row lies at the edge: every step stays inside.
+fn is_inner(w: usize, h: usize, column: usize, row: usize) -> bool
+    requires { ⌜ (column < 1600) × (row < 1600) ⌝ }
+    ensures { λ r. ⌜ r ≡ inner w h column row ⌝ }
+{
+    if !off_edge(column, w) {
+        return false;
+    }
+    off_edge(row, h)
+}
+
+// Puts the place of a column and a row, each given plus one, behind the first m cells, and answers the number of cells in front.
+fn put_place(w: usize, right: usize, down: usize, cells: &mut [u16], m: usize) -> usize
+    requires { ⌜ (1 ≤ right) × (1 ≤ down) × ((down - 1) * w + (right - 1) < 1600) × (m < length (now cells)) ⌝ }
+    ensures { λ r. ⌜ (r ≡ m + 1) × (now (cells .exit) ≡ set (now (cells .entry)) m ((down - 1) * w + (right - 1))) ⌝ }
+{
+    cells[m] = ((down - 1) * w + (right - 1)) as u16;
+    m + 1
+}
+
+// Puts the place that a step leads to from an inner column and row behind the first m cells, and answers the number of cells in front.
+fn put_inner(
+    w: usize,
+    h: usize,
+    column: usize,
+    row: usize,
+    step: Step,
+    cells: &mut [u16],
+    m: usize,
+) -> usize
+    requires { ⌜ Stepping w h column row step m (now cells) × (inner w h column row ≡ true) ⌝ }
+    ensures { λ r. ⌜ Put (reached w h (row * w + column) (step ∷ [])) m (now (cells .entry)) r (now (cells .exit)) ⌝ }
+{
+    let right = column + plus_one(step.column);
+    let down = row + plus_one(step.row);
+    put_place(w, right, down, cells, m)
+}
+
+// The same from any column and row, if the step stays inside the edge.
+fn put_tested(
+    w: usize,
+    h: usize,
+    column: usize,
+    row: usize,
+    step: Step,
+    cells: &mut [u16],
+    m: usize,
+) -> usize
+    requires { ⌜ Stepping w h column row step m (now cells) ⌝ }
+    ensures { λ r. ⌜ Put (reached w h (row * w + column) (step ∷ [])) m (now (cells .entry)) r (now (cells .exit)) ⌝ }
+{
+    let right = column + plus_one(step.column);
+    let down = row + plus_one(step.row);
+    if !inside(right, w) {
+        return m;
+    }
+    if !inside(down, h) {
+        return m;
+    }
+    put_place(w, right, down, cells, m)
+}
+
+// The same; inner places need no test.
+fn put_step(
+    free: bool,
+    w: usize,
+    h: usize,
+    column: usize,
+    row: usize,
+    step: Step,
+    cells: &mut [u16],
+    m: usize,
+) -> usize
+    requires { ⌜ Stepping w h column row step m (now cells) × (free ≡ inner w h column row) ⌝ }
+    ensures { λ r. ⌜ Put (reached w h (row * w + column) (step ∷ [])) m (now (cells .entry)) r (now (cells .exit)) ⌝ }
+{
+    if free {
+        return put_inner(w, h, column, row, step, cells, m);
+    }
+    put_tested(w, h, column, row, step, cells, m)
+}
+
+// Puts the neighbours of a place in front of the cells, in the order of the table, and answers how many there are.
+pub fn neighbours(a: u32, w: u32, h: u32, x: usize, cells: &mut [u16]) -> usize
+    requires { ⌜ Placed w h x × (8 ≤ length (now cells)) ⌝ }
+    ensures { λ r. ⌜ Listed (neighboursOf a w h x) (now (cells .entry)) r (now (cells .exit)) ⌝ }
+{
+    let width = w as usize;
+    let height = h as usize;
+    let column = x % width;
+    let row = x / width;
+    let free = is_inner(width, height, column, row);
+    let next = stride(a);
+    // a local, since each reading of a constant table writes it to the stack
+    let steps = STEPS;
+    let mut m = 0;
+    let mut i = 0;
+    while i < 8 {
+        m = put_step(free, width, height, column, row, steps[i], cells, m);
+        i += next;
+    }
+    m
+}

@@ -1,0 +1,3 @@
+-- The lines of the hold list.
+pub mod Lines
+pub mod Figures

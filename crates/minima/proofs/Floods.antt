@@ -1,0 +1,294 @@
+-- The laws of the functions that count the minima: a visit, the edges of a place, the run of a flood.
+use mathlib.Core.Path.{_≡_, refl, sym, ap, subst, _∙_}
+use mathlib.Core.Bool.{Bool, true, false}
+use mathlib.Core.Logic.{_≢_}
+use mathlib.Core.List.{List, [], _∷_}
+use Prim.Native.Nat.{ℕ, zero, suc, _+_, _-_, _≤_, _<_}
+use native.Mathlib.Numerals.{add-one}
+use native.Mathlib.Omega.{arith}
+use lib.Dec.{eqb}
+use lib.ListN.{length, getD, set, drop, length-set, List·getD-append}
+use lib.Seq.{drop-cons, drop-nil, set-set, set-getD}
+use Rattle.picture.specs.Lists.{range}
+use Rattle.picture.specs.Pictures.{Picture, places, valueAt, isPicture}
+use Rattle.picture.specs.Geometry.{neighboursIn, Listed, Placed}
+use Rattle.picture.specs.Patches.{patches}
+use Rattle.picture.proofs.Neighbours.{neighbour-at, neighbours-touch}
+use Rattle.topology.proofs.Lists.{in-mem, tally-length, length-range}
+use Rattle.topology.proofs.Connected.{start, conn-target}
+use Rattle.topology.proofs.Adjacency.{Adj}
+use Rattle.topology.proofs.Zones.{Flat, Flooding, Flooded, flood-start, flood-pop, flood-done, flood-lower, flood-higher, flood-visited, flood-visit, flood-end}
+use Rattle.topology.proofs.ZoneScan.{unvisited-set, Scanned, scan-start, scan-seen, scan-fresh, scan-lower, scan-minimum, scan-end}
+use Rattle.topology.proofs.Leaves.{bottom}
+use Rattle.topology.proofs.Accepted.{accepted-is, places-bound}
+use Rattle.minima.specs.declared.Stack.{Stack}
+use Rattle.minima.specs.Minima.{Sizes, Room, Moved, popped, Floods, Visit, Spread, Turn, Seed, Counting}
+use Rattle.cells.specs.Blocks.{Filled}
+
+module _ (pixels : List ℕ) (k y : ℕ) (cells : List ℕ) (s : Stack) (room : Room pixels cells s) where
+  stays : Moved cells s cells s
+  stays = record { size = refl; link = room .link; room = omega arith; less = omega arith }
+
+  -- the value of the place in a picture with these pixels
+  value-in : (p : Picture) → p .pixels ≡ pixels → valueAt p y ≡ getD pixels y 0
+  value-in p e = ap (λ (l : List ℕ). getD l y 0) e
+
+  pub visit-lower : getD pixels y 0 < k → Visit pixels k y cells s cells (record { top = s .top; height = s .height; low = true })
+  visit-lower h =
+      record {
+        moved = record { size = refl; link = room .link; room = omega arith; less = omega arith };
+        follows =
+            λ p x q before zs e b r f.
+            flood-lower p k x before cells (s .top) (s .height) (s .low) q y zs f r b
+            (let v = value-in p e in omega arith);
+      }
+
+  pub visit-higher : k < getD pixels y 0 → Visit pixels k y cells s cells s
+  visit-higher h =
+      record {
+        moved = stays;
+        follows =
+            λ p x q before zs e b r f.
+            flood-higher p k x before cells (s .top) (s .height) (s .low) q y zs f (let v = value-in p e in omega arith);
+      }
+
+  pub visit-visited : getD pixels y 0 ≡ k → getD cells y 0 ≢ 65535 → Visit pixels k y cells s cells s
+  visit-visited h m =
+      record {
+        moved = stays;
+        follows =
+            λ p x q before zs e b r f.
+            flood-visited p k x before cells (s .top) (s .height) (s .low) q y zs f (value-in p e ∙ h) m;
+      }
+
+  pub visit-new :
+      y < length pixels → getD pixels y 0 ≡ k → getD cells y 0 ≡ 65535 →
+      Visit pixels k y cells s (set cells y (s .top)) (record { top = y; height = s .height + 1; low = s .low })
+  visit-new b h m =
+      let size = room .sizes .size in
+      let few = room .sizes .few in
+      let c : y < length cells = omega arith in
+      let u = unvisited-set cells y (s .top) c m (room .link) in
+      let d : y ≢ 65535 = λ e. absurd (omega arith) in
+      record {
+        moved = record { size = length-set cells y (s .top); link = d; room = omega arith; less = omega arith };
+        follows =
+            λ p x q before zs e i r f.
+            subst (λ (t : ℕ). Flooding p k x before (set cells y (s .top)) y t (s .low) q zs) (sym (add-one (s .height)))
+            (flood-visit p k x before cells (s .top) (s .height) (s .low) q y zs f r i (value-in p e ∙ h) m c d);
+      }
+
+-- what stands in front of the cells
+pub listed-at : (ns cells after : List ℕ) (r : ℕ) → Listed ns cells r after → (i : ℕ) → i < r → getD after i 0 ≡ getD ns i 0
+listed-at ns cells after r l i h =
+    let n = l .count in
+    ap (λ (m : List ℕ). getD m i 0) (l .whole) ∙ List·getD-append ns (drop r cells) 0 i (omega arith)
+
+-- nothing is left past the end
+drop-all : (i : ℕ) (l : List ℕ) → length l ≤ i → drop i l ≡ []
+drop-all i [] h = drop-nil i
+drop-all zero (x ∷ xs) h = absurd (omega arith)
+drop-all (suc i) (x ∷ xs) h = drop-all i xs (omega arith)
+
+module _ (p : Picture) (k q : ℕ) where
+  pub spread-none : (zs cells : List ℕ) (s : Stack) → s .top ≢ 65535 → Spread p k q zs zs cells s cells s
+  spread-none zs cells s d =
+      record {
+        moved = record { size = refl; link = d; room = omega arith; less = omega arith };
+        follows = λ x before f. f;
+      }
+
+  -- the visit to the next of the neighbours of q
+  pub spread-next :
+      (i y : ℕ) (cells : List ℕ) (s : Stack) (m : List ℕ) (u : Stack) (o : List ℕ) (v : Stack) →
+      i < length (neighboursIn p q) → y ≡ getD (neighboursIn p q) i 0 →
+      Spread p k q (neighboursIn p q) (drop i (neighboursIn p q)) cells s m u → Visit (p .pixels) k y m u o v →
+      Spread p k q (neighboursIn p q) (drop (i + 1) (neighboursIn p q)) cells s o v
+  spread-next i y cells s m u o v h e f g =
+      let (b, r) = neighbour-at p q i h in
+      let a = f .moved in
+      let c = g .moved in
+      let split : drop i (neighboursIn p q) ≡ y ∷ drop (i + 1) (neighboursIn p q) =
+      drop-cons (neighboursIn p q) i 0 h ∙
+      (ap (λ (z : ℕ). z ∷ drop (suc i) (neighboursIn p q)) (sym e) ∙
+      ap (λ (j : ℕ). y ∷ drop j (neighboursIn p q)) (sym (add-one i)))
+      in
+      record {
+        moved =
+            record {
+              size = c .size ∙ a .size;
+              link = c .link;
+              room = let x = a .room in let z = c .room in omega arith;
+              less = let x = a .less in let z = c .less in omega arith;
+            };
+        follows =
+            λ x before w.
+            g .follows p x q before (drop (i + 1) (neighboursIn p q)) refl
+            (subst (λ (z : ℕ). z < places p) (sym e) b)
+            (subst (λ (z : ℕ). Adj p q z) (sym e) r)
+            (subst (λ (zs : List ℕ). Floods p k x before m u q zs) split (f .follows x before w));
+      }
+
+  -- the room for the next visit, if x was on top of the stack before
+  pub spread-room :
+      (pixels zs us cells : List ℕ) (s : Stack) (m : List ℕ) (u : Stack) (x : ℕ) → Room pixels cells s →
+      Spread p k q zs us cells (popped cells x s) m u → Room pixels m u
+  spread-room pixels zs us cells s m u x r f =
+      let a = f .moved .room in
+      let b = r .room in
+      record {
+        sizes = record { few = r .sizes .few; size = f .moved .size ∙ r .sizes .size };
+        link = f .moved .link;
+        room = omega arith;
+      }
+
+  -- all neighbours of the top visited
+  pub spread-turn :
+      (cells : List ℕ) (s : Stack) (after : List ℕ) (r : Stack) (i : ℕ) → 1 ≤ p .width → q ≡ s .top → 1 ≤ s .height →
+      length (neighboursIn p q) ≤ i →
+      Spread p k q (neighboursIn p q) (drop i (neighboursIn p q)) cells (popped cells q s) after r → Turn p k cells s after r
+  spread-turn cells s after r i some e h n f =
+      record {
+        moved = subst (λ (x : ℕ). Moved cells (popped cells x s) after r) e (f .moved);
+        follows =
+            λ x before a w.
+            flood-done p k x before after (r .top) (r .height) (r .low)
+            (subst (λ (zs : List ℕ). Floods p k x before after r q zs) none
+            (f .follows x before
+            (flood-pop p k x before cells q (s .height - 1) (s .low) (neighboursIn p q)
+            (subst (λ (z : ℕ). Flooding p k x before cells z (suc (s .height - 1)) (s .low) x []) (sym e)
+            (subst (λ (t : ℕ). Flooding p k x before cells (s .top) t (s .low) x []) up w))
+            (λ z b g. in-mem z (neighboursIn p q) (neighbours-touch p q z some .1 (b, g))))))
+            a;
+      }
+    where
+      up : s .height ≡ suc (s .height - 1)
+      up = omega arith
+
+      none : drop i (neighboursIn p q) ≡ []
+      none = drop-all i (neighboursIn p q) n
+
+-- a flood of the zone of x as it runs
+pub record Running (p : Picture) (k x : ℕ) (before cells : List ℕ) (s : Stack) : Type 0 where
+  pub room : Room (p .pixels) cells s
+  pub flat : Flat p k x
+  pub flooding : Floods p k x before cells s x []
+
+module _ (p : Picture) (x : ℕ) where
+  -- the cells before the flood, from those with the first place visited
+  before-start : (cells : List ℕ) → getD cells x 0 ≡ 65535 → set (set cells x 65534) x 65535 ≡ cells
+  before-start cells e = set-set cells x 65534 65535 ∙ (ap (set cells x) (sym e) ∙ set-getD cells x 0)
+
+  pub running-start :
+      (cells : List ℕ) → Sizes (p .pixels) cells → length (p .pixels) ≡ places p → x < places p → Seed p x cells →
+      Running p (valueAt p x) x (set (set cells x 65534) x 65535) (set cells x 65534) (record { top = x; height = 1; low = false })
+  running-start cells z n b f =
+      let flat : Flat p (valueAt p x) x = record { within = b; value = refl } in
+      let size = z .size in
+      let few = z .few in
+      let h : x < length cells = omega arith in
+      let new = f .fresh x (start flat) in
+      let d : x ≢ 65535 = λ e. absurd (omega arith) in
+      let u = unvisited-set cells x 65534 h new (λ e. absurd (omega arith)) in
+      let most = tally-length (eqb 65535) cells in
+      record {
+        room =
+            record {
+              sizes = record { few = few; size = length-set cells x 65534 ∙ size };
+              link = d;
+              room = omega arith;
+            };
+        flat = flat;
+        flooding =
+            subst (λ (l : List ℕ). Flooding p (valueAt p x) x l (set cells x 65534) x 1 false x []) (sym (before-start cells new))
+            (flood-start p (valueAt p x) x cells flat h d (f .fresh));
+      }
+
+  module _ (k : ℕ) (before cells : List ℕ) (s : Stack) (f : Running p k x before cells s) where
+    -- what lies on the stack is a place that is visited
+    pub running-top : 1 ≤ s .height → (s .top < places p) × (getD cells (s .top) 0 ≢ 65535)
+    running-top h = let (c, m) = f .flooding .stack 0 (omega arith) in (conn-target c .within, m)
+
+    pub running-turn : (after : List ℕ) (r : Stack) → 1 ≤ s .height → Turn p k cells s after r → Running p k x before after r
+    running-turn after r h t =
+        let a = t .moved .room in
+        let b = f .room .room in
+        let n = f .room .sizes .size in
+        record {
+          room =
+              record {
+                sizes = record { few = f .room .sizes .few; size = t .moved .size ∙ n };
+                link = t .moved .link;
+                room = omega arith;
+              };
+          flat = f .flat;
+          flooding = t .follows x before (f .flat) (f .flooding);
+        }
+
+  pub running-end :
+      (cells after : List ℕ) (s : Stack) → Seed p x cells → x < places p → s .height ≡ 0 →
+      Running p (valueAt p x) x (set (set cells x 65534) x 65535) after s → Flooded p (valueAt p x) x cells after (s .low)
+  running-end cells after s g b e f =
+      let new = g .fresh x (start (f .flat)) in
+      subst (λ (l : List ℕ). Flooded p (valueAt p x) x l after (s .low)) (before-start cells new)
+      (flood-end p (valueAt p x) x (set (set cells x 65534) x 65535) after (s .top) (s .low)
+      (subst (λ (t : ℕ). Flooding p (valueAt p x) x (set (set cells x 65534) x 65535) after (s .top) t (s .low) x []) e (f .flooding)))
+
+-- the steps of the count
+module _ (p : Picture) (x r : ℕ) (cells : List ℕ) (c : Counting p x r cells) (b : x < places p) where
+  pub counting-few : r ≤ x
+  counting-few =
+      let e = c .scanned .count in
+      let a = tally-length (bottom p) (range 0 x) in
+      let n = length-range 0 x in
+      omega arith
+
+  pub counting-pixels : length (p .pixels) ≡ places p
+  counting-pixels = accepted-is p (c .accepted) .size
+
+  pub counting-placed : Placed (p .width) (p .height) x
+  counting-placed =
+      let a = accepted-is p (c .accepted) in record { some = a .wide; wide = a .narrow; high = a .short; inside = b }
+
+  pub counting-sizes : Sizes (p .pixels) cells
+  counting-sizes =
+      let n = places-bound p (accepted-is p (c .accepted)) in
+      let e = counting-pixels in
+      record { few = omega arith; size = c .size ∙ sym counting-pixels }
+
+  pub counting-seed : getD cells x 0 ≡ 65535 → Seed p x cells
+  counting-seed new = record { fresh = scan-fresh p x r cells b (c .scanned) new }
+
+  counted : (q : ℕ) (after : List ℕ) → length after ≡ length cells → Scanned p (suc x) q after → Counting p (x + 1) q after
+  counted q after e s =
+      record {
+        accepted = c .accepted;
+        size = e ∙ c .size;
+        scanned = subst (λ (y : ℕ). Scanned p y q after) (sym (add-one x)) s;
+      }
+
+  pub counting-seen : getD cells x 0 ≢ 65535 → Counting p (x + 1) r cells
+  counting-seen m = counted r cells refl (scan-seen p x r cells b (c .scanned) m)
+
+  module _ (new : getD cells x 0 ≡ 65535) (after : List ℕ) (low : Bool) (f : Flooded p (valueAt p x) x cells after low) (e : length after ≡ length cells) where
+    pub counting-lower : low ≡ true → Counting p (x + 1) r after
+    counting-lower l = counted r after e (scan-lower p x r cells b (c .scanned) new after low f l)
+
+    pub counting-minimum : low ≡ false → Counting p (x + 1) (r + 1) after
+    counting-minimum l =
+        subst (λ (q : ℕ). Counting p (x + 1) q after) (sym (add-one r))
+        (counted (suc r) after e (scan-minimum p x r cells b (c .scanned) new after low f l))
+
+pub counting-start :
+    (p : Picture) (cells after : List ℕ) (n : ℕ) → isPicture p ≡ true → length cells ≡ places p → n ≡ places p →
+    Filled 0 n 65535 cells after → Counting p 0 0 after
+counting-start p cells after n ok e m f =
+    record {
+      accepted = ok;
+      size = f .kept .size ∙ e;
+      scanned = scan-start p after (λ y b. let i : 0 + y ≡ y = omega arith in subst (λ (z : ℕ). getD after z 0 ≡ 65535) i (f .inside y (omega arith)));
+    }
+
+pub counting-end : (p : Picture) (x r : ℕ) (cells : List ℕ) → x ≡ places p → Counting p x r cells → r ≡ length (patches p)
+counting-end p x r cells e c =
+    scan-end p r cells (accepted-is p (c .accepted)) (subst (λ (y : ℕ). Scanned p y r cells) e (c .scanned))

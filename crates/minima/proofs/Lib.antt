@@ -1,0 +1,2 @@
+-- Laws of the floods of flat zones.
+pub mod Floods

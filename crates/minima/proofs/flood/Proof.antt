@@ -1,0 +1,94 @@
+-- `minima::flood` meets its contract. The invariant is Running; twice the unvisited places with the stack's height fall.
+use Prim.Native.Nat.{_+_, _*_}
+use native.Mathlib.Omega.{arith}
+use lib.ListN.{set}
+use borrow.Author.Needs.{needs}
+use Rattle.topology.proofs.ZoneScan.{unvisited}
+use Rattle.picture.specs.Pictures.{pictureOf}
+use Rattle.minima.proofs.Floods.{Running, running-start, running-top, running-turn, running-end}
+use Rattle.minima.proofs.flood.Statement.{statement}
+use Rattle.minima.proofs.flood.Tie as tie
+
+abbrev Inv-loop : tie.InvT-loop
+Inv-loop a w h pixels x cells₀ k s₀ cells s = Running (pictureOf a w h pixels) k x (set cells₀ x 65535) cells s
+
+abbrev μ-loop : tie.MeasureT-loop
+μ-loop a w h pixels x cells₀ k s₀ cells s = 2 * unvisited cells + s .height
+
+shared-slice-read-k : tie.Need-shared-slice-read-k Inv-loop μ-loop
+shared-slice-read-k c = let i = c .before .before .before .pre .0 .inside in let n = c .before .before .before .pre .2 in omega arith
+
+mul-cells : tie.Need-mul-cells Inv-loop μ-loop
+mul-cells c = search needs
+
+slice-write-cells : tie.Need-slice-write-cells Inv-loop μ-loop
+slice-write-cells c =
+    let i = c .before .before .before .pre .0 .inside in
+    let n = c .before .before .before .pre .2 in
+    let e = c .before .before .before .pre .1 .size in
+    omega arith
+
+cast-t13 : tie.Need-cast-t13 Inv-loop μ-loop
+cast-t13 c =
+    let i = c .before .before .before .pre .0 .inside in
+    let n = c .before .before .before .pre .2 in
+    let e = c .before .before .before .pre .1 .few in
+    omega arith
+
+loop-holds : tie.Need-loop-holds Inv-loop μ-loop
+loop-holds c =
+    let s = c .before .before .before in
+    let p = pictureOf (s .args .a) (s .args .w) (s .args .h) (s .args .pixels .now) in
+    running-start p _ _ (s .pre .1) (s .pre .2) (s .pre .0 .inside) (s .pre .3)
+
+spread-requires : tie.Need-spread-requires Inv-loop μ-loop
+spread-requires c κs =
+    let s = c .before .before .before .before .before .before .before in
+    let p = pictureOf (s .args .a) (s .args .w) (s .args .h) (s .args .pixels .now) in
+    let top = running-top p _ _ _ _ _ (c .before .before .before .loop .inv) (c .before .if1 .taken) in
+    let a = s .pre .0 in (
+      record { some = a .some; wide = a .wide; high = a .high; inside = top .0 },
+      c .before .before .before .loop .inv .room,
+      s .pre .2,
+      c .before .if1 .taken,
+      top .1,
+    )
+
+loop-less : tie.Need-loop-less Inv-loop μ-loop
+loop-less c =
+    let m = c .before .before .spread .ensures .moved in
+    let a = m .room in
+    let b = m .less in
+    omega arith
+
+loop-again : tie.Need-loop-again Inv-loop μ-loop
+loop-again c =
+    let s = c .before .before .before .before .before .before .before .before .before .before in
+    let p = pictureOf (s .args .a) (s .args .w) (s .args .h) (s .args .pixels .now) in
+    running-turn p _ _ _ _ _ (c .before .before .before .before .before .before .loop .inv) _ _ (c .before .before .before .before .if1 .taken) (c .before .before .spread .ensures)
+
+same-length : tie.Need-same-length Inv-loop μ-loop
+same-length c = search needs
+
+returns : tie.Need-returns Inv-loop μ-loop
+returns c =
+    let s = c .before .before .before .before .before .before in
+    let p = pictureOf (s .args .a) (s .args .w) (s .args .h) (s .args .pixels .now) in
+    running-end p _ _ _ _ (s .pre .3) (s .pre .0 .inside) (omega arith) (c .before .before .loop .inv)
+
+pub flood-spec : {M : Type 1} → statement M
+flood-spec =
+    tie.close
+    (tie.spec
+    Inv-loop
+    μ-loop
+    shared-slice-read-k
+    mul-cells
+    slice-write-cells
+    cast-t13
+    loop-holds
+    spread-requires
+    loop-less
+    loop-again
+    same-length
+    returns)

@@ -1,0 +1,2 @@
+-- What the functions that count the minima say.
+pub mod Minima

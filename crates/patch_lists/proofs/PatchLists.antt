@@ -1,0 +1,197 @@
+-- The laws of the call that lists the patches: its fault, that height and depth of a patch are bytes, the records read off the figures, and what the call leaves.
+use mathlib.Core.Path.{_≡_, refl, sym, ap, ap₂, subst, _∙_}
+use mathlib.Core.Bool.{Bool, true, false}
+use mathlib.Core.Logic.{_≢_, by-cases}
+use mathlib.Core.List.{List, [], _∷_, _++_, map}
+use Prim.Native.Nat.{ℕ, suc, _+_, _*_, _≤_, _<_}
+use native.Mathlib.Decide.{decLt}
+use native.Mathlib.Omega.{arith}
+use lib.Dec.{eqb, ltb, leb}
+use lib.ListN.{length, getD, take, drop, replicate, length-replicate, length-map, List·getD-append, List·getD-map, List·getD-eq-default}
+use lib.Seq.{length-front, ext-getD}
+use borrow.Author.Tests.{lt-ltb, le-ltb, ltb-false, ne-eqb}
+use Rattle.picture.specs.Lists.{pick, range, highest}
+use Rattle.picture.specs.Pictures.{Picture, places, isPicture}
+use Rattle.faults.specs.PictureFault.{firstOf, when, pictureFault}
+use Rattle.picture.specs.Trees.{Node, nodes, nodeAt, fatherOf, mapOf}
+use Rattle.picture.specs.Patches.{patches, depthOf}
+use Rattle.picture.proofs.Sides.{area-most}
+use Rattle.topology.proofs.Tests.{on-pick}
+use Rattle.topology.proofs.Lists.{length-range, getD-map-range}
+use Rattle.topology.proofs.Accepted.{Accepted, accepted-is, byte-at}
+use Rattle.topology.proofs.Nodes.{node-is}
+use Rattle.topology.proofs.PatchSums.{patch-begins, count-few, patch-height, patch-depth}
+use Rattle.patches.specs.Figures.{noPatch, Figures}
+use Rattle.patch_records.specs.Records.{Entry, Entries, recordAt, records}
+use Rattle.answers.specs.declared.Answer.{Answer}
+use Rattle.faults.specs.Faults.{workFault}
+use Rattle.answers.specs.Answers.{Refused, Accepted as Accepting}
+use Rattle.patch_lists.specs.PatchLists.{listFault, recordOf, Figured, Gathered}
+use Rattle.faults.proofs.Laws.{first-some, first-none, first-zero, first-either, when-zero, workFaultOf}
+use Rattle.answers.proofs.Shell.{refused-answer, refused-left, accepted-answer, cleared-left, lent-length, behind-lent}
+
+-- the fault, after that of the picture and of work
+module _ (p : Picture) (room work : ℕ) where
+  list-is : firstOf (workFaultOf p work) (when (ltb room (length (patches p))) 9) ≡ listFault p room work
+  unfolding workFault listFault
+  list-is = first-either (pictureFault p) 8 (ltb room (length (patches p))) (ltb work (5 * places p))
+
+  pub list-first : (r : ℕ) → r ≡ workFaultOf p work → r ≢ 0 → r ≡ listFault p room work
+  list-first r e d = first-some (workFaultOf p work) _ r e d ∙ list-is
+
+  pub list-short : workFaultOf p work ≡ 0 → room < length (patches p) → 9 ≡ listFault p room work
+  list-short e b =
+      sym (first-none (workFaultOf p work) _ e ∙ ap (λ (t : Bool). when t 9) (lt-ltb room (length (patches p)) b)) ∙ list-is
+
+  pub list-none : workFaultOf p work ≡ 0 → length (patches p) ≤ room → 0 ≡ listFault p room work
+  list-none e b =
+      sym (first-none (workFaultOf p work) _ e ∙ ap (λ (t : Bool). when t 9) (le-ltb room (length (patches p)) b)) ∙ list-is
+
+  pub list-enough : listFault p room work ≡ 0 → (workFaultOf p work ≡ 0) × (length (patches p) ≤ room)
+  list-enough e =
+      let z = first-zero (workFaultOf p work) (when (ltb room (length (patches p))) 9) (list-is ∙ e) in
+      (z .0, ltb-false room (length (patches p)) (when-zero 8 (ltb room (length (patches p))) (z .1)))
+
+-- a largest value of bytes is a byte
+highest-byte : (l : List ℕ) → ((i : ℕ) → getD l i 0 ≤ 255) → highest l ≤ 255
+highest-byte [] f = omega arith
+highest-byte (x ∷ xs) f =
+    on-pick (λ (v : ℕ). v ≤ 255) (leb (highest xs) x) (λ e. f 0) (λ e. highest-byte xs (λ i. f (suc i)))
+
+-- an accepted picture has at most 1,600 places, and heights and depths of its patches are bytes
+module _ (p : Picture) (h : isPicture p ≡ true) where
+  ok : Accepted p
+  ok = accepted-is p h
+
+  pub pixels-few : length (p .pixels) ≤ 1600
+  pixels-few = let a = area-most (p .width) (p .height) (ok .narrow) (ok .short) in let e = ok .size in omega arith
+
+  -- a cell a pixel of a local array
+  pub cells-lent : length (p .pixels) ≡ length (take (length (p .pixels)) (replicate {A = ℕ} 1600 0))
+  cells-lent = lent-length (length (p .pixels)) (replicate {A = ℕ} 1600 0) (omega (arith, pixels-few, length-replicate {A = ℕ} 1600 0))
+
+  pub pixels-places : length (p .pixels) ≡ places p
+  pixels-places = ok .size
+
+  pub patches-few : length (patches p) ≤ 1600
+  patches-few = let a = count-few p ok in let e = ok .size in let f = pixels-few in omega arith
+
+  node-byte : (i : ℕ) → nodeAt p i .height ≤ 255
+  node-byte i =
+      by-cases (decLt i (length (nodes p)))
+      (λ l. node-is p i l .low)
+      (λ l.
+      let b : length (nodes p) ≤ i = omega arith in
+      let e = ap (λ (n : Node). n .height) (List·getD-eq-default (nodes p) (record { height = 0; first = 0 }) {n = i} b) in
+      omega (arith, e))
+
+  depth-byte : (n : Node) → depthOf p n ≤ 255
+  unfolding depthOf
+  depth-byte n =
+      let most : pick (eqb (fatherOf p n) 65535) (highest (p .pixels)) (nodeAt p (fatherOf p n) .height) ≤ 255 =
+      on-pick (λ (v : ℕ). v ≤ 255) (eqb (fatherOf p n) 65535)
+      (λ e. highest-byte (p .pixels) (byte-at (p .pixels) (ok .bytes)))
+      (λ e. node-byte (fatherOf p n))
+      in
+      omega arith
+
+  -- of a patch by its index
+  module _ (i : ℕ) (b : i < length (patches p)) where
+    pub height-fits : getD (patches p) i noPatch .height ≤ 255
+    height-fits =
+        let (z, c, t, e) = patch-begins p ok i b in
+        subst (λ (j : ℕ). getD (patches p) j noPatch .height ≤ 255) e
+        (subst (λ (v : ℕ). v ≤ 255) (sym (patch-height p ok z noPatch c t)) (byte-at (p .pixels) (ok .bytes) z))
+
+    pub depth-fits : getD (patches p) i noPatch .depth ≤ 255
+    depth-fits =
+        let (z, c, t, e) = patch-begins p ok i b in
+        subst (λ (j : ℕ). getD (patches p) j noPatch .depth ≤ 255) e
+        (subst (λ (v : ℕ). v ≤ 255) (sym (patch-depth p ok z noPatch c t)) (depth-byte (nodeAt p (mapOf p z))))
+
+  -- the figures in the first 5 n entries of work, as records
+  module _ (r : ℕ) (q ys cells : List ℕ) (room : 5 * length (p .pixels) ≤ length q) (long : length ys ≡ 5 * places p) (f : Figures p r ys cells) where
+    abbrev after : List ℕ
+    after = ys ++ drop (5 * length (p .pixels)) q
+
+    few : r ≤ places p
+    few = let a = count-few p ok in let e = f .count in omega arith
+
+    inside : (j : ℕ) → j < 5 * places p → getD after j 0 ≡ getD ys j 0
+    inside j b = List·getD-append ys (drop (5 * length (p .pixels)) q) 0 j (omega (arith, b, long))
+
+    total : length after ≡ length q
+    total = let l = lent-length (5 * length (p .pixels)) q room in let e = ok .size in length-front q ys (5 * length (p .pixels)) (omega (arith, long, l, e))
+
+    record-is : (i : ℕ) → i < r → recordAt (places p) after i ≡ recordOf (getD (patches p) i noPatch)
+    unfolding recordAt
+    record-is i b j =
+        let zero-first : i ≡ 0 + i = omega arith in
+        record {
+          number = f .number i b j;
+          size = (inside i (omega (arith, few, b)) ∙ (ap (λ (k : ℕ). getD ys k 0) zero-first ∙ f .size i b)) j;
+          height = (inside (4 * places p + i) (omega (arith, few, b)) ∙ f .height i b) j;
+          depth = (inside (3 * places p + i) (omega (arith, few, b)) ∙ f .depth i b) j;
+          columns = (inside (places p + i) (omega (arith, few, b)) ∙ f .columns i b) j;
+          rows = (inside (2 * places p + i) (omega (arith, few, b)) ∙ f .rows i b) j;
+        }
+
+    entry-is : (i : ℕ) → i < r → Entry (places p) after i
+    entry-is i b =
+        let c : i < length (patches p) = subst (λ (m : ℕ). i < m) (f .count) b in
+        let x = inside (3 * places p + i) (omega (arith, few, b)) ∙ f .depth i b in
+        let y = inside (4 * places p + i) (omega (arith, few, b)) ∙ f .height i b in
+        record {
+          few = omega (arith, c, patches-few);
+          last = omega (arith, few, b, total, room, ok .size);
+          depth = omega (arith, x, depth-fits i c);
+          height = omega (arith, y, height-fits i c);
+        }
+
+    records-are : records (places p) after r ≡ map recordOf (patches p)
+    records-are =
+        let a = length-map (range 0 r) (recordAt (places p) after) ∙ length-range 0 r in
+        let m = length-map (patches p) recordOf in
+        ext-getD (recordOf noPatch) (records (places p) after r) (map recordOf (patches p)) (a ∙ (f .count ∙ sym m))
+        (λ i b.
+        let c : i < r = omega (arith, b, a) in
+        let e : 0 + i ≡ i = omega arith in
+        getD-map-range (recordAt (places p) after) (recordOf noPatch) 0 r i c ∙
+        (ap (recordAt (places p) after) e ∙ (record-is i c ∙ sym (List·getD-map recordOf (patches p) i noPatch))))
+
+    pub figured : Figured p q after r
+    figured =
+        record {
+          count = f .count;
+          entries = subst (λ (n : ℕ). Entries n after r) (sym (ok .size)) (record { entry = entry-is });
+          records = subst (λ (n : ℕ). records n after r ≡ map recordOf (patches p)) (sym (ok .size)) records-are;
+          rest = behind-lent (5 * length (p .pixels)) (5 * length (p .pixels)) ys q (let l = lent-length (5 * length (p .pixels)) q room in let e = ok .size in omega (arith, long, l, e)) (omega arith) room;
+        }
+
+-- the answer of a refusal, and that of an accepted call
+module _ (p : Picture) (room : ℕ) (q : List ℕ) where
+  pub gathered-refused : (g : ℕ) (r : Answer) → g ≡ listFault p room (length q) → g ≢ 0 → Refused g r → Gathered p room q q r
+  gathered-refused g r e d w =
+      subst (λ (s : Answer). Gathered p room q q s) (sym w)
+      (record {
+        answer = refused-answer (listFault p room (length q)) g e d (length (patches p)) _ refl;
+        fits = omega arith;
+        entries = record { entry = λ i b. absurd (omega arith) };
+        records = sym (ap (λ (t : Bool). pick t (map recordOf (patches p)) []) (ne-eqb g 0 d));
+        enough = λ z. absurd (d z);
+        left = sym (refused-left g g refl d _ q) ∙ refused-left g g refl d _ q;
+      })
+
+  pub gathered-accepted :
+      (q′ : List ℕ) (c : ℕ) (r : Answer) → listFault p room (length q) ≡ 0 → isPicture p ≡ true →
+      5 * length (p .pixels) ≤ length q′ → Figured p q q′ c → Accepting c r → Gathered p room q q′ r
+  gathered-accepted q′ c r z h long f w =
+      subst (λ (s : Answer). Gathered p room q q′ s) (sym w)
+      (record {
+        answer = accepted-answer (listFault p room (length q)) (length (patches p)) c _ z (f .count) refl;
+        fits = let b = list-enough p room (length q) z .1 in let e = f .count in omega (arith, b, e);
+        entries = f .entries;
+        records = f .records;
+        enough = λ _. (pixels-few p h, long);
+        left = cleared-left 0 (length (p .pixels)) p q q′ _ refl (pixels-places p h) (f .rest) refl;
+      })

@@ -1,0 +1,2 @@
+-- The list of patches.
+pub mod PatchLists

@@ -1,0 +1,61 @@
+// The list of patches before its records are written: the refusal, and the figures in work.
+use answers::Answer;
+use answers::accepted;
+use answers::refused;
+use faults::work_fault;
+use minima::count_minima;
+use patches::cores::patch_figures;
+ghost use mathlib.Core.Path.{_≡_};
+ghost use mathlib.Core.Bool.{true};
+ghost use Prim.Native.Nat.{_*_, _≤_};
+ghost use lib.ListN.{length};
+ghost use Rattle.picture.specs.Pictures.{isPicture, pictureOf};
+ghost use Rattle.picture.specs.Patches.{patches};
+ghost use Rattle.patch_lists.specs.PatchLists.{listFault, Figured, Gathered};
+
+// The number of patches of a picture.
+fn count_patches(a: u32, w: u32, h: u32, pixels: &[u8]) -> usize
+    requires { ⌜ isPicture (pictureOf a w h (now pixels)) ≡ true ⌝ }
+    ensures { λ r. ⌜ r ≡ length (patches (pictureOf a w h (now (pixels .entry)))) ⌝ }
+{
+    let n = pixels.len();
+    let mut cells = [0u16; 1600];
+    count_minima(a, w, h, pixels, &mut cells[..n])
+}
+
+// The fault of the call, from the picture and the two lengths; 0 for none. Nothing lent is written.
+fn list_fault(a: u32, w: u32, h: u32, pixels: &[u8], room: usize, work: usize) -> u8
+    ensures { λ r. ⌜ r ≡ listFault (pictureOf a w h (now (pixels .entry))) room work ⌝ }
+{
+    let fault = work_fault(a, w, h, pixels.len(), work);
+    if fault != 0 {
+        return fault;
+    }
+    if room < count_patches(a, w, h, pixels) {
+        return 9;
+    }
+    0
+}
+
+// Leaves the figures of the patches in the first 5 n entries of work, and answers how many patches there are.
+pub fn fill_figures(a: u32, w: u32, h: u32, pixels: &[u8], work: &mut [u16]) -> usize
+    requires { ⌜ (isPicture (pictureOf a w h (now pixels)) ≡ true) × (5 * length (now pixels) ≤ length (now work)) ⌝ }
+    ensures { λ r. ⌜ Figured (pictureOf a w h (now (pixels .entry))) (now (work .entry)) (now (work .exit)) r ⌝ }
+{
+    let n = pixels.len();
+    let whole = 5 * n;
+    let mut cells = [0u16; 1600];
+    patch_figures(a, w, h, pixels, &mut work[..whole], &mut cells[..n])
+}
+
+// The answer of the call. Without a refusal it leaves the figures of the patches in work.
+pub fn gather(a: u32, w: u32, h: u32, pixels: &[u8], room: usize, work: &mut [u16]) -> Answer
+    ensures { λ r. ⌜ Gathered (pictureOf a w h (now (pixels .entry))) room (now (work .entry)) (now (work .exit)) r ⌝ }
+{
+    let fault = list_fault(a, w, h, pixels, room, work.len());
+    if fault != 0 {
+        return refused(fault);
+    }
+    let count = fill_figures(a, w, h, pixels, work);
+    accepted(count as u32)
+}
