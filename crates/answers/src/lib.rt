@@ -38,7 +38,7 @@ pub fn finish(work: &mut [u16], n: usize, value: u32) -> Answer
     accepted(value)
 }
 
-// Clears the first 5 n entries of work if the number is 0, as no refusal.
+// Clears the first 5 n entries of work if the number is 0, that is, if there is no refusal.
 pub fn clear_accepted(work: &mut [u16], n: usize, number: u8)
     requires { ⌜ (number ≡ 0 → (n ≤ 1600) × (5 * n ≤ length (now work))) ⌝ }
     ensures { λ _. ⌜ now (work .exit) ≡ afterCall number (cleared n (now (work .entry))) (now (work .entry)) ⌝ }

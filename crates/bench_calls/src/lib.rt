@@ -1,4 +1,4 @@
-// The calls for measurements from C: numbers and memory as they are, the answer as one number. They promise nothing but safety.
+// The calls for measurements and tests from C: numbers and memory as they are, the answer as one number. They promise nothing but safety.
 use board::Answer;
 use board::Ground;
 use faults::work_fault;

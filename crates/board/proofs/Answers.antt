@@ -1,9 +1,9 @@
 -- Demand 3 in what the tree call and the pass call answer for a picture and for its watershed.
 use mathlib.Core.Path.{_≡_, refl, sym, ap, ap₂, subst, _∙_}
-use mathlib.Core.Bool.{Bool, true, false}
-use mathlib.Core.Logic.{_⊎_, ⊎-elim, _↔_}
-use mathlib.Core.List.{List, [], _∷_, _++_, map, List·Memᴰ}
-use Prim.Native.Nat.{ℕ, suc, _+_, _≤_, _<_}
+use mathlib.Core.Bool.{Bool, true}
+use mathlib.Core.Logic.{⊎-elim, _↔_}
+use mathlib.Core.List.{List, [], _∷_, _++_, map}
+use Prim.Native.Nat.{ℕ, suc, _≤_, _<_}
 use native.Mathlib.Omega.{arith}
 use lib.ListN.{length, getD, drop, length-map, List·getD-append}
 use lib.Seq.{ext-getD}
@@ -12,7 +12,7 @@ use borrow.Author.Tests.{eq-eqb}
 use Rattle.picture.specs.Lists.{pick, tally, range}
 use Rattle.picture.specs.Pictures.{Picture, places, allBytes, isPicture}
 use Rattle.picture.specs.Components.{pass}
-use Rattle.picture.specs.Trees.{Node, nodes, nodeAt, fatherOf, treeOf}
+use Rattle.picture.specs.Trees.{nodes, nodeAt, fatherOf, treeOf}
 use Rattle.picture.specs.Patches.{patchAt}
 use Rattle.picture.specs.Kept.{partners, Kept}
 use Rattle.topology.proofs.Tests.{and-both}

@@ -1,14 +1,14 @@
 -- The laws of the calls that lend a tree: its faults, and the tree entry by entry.
 use mathlib.Core.Path.{_≡_, refl, sym, ap, ap₂, subst, _∙_}
-use mathlib.Core.Bool.{Bool, true, false, _&&_, _||_, not}
+use mathlib.Core.Bool.{Bool, true, false, _||_, not}
 use mathlib.Core.Logic.{_≢_}
 use mathlib.Core.List.{List, [], _∷_}
-use Prim.Native.Nat.{ℕ, zero, suc, _+_, _-_, _≤_, _<_, min}
+use Prim.Native.Nat.{ℕ, zero, suc, _+_, _-_, _≤_, _<_}
 use native.Mathlib.Omega.{arith}
 use lib.Dec.{eqb, leb}
 use lib.ListN.{length, getD, drop}
 use lib.Seq.{drop-drop}
-use borrow.Author.Tests.{eqb-true, eq-eqb, leb-false, le-leb, lt-leb}
+use borrow.Author.Tests.{eqb-true, eq-eqb, leb-false}
 use Rattle.picture.specs.Pictures.{Picture, places, isPicture}
 use Rattle.picture.specs.Components.{pass}
 use Rattle.picture.specs.Trees.{nodes, treeOf}
@@ -26,7 +26,7 @@ use Rattle.lent_tree.specs.Climbs.{PassReady}
 use Rattle.faults.specs.Faults.{outputFault}
 use Rattle.answers.specs.Answers.{over, afterCall}
 use Rattle.board.specs.Trees.{begins, isTree, shortest, treeFaultOf, placesFaultOf, checkedFault, TreeLent}
-use Rattle.faults.proofs.Laws.{Admitted, admitted, workFaultOf, output-enough, first-some, first-none, first-zero, when-zero}
+use Rattle.faults.proofs.Laws.{Admitted, admitted, output-enough, first-some, first-none, first-zero, when-zero}
 use Rattle.answers.proofs.Shell.{written-left}
 
 -- a list begins with another: entry by entry

@@ -24,7 +24,7 @@ mod reading;
 mod trees;
 
 ghost use mathlib.Core.Path.{_≡_};
-ghost use Prim.Native.Nat.{_*_, _≤_};
+ghost use Prim.Native.Nat.{_*_};
 ghost use lib.ListN.{length};
 ghost use Rattle.picture.specs.Lists.{pick};
 ghost use Rattle.picture.specs.Pictures.{pictureOf};

@@ -1,12 +1,11 @@
 -- Laws of 16-bit entries packed in bytes: one entry more, zeros, and that packing what was unpacked gives the bytes back.
 use mathlib.Core.Path.{_≡_, refl, sym, ap, ap₂, subst, _∙_}
-use mathlib.Core.List.{List, [], _∷_, _++_, map, append-assoc, append-nil}
+use mathlib.Core.List.{List, [], _∷_, _++_, append-assoc, append-nil}
 use Prim.Native.Nat.{ℕ, zero, suc, _+_, _*_, _/_, _%_, _≤_, _<_}
 use native.Mathlib.Omega.{arith}
 use native.Mathlib.Numerals.{add-one}
 use lib.ListN.{length, getD, take, drop, set, replicate}
-use lib.Seq.{take-suc, drop-cons}
-use Rattle.picture.specs.Lists.{range}
+use lib.Seq.{take-suc}
 use Rattle.topology.proofs.Filling.{written-next}
 use Rattle.text.specs.Little.{littleEndian}
 use Rattle.text.specs.Writing.{Written}
@@ -60,31 +59,3 @@ packed-zeros zero = refl
 packed-zeros (suc m) =
     let e : suc (suc (2 * m)) ≡ 2 * suc m = omega arith in
     ap (λ (l : List ℕ). 0 ∷ 0 ∷ l) (packed-zeros m) ∙ ap (λ (n : ℕ). replicate {A = ℕ} n 0) e
-
--- packing what was unpacked gives the bytes back
-module _ (bytes : List ℕ) (small : (i : ℕ) → getD bytes i 0 ≤ 255) where
-  drop-entry : (x : ℕ) → 2 * x + 1 < length bytes → drop (2 * x) bytes ≡ getD bytes (2 * x) 0 ∷ getD bytes (2 * x + 1) 0 ∷ drop (2 * suc x) bytes
-  drop-entry x h =
-      let low = getD bytes (2 * x) 0 in
-      let one : suc (2 * x) ≡ 2 * x + 1 = omega arith in
-      let two : suc (2 * x + 1) ≡ 2 * suc x = omega arith in
-      drop-cons bytes (2 * x) 0 (omega arith) ∙
-      ap (λ (l : List ℕ). low ∷ l)
-      (ap (λ (n : ℕ). drop n bytes) one ∙
-      (drop-cons bytes (2 * x + 1) 0 h ∙ ap (λ (n : ℕ). getD bytes (2 * x + 1) 0 ∷ drop n bytes) two))
-
-  repacked-from : (x l : ℕ) → 2 * (x + l) ≤ length bytes → packed (map (entryAt bytes) (range x l)) ≡ take (2 * l) (drop (2 * x) bytes)
-  repacked-from x zero h = refl
-  repacked-from x (suc l) h =
-      let low = getD bytes (2 * x) 0 in
-      let high = getD bytes (2 * x + 1) 0 in
-      let a : (low + 256 * high) % 256 ≡ low = omega (arith, small (2 * x)) in
-      let q : (low + 256 * high) / 256 ≡ high = omega (arith, small (2 * x)) in
-      let b : (low + 256 * high) / 256 % 256 ≡ high = ap (λ (k : ℕ). k % 256) q ∙ omega (arith, small (2 * x + 1)) in
-      let n : 2 * suc l ≡ suc (suc (2 * l)) = omega arith in
-      ap₂ (λ (u v : ℕ). u ∷ v ∷ packed (map (entryAt bytes) (range (suc x) l))) a b ∙
-      (ap (λ (r : List ℕ). low ∷ high ∷ r) (repacked-from (suc x) l (omega arith)) ∙
-      sym (ap₂ (λ (k : ℕ) (r : List ℕ). take k r) n (drop-entry x (omega arith))))
-
-  pub repacked : (m : ℕ) → 2 * m ≤ length bytes → packed (entries m bytes) ≡ take (2 * m) bytes
-  repacked m h = repacked-from 0 m (omega arith)

@@ -2,14 +2,12 @@
 use mathlib.Core.Path.{_≡_, refl, sym, _∙_}
 use mathlib.Core.Bool.{Bool, true, false, _&&_, _||_}
 use mathlib.Core.Logic.{_↔_}
-use Prim.Native.Nat.{ℕ, _*_, _<_}
+use Prim.Native.Nat.{ℕ, _*_}
 use native.Mathlib.Omega.{arith}
 use lib.Dec.{eqb}
 use lib.ListN.{length}
 use Rattle.picture.specs.Pictures.{Picture, places, sideFits, allBytes, isPicture}
 use Rattle.faults.specs.PictureFault.{faultOf, pictureFault}
-use Rattle.picture.specs.Geometry.{Placed}
-use Rattle.picture.proofs.Sides.{side-some, side-most}
 use Rattle.picture.proofs.Lists.{and-left, and-right, and-both}
 
 module _ (a w h l : ℕ) where
@@ -49,17 +47,6 @@ no-fault a w h l e =
     by true true false p q r = let z = sym (fault-length a w h l p q r) ∙ e in absurd (omega arith)
     by true false u p q r = let z = sym (fault-sides a w h l p q) ∙ e in absurd (omega arith)
     by false t u p q r = let z = sym (fault-adjacency a w h l p) ∙ e in absurd (omega arith)
-
--- a place of such a picture
-pub placed : {a w h l : ℕ} (x : ℕ) → Sound a w h l → x < w * h → Placed w h x
-placed {a} {w} {h} {l} x s below =
-    let e = and-left (sideFits w) _ (s .sides) in
-    record {
-      some = side-some w e;
-      wide = side-most w e;
-      high = side-most h (and-right (sideFits w) _ (s .sides));
-      inside = below;
-    }
 
 -- a picture without a fault whose pixels are bytes is accepted, and back
 pub accepted : (p : Picture) → ((pictureFault p ≡ 0) × (allBytes (p .pixels) ≡ true)) ↔ (isPicture p ≡ true)

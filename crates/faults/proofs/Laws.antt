@@ -1,6 +1,6 @@
 -- The laws of the faults, and what a core is lent where there is none.
 use mathlib.Core.Path.{_≡_, refl, sym, ap, _∙_}
-use mathlib.Core.Bool.{Bool, true, false, _&&_, _||_}
+use mathlib.Core.Bool.{Bool, true, false, _||_}
 use mathlib.Core.Logic.{_≢_}
 use Prim.Native.Nat.{ℕ, zero, suc, _*_, _≤_, _<_}
 use native.Mathlib.Omega.{arith}
@@ -11,7 +11,7 @@ use Rattle.picture.specs.Pictures.{Picture, places, sideFits, isPicture}
 use Rattle.faults.specs.PictureFault.{firstOf, when, faultOf, pictureFault}
 use Rattle.picture.proofs.Lists.{and-left, and-right}
 use Rattle.picture.proofs.Sides.{side-most, area-most}
-use Rattle.faults.proofs.Accepted.{Sound, no-fault, accepted}
+use Rattle.faults.proofs.Accepted.{no-fault, accepted}
 use Rattle.topology.proofs.Accepted.{at-byte}
 use Rattle.faults.specs.Faults.{workFault, outputFault, placeFault}
 

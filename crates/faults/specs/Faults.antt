@@ -1,5 +1,5 @@
 -- The fault of a call's arguments, from numbers and lengths alone: 7, 3, 8, then 9, then 10.
-use mathlib.Core.Bool.{Bool, _||_}
+use mathlib.Core.Bool.{_||_}
 use Prim.Native.Nat.{ℕ, _*_}
 use lib.Dec.{ltb, leb}
 use Rattle.faults.specs.PictureFault.{firstOf, when, faultOf}

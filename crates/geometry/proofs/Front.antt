@@ -14,7 +14,7 @@ use mir.Syntax.{w8}
 use mir.Val.{toZ, ofZ}
 use Rattle.picture.specs.declared.Step.{Step}
 use Rattle.picture.specs.Geometry.{steps, plusOne, offset, used, within, stays, placeBy, reached, neighboursOf, Placed, Listed}
-use Rattle.geometry.specs.Steps.{isUnit, strideOf, stepAt, offEdge, inner, Stepping, Leads, Put}
+use Rattle.geometry.specs.Steps.{isUnit, strideOf, stepAt, offEdge, isInner, Stepping, Leads, Put}
 use Rattle.picture.proofs.Lists.{and-left, and-right, and-both, on-pick}
 use Rattle.picture.proofs.Sides.{within-some, area-most}
 use Rattle.geometry.proofs.Steps.{on-unit, unit-column, unit-row, off-edge-within, place-most, leads-from, row-under, used-step, reached-step, reached-one, reached-none}
@@ -95,7 +95,7 @@ module _ (w h column row : ℕ) (s : Step) (m : ℕ) (cells : List ℕ) (go : St
         (within-some w (column + r) a, within-some h (row + d) b, place-most w h (column + r) (row + d) (go .placed .wide) (go .placed .high) a b, go .room)
 
     -- from an inner place every target is inside the edge
-    pub inner-target : inner w h column row ≡ true → (within w (column + r) ≡ true) × (within h (row + d) ≡ true)
+    pub inner-target : isInner w h column row ≡ true → (within w (column + r) ≡ true) × (within h (row + d) ≡ true)
     inner-target e = (
       off-edge-within w column r (and-left (offEdge w column) _ e) (let b = unit-column s (go .unit) in omega (arith, b, right-is)),
       off-edge-within h row d (and-right (offEdge w column) _ e) (let b = unit-row s (go .unit) in omega (arith, b, down-is)),

@@ -33,8 +33,8 @@ abbrev pub offEdge : ℕ → ℕ → Bool
 offEdge side c = leb 1 c && ltb (c + 1) side
 
 -- neither the column nor the row lies at the edge
-abbrev pub inner : ℕ → ℕ → ℕ → ℕ → Bool
-inner w h column row = offEdge w column && offEdge h row
+abbrev pub isInner : ℕ → ℕ → ℕ → ℕ → Bool
+isInner w h column row = offEdge w column && offEdge h row
 
 -- a step from a place by its column and row, and a cell for what it leads to
 pub record Stepping (w h column row : ℕ) (s : Step) (m : ℕ) (cells : List ℕ) : Type 0 where

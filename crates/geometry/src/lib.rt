@@ -6,7 +6,7 @@ ghost use Prim.Native.Nat.{_+_, _-_, _*_, _≤_, _<_};
 ghost use mathlib.Core.Bool.{true};
 ghost use lib.ListN.{length, set};
 ghost use Rattle.picture.specs.Geometry.{plusOne, within, reached, neighboursOf, Placed, Listed};
-ghost use Rattle.geometry.specs.Steps.{isUnit, strideOf, offEdge, inner, Stepping, Put};
+ghost use Rattle.geometry.specs.Steps.{isUnit, strideOf, offEdge, isInner, Stepping, Put};
 
 // The eight steps in their order; adjacency 4 uses every second one.
 pub const STEPS: [Step; 8] = [
@@ -65,7 +65,7 @@ fn off_edge(c: usize, side: usize) -> bool
 // Neither the column nor the row lies at the edge: every step stays inside.
 fn is_inner(w: usize, h: usize, column: usize, row: usize) -> bool
     requires { ⌜ (column < 1600) × (row < 1600) ⌝ }
-    ensures { λ r. ⌜ r ≡ inner w h column row ⌝ }
+    ensures { λ r. ⌜ r ≡ isInner w h column row ⌝ }
 {
     if !off_edge(column, w) {
         return false;
@@ -92,7 +92,7 @@ fn put_inner(
     cells: &mut [u16],
     m: usize,
 ) -> usize
-    requires { ⌜ Stepping w h column row step m (now cells) × (inner w h column row ≡ true) ⌝ }
+    requires { ⌜ Stepping w h column row step m (now cells) × (isInner w h column row ≡ true) ⌝ }
     ensures { λ r. ⌜ Put (reached w h (row * w + column) (step ∷ [])) m (now (cells .entry)) r (now (cells .exit)) ⌝ }
 {
     let right = column + plus_one(step.column);
@@ -126,7 +126,7 @@ fn put_tested(
 
 // The same; inner places need no test.
 fn put_step(
-    free: bool,
+    inner: bool,
     w: usize,
     h: usize,
     column: usize,
@@ -135,10 +135,10 @@ fn put_step(
     cells: &mut [u16],
     m: usize,
 ) -> usize
-    requires { ⌜ Stepping w h column row step m (now cells) × (free ≡ inner w h column row) ⌝ }
+    requires { ⌜ Stepping w h column row step m (now cells) × (inner ≡ isInner w h column row) ⌝ }
     ensures { λ r. ⌜ Put (reached w h (row * w + column) (step ∷ [])) m (now (cells .entry)) r (now (cells .exit)) ⌝ }
 {
-    if free {
+    if inner {
         return put_inner(w, h, column, row, step, cells, m);
     }
     put_tested(w, h, column, row, step, cells, m)
@@ -153,14 +153,14 @@ pub fn neighbours(a: u32, w: u32, h: u32, x: usize, cells: &mut [u16]) -> usize
     let height = h as usize;
     let column = x % width;
     let row = x / width;
-    let free = is_inner(width, height, column, row);
+    let inner = is_inner(width, height, column, row);
     let next = stride(a);
     // a local, since each reading of a constant table writes it to the stack
     let steps = STEPS;
     let mut m = 0;
     let mut i = 0;
     while i < 8 {
-        m = put_step(free, width, height, column, row, steps[i], cells, m);
+        m = put_step(inner, width, height, column, row, steps[i], cells, m);
         i += next;
     }
     m

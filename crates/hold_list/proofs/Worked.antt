@@ -4,9 +4,9 @@ use mathlib.Core.List.{List, [], _∷_}
 use Prim.Native.Nat.{ℕ}
 use Rattle.picture.specs.Pictures.{adjacent}
 use Rattle.picture.specs.Components.{componentAt, components}
-use Rattle.picture.specs.Trees.{isBranch, nodesAt, nodes, fatherOf}
+use Rattle.picture.specs.Trees.{isBranch, nodesAt, nodes, fatherOf, isLeaf}
 use Rattle.picture.specs.Watersheds.{lowerable, best, watershed}
-use Rattle.picture.specs.Patches.{isLeaf, patchNodes, depthOf, patchOf, patches, patchAt, lineCount}
+use Rattle.picture.specs.Patches.{patchNodes, depthOf, patchOf, patches, patchAt, lineCount}
 use Rattle.p5.specs.Headers.{gapEnd, digitsAt, numberAt, endAt, walk}
 use Rattle.p5.specs.Files.{onPixels, onHeader, readFile}
 use Rattle.text.specs.Decimal.{decimal}

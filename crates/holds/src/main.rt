@@ -1,4 +1,4 @@
-// Prints the hold list of the file on standard input, with adjacency 4.
+// Prints the hold list of the file on standard input, or its refusal.
 use hold_list::put_text;
 
 fn main() {

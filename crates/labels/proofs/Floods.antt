@@ -2,7 +2,7 @@
 use mathlib.Core.Path.{_≡_, refl, sym, ap, subst, _∙_}
 use mathlib.Core.Logic.{_≢_}
 use mathlib.Core.List.{List, [], _∷_}
-use Prim.Native.Nat.{ℕ, suc, _+_, _-_, _≤_, _<_}
+use Prim.Native.Nat.{ℕ, suc, _+_, _≤_, _<_}
 use native.Mathlib.Numerals.{add-one}
 use native.Mathlib.Omega.{arith}
 use mathlib.Core.Bool.{false}
@@ -10,12 +10,12 @@ use lib.Dec.{leb}
 use borrow.Author.Tests.{leb-false}
 use lib.ListN.{length, getD, set, drop, length-set, List·getD-append}
 use lib.Seq.{drop-cons, drop-length, drop-set-lt, set-set, set-getD}
-use Rattle.picture.specs.Pictures.{Picture, places, valueAt}
+use Rattle.picture.specs.Pictures.{Picture, places}
 use Rattle.picture.specs.Geometry.{neighboursIn, Listed}
 use Rattle.picture.proofs.Neighbours.{neighbour-at, neighbours-touch}
 use Rattle.topology.proofs.Lists.{in-mem}
 use Rattle.topology.proofs.Connected.{start, conn-target}
-use Rattle.topology.proofs.Adjacency.{Adj, At, Joined}
+use Rattle.topology.proofs.Adjacency.{Adj}
 use Rattle.topology.proofs.Flood.{unmarked, unmarked-set, Flooding, Flooded, flood-start, flood-pop, flood-done, flood-pass, flood-mark, flood-end}
 use Rattle.labels.specs.Floods.{Room, Visited, passed, marked, Moved, Spread, Seed, Floods}
 
@@ -71,9 +71,6 @@ module _ (n : ℕ) (l stack : List ℕ) (t : ℕ) where
   moved-visit pixels k y c m after r a h d (marked e f g q s) = rw (e, f, g) (moved-mark y c (a .label) (a .room) h s d)
 
 module _ (p : Picture) (k c q : ℕ) where
-  pub spread-none : (zs l stack : List ℕ) (t : ℕ) → Spread p k c q zs zs l stack t l stack t
-  spread-none zs l stack t = record { moved = moved-none (places p) l stack t; follows = λ s before f. f }
-
   -- one visit to a place that touches q
   visit-flood :
       (s : ℕ) (before : List ℕ) (y : ℕ) (us l stack : List ℕ) (t : ℕ) (m after : List ℕ) (r : ℕ) →

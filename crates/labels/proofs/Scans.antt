@@ -3,17 +3,16 @@ use mathlib.Core.Path.{_≡_, refl, sym, ap, subst, _∙_}
 use mathlib.Core.Bool.{true, false}
 use mathlib.Core.Logic.{_≢_}
 use mathlib.Core.List.{List, _++_, append-nil}
-use Prim.Native.Nat.{ℕ, _+_, _*_, _≤_, _<_}
+use Prim.Native.Nat.{ℕ, _+_, _≤_, _<_}
 use native.Mathlib.Omega.{arith}
 use lib.Dec.{eqb}
-use lib.ListN.{length, getD, drop, replicate, length-replicate, drop-of-length-le}
+use lib.ListN.{length, getD, drop, replicate, drop-of-length-le}
 use Rattle.picture.specs.Pictures.{Picture, places, isPicture}
 use Rattle.picture.specs.Components.{inSection}
 use Rattle.picture.specs.Geometry.{Placed}
 use Rattle.topology.proofs.Lists.{tally-length}
 use Rattle.topology.proofs.Parts.{isFirst, first-is}
-use Rattle.topology.proofs.Accepted.{Accepted, accepted-is, places-bound}
-use Rattle.topology.proofs.Flood.{unmarked, Flooded}
+use Rattle.topology.proofs.Accepted.{accepted-is, places-bound}
 use Rattle.topology.proofs.Labelled.{Labelled, labelled-start, count-most, outside-first, labelled-first, unlabelled-first, labelled-pass, labelled-fresh, labelled-new, labelled-flood, labelled-end}
 use Rattle.labels.specs.Labels.{Ready, Scanned, LabelsHold}
 use Rattle.labels.specs.Floods.{Room, Seed, Floods}

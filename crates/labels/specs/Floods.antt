@@ -1,11 +1,10 @@
 -- What the functions of a flood say of the labels, the stack and its height.
 use mathlib.Core.Path.{_≡_}
 use mathlib.Core.Logic.{_≢_}
-use mathlib.Core.List.{List, []}
-use Prim.Native.Nat.{ℕ, _+_, _*_, _≤_, _<_}
+use mathlib.Core.List.{List}
+use Prim.Native.Nat.{ℕ, _+_, _≤_}
 use lib.ListN.{length, getD, set, drop}
 use Rattle.picture.specs.Pictures.{Picture, places}
-use Rattle.picture.specs.Geometry.{Placed, neighboursIn}
 use Rattle.topology.proofs.Adjacency.{At, Joined}
 use Rattle.topology.proofs.Flood.{unmarked, Flooding, Flooded}
 

@@ -1,14 +1,14 @@
 -- The climb along the fathers of a lent tree meets at the nearest common ancestor, whose height decides the pass.
-use mathlib.Core.Path.{_≡_, refl, sym, ap, subst, _∙_}
+use mathlib.Core.Path.{_≡_, sym, ap, subst, _∙_}
 use mathlib.Core.Bool.{true}
 use mathlib.Core.List.{List}
-use Prim.Native.Nat.{ℕ, suc, _+_, _-_, _≤_, _<_, max}
+use Prim.Native.Nat.{ℕ, _+_, _-_, _<_, max}
 use native.Mathlib.Omega.{arith}
 use lib.ListN.{length, getD}
 use Rattle.picture.specs.Pictures.{Picture, places, valueAt, isPicture}
 use Rattle.picture.specs.Components.{pass}
-use Rattle.picture.specs.Trees.{nodes, nodeAt, fatherOf, mapOf}
-use Rattle.topology.proofs.Accepted.{Accepted, accepted-is}
+use Rattle.picture.specs.Trees.{nodes, mapOf}
+use Rattle.topology.proofs.Accepted.{accepted-is}
 use Rattle.topology.proofs.Fathers.{map-found}
 use Rattle.topology.proofs.Climb.{Meet, same, left, right, father, father-of, father-greater, pass-meet}
 use Rattle.lent_tree.specs.Lent.{HoldsTree}

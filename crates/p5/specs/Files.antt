@@ -77,7 +77,7 @@ headerOf LargestOutside = noHeader
 headerOf CountDiffers = noHeader
 headerOf (PixelAbove x) = noHeader
 
--- the refusal of a walk that stopped
+-- the refusal of a walk that stopped; a whole header does not come here
 abbrev pub malformedAt : Walk → Outcome
 malformedAt (Walked h) = Malformed (h .offset)
 malformedAt (Stopped p) = Malformed p

@@ -72,7 +72,7 @@ fromWidth f (Unfit p) = Stopped p
 unfoldable pub walk : List ℕ → Walk
 walk f = fromWidth f (numberAt f 2)
 
--- the place where the walk stops at a field
+-- the place where the walk stops at a field; a number does not come here
 abbrev pub stoppedAt : Field → Walk
 stoppedAt (Number n p) = Stopped p
 stoppedAt (Unfit p) = Stopped p

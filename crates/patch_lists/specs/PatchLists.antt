@@ -1,7 +1,7 @@
 -- What the functions behind the list of patches promise.
 use mathlib.Core.Path.{_≡_}
 use mathlib.Core.Bool.{_||_}
-use mathlib.Core.List.{List, [], _++_, map}
+use mathlib.Core.List.{List, [], map}
 use Prim.Native.Nat.{ℕ, _*_, _≤_}
 use lib.Dec.{eqb, ltb}
 use lib.ListN.{length, drop}

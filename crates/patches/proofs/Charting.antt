@@ -11,7 +11,7 @@ use borrow.Author.Tests.{lt-ltb, le-ltb}
 use Rattle.picture.specs.Lists.{pick, tally, range, highest}
 use Rattle.picture.specs.Pictures.{Picture, places, valueAt}
 use Rattle.picture.specs.Trees.{Node, nodes, nodeAt, fatherOf, mapOf}
-use Rattle.picture.specs.Patches.{patches, patchAt, depthOf}
+use Rattle.picture.specs.Patches.{patchAt, depthOf}
 use Rattle.tree.specs.Arrays.{row, TreeIn}
 use Rattle.topology.proofs.Tests.{on-test, same-test, clash}
 use Rattle.topology.proofs.Lists.{tally-same, range-mem}

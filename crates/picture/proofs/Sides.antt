@@ -16,10 +16,7 @@ within-some side c e = leb-true 1 c (and-left (leb 1 c) _ e)
 pub within-most : (side c : ℕ) → within side c ≡ true → c ≤ side
 within-most side c e = leb-true c side (and-right (leb 1 c) _ e)
 
--- a side that fits is at least 1 and at most 40
-pub side-some : (w : ℕ) → sideFits w ≡ true → 1 ≤ w
-side-some = within-some 40
-
+-- a side that fits is at most 40
 pub side-most : (w : ℕ) → sideFits w ≡ true → w ≤ 40
 side-most = within-most 40
 

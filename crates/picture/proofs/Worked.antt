@@ -7,9 +7,9 @@ use lib.Dec.{eqb}
 use Rattle.picture.specs.Lists.{all, range}
 use Rattle.picture.specs.Pictures.{Picture, places, adjacent, isPicture, pictureOf}
 use Rattle.picture.specs.Components.{componentAt, components, labels, pass}
-use Rattle.picture.specs.Trees.{Tree, isBranch, nodesAt, nodes, fatherOf, mapOf, treeOf}
+use Rattle.picture.specs.Trees.{Tree, isBranch, nodesAt, nodes, fatherOf, mapOf, treeOf, isLeaf}
 use Rattle.picture.specs.Watersheds.{lowerable, best, watershed}
-use Rattle.picture.specs.Patches.{isLeaf, patchNodes, depthOf, Patch, patchOf, patches, patchAt, lineCount, centre}
+use Rattle.picture.specs.Patches.{patchNodes, depthOf, Patch, patchOf, patches, patchAt, lineCount, centre}
 
 -- two lists hold the same numbers
 abbrev pub sameList : List ℕ → List ℕ → Bool

@@ -7,7 +7,7 @@ use lib.ListN.{length}
 use Rattle.picture.specs.Lists.{any, select, indexFrom, range, isIn}
 use Rattle.picture.specs.Pictures.{Picture, places, valueAt, touch}
 
--- a place is in the section at height k (standard term: lower threshold set)
+-- a place is in the section at height k (standard terms: lower threshold set; height: level)
 abbrev pub inSection : Picture → ℕ → ℕ → Bool
 inSection p k x = leb (valueAt p x) k
 

@@ -12,7 +12,7 @@ use Rattle.picture.specs.Trees.{Node, nodes, nodeAt, componentOf, father
 use Rattle.picture.specs.Watersheds.{watershed}
 use Rattle.picture.specs.Patches.{patchAt}
 
--- at height k each component of f lies in exactly one of b's, and each of b's contains exactly one of f's
+-- b keeps f's parts at height k (standard term: b is an extension of f there): each component of f lies in exactly one of b's, and each of b's contains exactly one of f's
 unfoldable pub keepsAt : Picture → Picture → ℕ → Bool
 keepsAt f b k =
     let cs = components f k in

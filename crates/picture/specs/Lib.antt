@@ -1,4 +1,4 @@
--- The definitions that a reader must believe, in the order of the scope document.
+-- The definitions that a reader must believe, in the words of the scope document.
 pub mod Lists
 pub mod Pictures
 pub mod Components

@@ -1,16 +1,12 @@
 -- Patches: the regional minima, their records, and the patch of a place.
-use mathlib.Core.Bool.{Bool, true, false}
+use mathlib.Core.Bool.{true, false}
 use mathlib.Core.List.{List, [], _∷_, map}
 use Prim.Native.Nat.{ℕ, suc, _-_, _*_, _/_}
 use lib.Dec.{eqb, ltb}
 use lib.ListN.{length}
 use Rattle.picture.specs.Lists.{pick, tally, select, indexFrom, range, isIn, total, highest}
 use Rattle.picture.specs.Pictures.{Picture, places, column, row}
-use Rattle.picture.specs.Trees.{Node, nodes, nodeAt, componentOf, fatherOf, below}
-
--- a node is a leaf: it contains no component of the height below
-unfoldable pub isLeaf : Picture → Node → Bool
-isLeaf p n = eqb (length (below p (n .height) (componentOf p n))) 0
+use Rattle.picture.specs.Trees.{Node, nodes, nodeAt, componentOf, fatherOf, isLeaf}
 
 -- a node put before the first of a list that has a greater first place
 abbrev pub insertByFirst : Node → List Node → List Node
@@ -26,7 +22,7 @@ byFirst (n ∷ ns) = insertByFirst n (byFirst ns)
 unfoldable pub patchNodes : Picture → List Node
 patchNodes p = byFirst (select (isLeaf p) (nodes p))
 
--- a patch's depth: its father's height, or for the root the largest value, less its own height (not the field's dynamics)
+-- a patch's depth: its father's height, or for the root the largest value, less its own height (this is not what the literature calls the dynamics of a minimum)
 unfoldable pub depthOf : Picture → Node → ℕ
 depthOf p n =
     let f = fatherOf p n in
@@ -59,7 +55,7 @@ abbrev pub patchesFrom : ℕ → Picture → List Node → List Patch
 patchesFrom i p [] = []
 patchesFrom i p (n ∷ ns) = patchOf p i n ∷ patchesFrom (suc i) p ns
 
--- the patches of a picture, numbered from 1 by first place
+-- the patches of a picture (a patch is a regional minimum), numbered from 1 by first place
 unfoldable pub patches : Picture → List Patch
 patches p = patchesFrom 1 p (patchNodes p)
 
@@ -71,7 +67,7 @@ patchFrom i p x ns = indexFrom 0 i (λ n. isIn x (componentOf p n)) ns
 unfoldable pub patchAt : Picture → ℕ → ℕ
 patchAt p x = patchFrom 1 p x (patchNodes p)
 
--- how many places of a picture are on the line
+-- how many places of a picture are on the line (in a watershed: the watershed line)
 unfoldable pub lineCount : Picture → ℕ
 lineCount p = tally (λ x. eqb (patchAt p x) 0) (range 0 (places p))
 

@@ -17,7 +17,7 @@ pub record Picture : Type 0 where
 abbrev pub pictureOf : ℕ → ℕ → ℕ → List ℕ → Picture
 pictureOf a w h xs = record { adjacency = a; width = w; height = h; pixels = xs }
 
--- n, the number of places; a place is a number below it
+-- n, the number of places; a place is a number below it (standard term: raster index)
 abbrev pub places : Picture → ℕ
 places p = p .width * p .height
 

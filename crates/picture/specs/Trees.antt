@@ -1,6 +1,6 @@
--- The component tree of the lower sections (min-tree), without its vertices of one child (document 003, definition 7).
+-- The component tree of the lower sections (min-tree), without its vertices of one child (Couprie and Bertrand 2003, definition 7).
 use mathlib.Core.Bool.{Bool, true, false, _&&_, not}
-use mathlib.Core.List.{List, [], _∷_, _++_, map}
+use mathlib.Core.List.{List, [], _++_, map}
 use Prim.Native.Nat.{ℕ, zero, suc, _-_}
 use lib.Dec.{eqb}
 use lib.ListN.{length, getD}
@@ -26,7 +26,7 @@ pub record Node : Type 0 where
   pub height : ℕ
   pub first : ℕ
 
--- the leaves (none below: the regional minima) and the forks (several below: where regions merge) of height k by first place
+-- the leaves (none below: the regional minima) and the forks (several below; standard term: merge node) of height k by first place
 unfoldable pub nodesAt : Picture → ℕ → List Node
 nodesAt p k = map (λ c. record { height = k; first = headOf c }) (select (λ c. not (isBranch p k c)) (components p k))
 
@@ -46,6 +46,10 @@ nodeAt p i = getD (nodes p) i (record { height = 0; first = 0 })
 -- the component of a node
 abbrev pub componentOf : Picture → Node → List ℕ
 componentOf p n = componentAt p (n .height) (n .first)
+
+-- a node is a leaf: it contains no component of the height below
+unfoldable pub isLeaf : Picture → Node → Bool
+isLeaf p n = eqb (length (below p (n .height) (componentOf p n))) 0
 
 -- the number from i on of the node with height k and first place x, 65535 for none
 abbrev pub numberFrom : ℕ → ℕ → ℕ → List Node → ℕ

@@ -17,7 +17,7 @@ lowerableAt (suc k) p x = eqb (tally (touchesSome p x) (components p k)) 1
 unfoldable pub lowerable : Picture → ℕ → Bool
 lowerable p x = lowerableAt (valueAt p x) p x
 
--- of the best place so far, given plus 1 or as 0 for none, and the lowerable ones of xs: the one of least value, then of smallest place, plus 1
+-- the better of a place so far and the lowerable places of xs: of least value, then of smallest place; places are given and answered plus 1, 0 for none
 abbrev pub bestFrom : Picture → ℕ → List ℕ → ℕ
 bestFrom p best [] = best
 bestFrom p best (x ∷ xs) =

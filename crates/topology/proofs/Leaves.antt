@@ -11,8 +11,8 @@ use borrow.Author.Tests.{eqb-true, eq-eqb, ltb-true, ltb-false}
 use Rattle.picture.specs.Lists.{tally, select, range, isIn}
 use Rattle.picture.specs.Pictures.{Picture, places, valueAt}
 use Rattle.picture.specs.Components.{componentAt, components}
-use Rattle.picture.specs.Trees.{Node, headOf, below, isBranch, nodes, nodeAt, componentOf}
-use Rattle.picture.specs.Patches.{isLeaf, insertByFirst, byFirst, patchNodes}
+use Rattle.picture.specs.Trees.{Node, headOf, below, isBranch, nodes, nodeAt, componentOf, isLeaf}
+use Rattle.picture.specs.Patches.{insertByFirst, byFirst, patchNodes}
 use Rattle.topology.proofs.Tests.{and-left, and-right, and-both, on-test, on-elim, same-test, test-false, clash}
 use Rattle.topology.proofs.Lists.{select-in, select-out, select-mem, mem-select, length-select, tally-none, in-mem, mem-in, range-mem, mem-range}
 use Rattle.topology.proofs.Rising.{Rising, none, more, rising-select, rising-equal}

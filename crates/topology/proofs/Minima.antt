@@ -12,8 +12,8 @@ use borrow.Author.Tests.{eqb-true}
 use Rattle.picture.specs.Lists.{select, isIn}
 use Rattle.picture.specs.Pictures.{Picture, places, valueAt, withPixels}
 use Rattle.picture.specs.Components.{componentAt, components}
-use Rattle.picture.specs.Trees.{Node, headOf, below, nodes, componentOf}
-use Rattle.picture.specs.Patches.{isLeaf, insertByFirst, byFirst, patchNodes, patchFrom, patchAt}
+use Rattle.picture.specs.Trees.{Node, headOf, below, nodes, componentOf, isLeaf}
+use Rattle.picture.specs.Patches.{insertByFirst, byFirst, patchNodes, patchFrom, patchAt}
 use Rattle.topology.proofs.Tests.{on-test, on-elim}
 use Rattle.topology.proofs.Lists.{select-mem, mem-select}
 use Rattle.topology.proofs.Connected.{start, conn-target, conn-trans}

@@ -12,8 +12,8 @@ use borrow.Author.Tests.{leb-true, le-leb}
 use Rattle.picture.specs.Lists.{any, tally, select, range, isIn}
 use Rattle.picture.specs.Pictures.{Picture, places, valueAt}
 use Rattle.picture.specs.Components.{componentAt}
-use Rattle.picture.specs.Trees.{Node, isBranch, nodes, nodeAt, componentOf, numberOf, fatherOf, mapOf}
-use Rattle.picture.specs.Patches.{isLeaf, patchNodes, Patch, patchOf, patchesFrom, patches, patchFrom, patchAt}
+use Rattle.picture.specs.Trees.{Node, isBranch, nodes, nodeAt, componentOf, numberOf, fatherOf, mapOf, isLeaf}
+use Rattle.picture.specs.Patches.{patchNodes, Patch, patchOf, patchesFrom, patches, patchFrom, patchAt}
 use Rattle.topology.proofs.Tests.{on-test, clash, test-false}
 use Rattle.topology.proofs.Lists.{any-mem, mem-any, length-select, select-mem, range-mem}
 use Rattle.topology.proofs.Connected.{start, conn-source, conn-target, conn-trans}

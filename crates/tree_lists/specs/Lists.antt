@@ -4,7 +4,7 @@ use mathlib.Core.List.{List, _++_}
 use Prim.Native.Nat.{ℕ, _*_, _≤_, _<_}
 use lib.ListN.{length, getD, drop}
 use Rattle.picture.specs.Pictures.{Picture, places}
-use Rattle.picture.specs.Trees.{nodes, treeOf}
+use Rattle.picture.specs.Trees.{nodes}
 
 -- the first m entries are bytes
 pub record Bytes (m : ℕ) (l : List ℕ) : Type 0 where

@@ -1,32 +1,27 @@
 -- The lent nodes of a height are checked against the new roots, and the lent map against their numbers.
 use mathlib.Core.Path.{_≡_, refl, sym, ap, subst, _∙_}
-use mathlib.Core.Bool.{Bool, true, false}
-use mathlib.Core.Logic.{_⊎_, inl, inr, ⊎-elim, by-cases, _≢_}
+use mathlib.Core.Bool.{false}
+use mathlib.Core.Logic.{inl, inr, ⊎-elim, by-cases}
 use mathlib.Core.List.{List}
-use Prim.Native.Nat.{ℕ, suc, _+_, _-_, _*_, _≤_, _<_}
+use Prim.Native.Nat.{ℕ, suc, _+_, _-_, _≤_, _<_}
 use native.Mathlib.Numerals.{add-one}
-use native.Mathlib.Decide.{ℕ-discrete, decLt}
+use native.Mathlib.Decide.{ℕ-discrete}
 use native.Mathlib.Omega.{arith}
 use lib.ListN.{length, getD, set, length-set}
-use Rattle.picture.specs.Lists.{pick}
-use Rattle.picture.specs.Pictures.{Picture, places, valueAt}
+use Rattle.picture.specs.Pictures.{Picture, places}
 use Rattle.picture.specs.Components.{componentAt}
-use Rattle.picture.specs.Trees.{Node, isBranch, nodes, nodeAt, numberOf, mapOf}
-use Rattle.topology.proofs.Connected.{start, conn-target}
+use Rattle.picture.specs.Trees.{isBranch, nodes, nodeAt}
 use Rattle.topology.proofs.Adjacency.{At}
-use Rattle.topology.proofs.Accepted.{Accepted, places-bound}
 use Rattle.topology.proofs.Reached.{firstAt}
-use Rattle.topology.proofs.Branches.{own-pixel}
-use Rattle.topology.proofs.Nodes.{node, IsNode, node-is, number-found, nodes-few, heights-rise}
-use Rattle.topology.proofs.Descent.{under, map-under}
-use Rattle.topology.proofs.Levels.{put, put-same, put-other, Level, Upto, Edges}
-use Rattle.topology.proofs.Counts.{soFar, so-few}
-use Rattle.topology.proofs.Numbering.{Member, Listed, Numbered, joined-root, root-first, free-fork, fork-free, number-new, count-next, next-level, named-all, edges-next}
-use Rattle.topology.proofs.Forests.{Forest, Found, Parents, forest-parents, root-cell, forest-state}
-use Rattle.topology.proofs.Checks.{Agree, Checking}
+use Rattle.topology.proofs.Nodes.{node-is}
+use Rattle.topology.proofs.Levels.{put, put-same, put-other, Level}
+use Rattle.topology.proofs.Counts.{soFar}
+use Rattle.topology.proofs.Numbering.{root-first, fork-free}
+use Rattle.topology.proofs.Forests.{root-cell, forest-state}
+use Rattle.topology.proofs.Checks.{Checking}
 use Rattle.lent_tree.specs.Lent.{HoldsTree}
 use Rattle.verify.specs.Steps.{Run, Counted, Fits}
-use Rattle.verify.proofs.Places.{height-least, firsts-rise}
+use Rattle.verify.proofs.Places.{firsts-rise}
 
 pub counted-start : (p : Picture) (k c : ℕ) (l fs ss m : List ℕ) → k ≤ 255 → c ≡ soFar p k → Checking p k (places p) l fs m → Counted p k c c l fs ss m
 counted-start p k c l fs ss m low e s =

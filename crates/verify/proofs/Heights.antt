@@ -1,19 +1,18 @@
 -- A height of the check, all heights, and their start.
 use mathlib.Core.Path.{_≡_, refl, sym, ap, subst, _∙_}
 use mathlib.Core.Bool.{Bool, true, false}
-use mathlib.Core.Logic.{_⊎_, inl, inr, ⊎-elim, by-cases, _≢_}
+use mathlib.Core.Logic.{inl, by-cases, _≢_}
 use mathlib.Core.List.{List}
-use Prim.Native.Nat.{ℕ, suc, _+_, _-_, _*_, _≤_, _<_}
+use Prim.Native.Nat.{ℕ, _+_, _-_, _≤_, _<_}
 use native.Mathlib.Nat.{mul-pos}
 use native.Mathlib.Numerals.{add-one}
 use native.Mathlib.Decide.{ℕ-discrete, decLt}
 use native.Mathlib.Omega.{arith}
 use lib.ListN.{length, getD, set, length-set}
 use lib.Seq.{getD-set-same, getD-set-other}
-use Rattle.picture.specs.Pictures.{Picture, places, valueAt, isPicture}
-use Rattle.picture.specs.Trees.{nodes, nodeAt}
+use Rattle.picture.specs.Pictures.{Picture, places, isPicture}
 use Rattle.topology.proofs.Tests.{clash}
-use Rattle.topology.proofs.Accepted.{Accepted, accepted-is, byte-at, places-bound}
+use Rattle.topology.proofs.Accepted.{accepted-is, byte-at, places-bound}
 use Rattle.topology.proofs.Nodes.{nodes-few}
 use Rattle.topology.proofs.Descent.{under-is}
 use Rattle.topology.proofs.Levels.{Level}
@@ -21,7 +20,6 @@ use Rattle.topology.proofs.Counts.{so-none}
 use Rattle.topology.proofs.Numbering.{level-start, edges-start}
 use Rattle.topology.proofs.Checks.{Checking}
 use Rattle.topology.proofs.Looks.{Passed}
-use Rattle.lent_tree.specs.Lent.{HoldsTree}
 use Rattle.verify.specs.Checked.{Says}
 use Rattle.verify.specs.Steps.{Run, Counted, Matched, CountReady, NodesChecked, MapReady, MapChecked, Verified}
 use Rattle.verify.specs.Heights.{Sizes, LevelChecked, Fresh}

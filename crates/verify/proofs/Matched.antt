@@ -1,33 +1,28 @@
 -- The lent map of a height is checked against the numbers of its roots; then the next height.
-use mathlib.Core.Path.{_≡_, refl, sym, ap, subst, _∙_}
-use mathlib.Core.Bool.{Bool, true, false}
-use mathlib.Core.Logic.{_⊎_, inl, inr, ⊎-elim, by-cases, _≢_}
+use mathlib.Core.Path.{_≡_, sym, ap, subst, _∙_}
+use mathlib.Core.Bool.{Bool}
+use mathlib.Core.Logic.{inl, inr, ⊎-elim, by-cases, _≢_}
 use mathlib.Core.List.{List}
-use Prim.Native.Nat.{ℕ, suc, _+_, _-_, _*_, _≤_, _<_}
-use native.Mathlib.Numerals.{add-one}
+use Prim.Native.Nat.{ℕ, suc, _+_, _≤_, _<_}
 use native.Mathlib.Decide.{ℕ-discrete, decLt}
 use native.Mathlib.Omega.{arith}
 use lib.Dec.{ltb}
-use lib.ListN.{length, getD, set}
+use lib.ListN.{length, getD}
 use borrow.Author.Tests.{lt-ltb, le-ltb}
 use Rattle.picture.specs.Lists.{pick}
 use Rattle.picture.specs.Pictures.{Picture, places, valueAt}
 use Rattle.picture.specs.Components.{componentAt}
-use Rattle.picture.specs.Trees.{Node, isBranch, nodes, nodeAt, numberOf, fatherOf, mapOf}
-use Rattle.topology.proofs.Connected.{conn-target}
+use Rattle.picture.specs.Trees.{Node, nodes, nodeAt, numberOf, mapOf}
 use Rattle.topology.proofs.Adjacency.{At}
-use Rattle.topology.proofs.Accepted.{Accepted, byte-at, places-bound}
-use Rattle.topology.proofs.Reached.{firstAt}
-use Rattle.topology.proofs.Branches.{own-pixel}
+use Rattle.topology.proofs.Accepted.{places-bound}
 use Rattle.topology.proofs.Nodes.{node, number-found, nodes-few, heights-rise}
-use Rattle.topology.proofs.Descent.{under, map-under, under-is}
+use Rattle.topology.proofs.Descent.{under, map-under}
 use Rattle.topology.proofs.Fathers.{map-found}
-use Rattle.topology.proofs.Levels.{Level, Upto, Edges}
-use Rattle.topology.proofs.Counts.{soFar, so-all, so-few, so-none}
-use Rattle.topology.proofs.Numbering.{Member, Listed, Numbered, joined-root, root-first, free-fork, number-new, count-next, next-level, named-all, edges-next, level-start, edges-start}
-use Rattle.topology.proofs.LastFathers.{LastFather, missing, pixel, last-father}
-use Rattle.topology.proofs.Forests.{Forest, Found, Parents, forest-parents}
-use Rattle.topology.proofs.Checks.{Differs, Agree, Checking}
+use Rattle.topology.proofs.Levels.{Level}
+use Rattle.topology.proofs.Counts.{soFar}
+use Rattle.topology.proofs.Numbering.{Member, Listed, Numbered, root-first, free-fork, number-new, count-next, next-level, named-all, edges-next}
+use Rattle.topology.proofs.Forests.{Found}
+use Rattle.topology.proofs.Checks.{Checking}
 use Rattle.lent_tree.specs.Lent.{HoldsTree}
 use Rattle.verify.specs.Steps.{Run, Counted, Matched}
 use Rattle.verify.proofs.Places.{height-least, before-is}

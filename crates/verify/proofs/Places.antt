@@ -1,10 +1,10 @@
 -- Where the nodes of a height stand among the nodes, and that their first places rise.
 use mathlib.Core.Path.{_≡_, refl, sym, ap, subst, _∙_}
-use mathlib.Core.Bool.{Bool, true, false, not}
-use mathlib.Core.Logic.{_⊎_, inl, inr, ⊎-elim, by-cases, _≢_}
+use mathlib.Core.Bool.{true, not}
+use mathlib.Core.Logic.{by-cases}
 use mathlib.Core.List.{List, [], _∷_, map, List·Memᴰ, Memᴰ·map}
 use Prim.Native.Nat.{ℕ, zero, suc, _+_, _-_, _≤_, _<_}
-use native.Mathlib.Decide.{ℕ-discrete, decLt}
+use native.Mathlib.Decide.{decLt}
 use native.Mathlib.Omega.{arith}
 use lib.ListN.{length, getD, length-map}
 use Rattle.picture.specs.Lists.{select, range}
@@ -16,8 +16,8 @@ use Rattle.topology.proofs.Lists.{mem-select, mem-range}
 use Rattle.topology.proofs.Rising.{Rising, none, more, rising-from, rising-select}
 use Rattle.topology.proofs.Parts.{isFirst, is-first}
 use Rattle.topology.proofs.Numbers.{mem-index, index-mem}
-use Rattle.topology.proofs.Nodes.{node, isNode, IsNode, nodes-at, node-is, node-equal, heights-rise}
-use Rattle.topology.proofs.Counts.{soFar, so-none, so-next, so-few, so-at}
+use Rattle.topology.proofs.Nodes.{node, isNode, nodes-at, node-is, node-equal}
+use Rattle.topology.proofs.Counts.{soFar, so-next, so-few, so-at}
 
 rising-at : {a : ℕ} {l : List ℕ} → Rising a l → (i j : ℕ) → i < j → j < length l → getD l i 0 < getD l j 0
 rising-at none i j h b = absurd (omega arith)

@@ -1,21 +1,19 @@
 -- What the functions of the check say, whatever the picture is.
 use mathlib.Core.Path.{_≡_, refl, sym, ap, subst, _∙_}
 use mathlib.Core.Bool.{Bool, true, false}
-use mathlib.Core.Logic.{_⊎_, inl, inr, ⊎-elim, by-cases, _≢_}
+use mathlib.Core.Logic.{by-cases}
 use mathlib.Core.List.{List}
-use Prim.Native.Nat.{ℕ, suc, _+_, _-_, _*_, _≤_, _<_}
-use native.Mathlib.Numerals.{add-one}
-use native.Mathlib.Decide.{ℕ-discrete, decLt}
+use Prim.Native.Nat.{ℕ, _+_, _-_, _≤_, _<_}
+use native.Mathlib.Decide.{ℕ-discrete}
 use native.Mathlib.Omega.{arith}
 use lib.ListN.{length, getD, set, length-set}
 use Rattle.picture.specs.Pictures.{Picture, places, valueAt}
 use Rattle.topology.proofs.Tests.{clash}
-use Rattle.topology.proofs.Descent.{under, map-under}
 use Rattle.topology.proofs.Forests.{Found, Parents, forest-parents}
 use Rattle.lent_tree.specs.Lent.{HoldsTree}
 use Rattle.verify.specs.Steps.{Run, Counted, Matched, Fit, CountReady, NodesChecked, MapReady, MapChecked}
 use Rattle.verify.proofs.Counted.{counted-turn, tree-fits}
-use Rattle.verify.proofs.Matched.{matched-pass, matched-turn, matched-cell, says, tree-complete}
+use Rattle.verify.proofs.Matched.{matched-pass, matched-turn, matched-cell}
 
 -- the run of the height k from c on goes at least to i
 pub record Running (k c i : ℕ) (hs : List ℕ) : Type 0 where
@@ -130,9 +128,6 @@ counting-end pixels k c d i o ss l s e =
       yes = λ q p fs m g h. subst (λ (z : ℕ). Counted p k c z l fs ss m) e (s .from p fs m g h);
       never = λ q. absurd (clash refl q);
     }
-
-pub map-parents : (pixels : List ℕ) (k x : ℕ) (l m : List ℕ) → MapReady pixels k x l m → Parents l
-map-parents pixels k x l m r = forest-parents (r .matched .counted .forest)
 
 module _ (pixels : List ℕ) (k x v : ℕ) (l m : List ℕ) (b : x < length l) (e : v ≡ getD pixels x 0) where
   pub map-other : (v ≡ k → ⊥) → MapChecked pixels k x (x + 1) l m l true

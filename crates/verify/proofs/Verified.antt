@@ -1,33 +1,28 @@
 -- The heights of a lent tree checked one after the other.
-use mathlib.Core.Path.{_≡_, refl, sym, ap, subst, _∙_}
-use mathlib.Core.Bool.{Bool, true, false}
-use mathlib.Core.Logic.{_⊎_, inl, inr, ⊎-elim, by-cases, _≢_}
+use mathlib.Core.Path.{_≡_, sym, ap, _∙_}
+use mathlib.Core.Logic.{⊎-elim, by-cases}
 use mathlib.Core.List.{List}
-use Prim.Native.Nat.{ℕ, suc, _+_, _-_, _*_, _≤_, _<_}
+use Prim.Native.Nat.{ℕ, suc, _-_, _≤_, _<_}
 use native.Mathlib.Nat.{mul-pos}
-use native.Mathlib.Numerals.{add-one}
-use native.Mathlib.Decide.{ℕ-discrete, decLt}
+use native.Mathlib.Decide.{decLt}
 use native.Mathlib.Omega.{arith}
-use lib.ListN.{length, getD, set, length-set}
+use lib.ListN.{length, getD}
 use Rattle.picture.specs.Pictures.{Picture, places, valueAt}
 use Rattle.picture.specs.Trees.{Node, nodes, nodeAt, fatherOf, mapOf}
-use Rattle.topology.proofs.Tests.{clash}
 use Rattle.topology.proofs.Connected.{conn-target}
 use Rattle.topology.proofs.Adjacency.{At}
 use Rattle.topology.proofs.Accepted.{Accepted, byte-at, places-bound}
 use Rattle.topology.proofs.Branches.{own-pixel}
-use Rattle.topology.proofs.Nodes.{node, nodes-few}
+use Rattle.topology.proofs.Nodes.{nodes-few}
 use Rattle.topology.proofs.Descent.{under, map-under, under-is}
 use Rattle.topology.proofs.Climb.{root-is, last-root}
-use Rattle.topology.proofs.Counts.{soFar, so-all, so-few}
+use Rattle.topology.proofs.Counts.{so-all}
 use Rattle.topology.proofs.Numbering.{Member, joined-root, free-fork}
 use Rattle.topology.proofs.LastFathers.{LastFather, missing, pixel, last-father}
-use Rattle.topology.proofs.Forests.{Found, Parents, forest-parents}
-use Rattle.topology.proofs.Checks.{Differs, Agree, Checking}
+use Rattle.topology.proofs.Checks.{Differs}
 use Rattle.lent_tree.specs.Lent.{HoldsTree}
 use Rattle.verify.specs.Steps.{Run, Matched, Verified}
-use Rattle.verify.proofs.Counted.{counted-start, counted-turn, tree-fits}
-use Rattle.verify.proofs.Matched.{matched-start, matched-pass, matched-turn, says, count-is, node-new, checking-next, tree-complete}
+use Rattle.verify.proofs.Matched.{says, count-is, node-new, checking-next}
 
 -- a lent node whose father and a pixel's node differ is no tree's
 pub differs-tree : (p : Picture) (count : ℕ) (hs fs ss m : List ℕ) → Differs p fs m → HoldsTree p count hs fs ss m → ⊥

@@ -3,7 +3,7 @@ use mathlib.Core.Path.{_≡_}
 use mathlib.Core.Bool.{Bool, true, false}
 use mathlib.Core.Logic.{_⊎_, _≢_}
 use mathlib.Core.List.{List}
-use Prim.Native.Nat.{ℕ, suc, _+_, _-_, _≤_, _<_}
+use Prim.Native.Nat.{ℕ, _+_, _-_, _≤_, _<_}
 use lib.ListN.{length, getD}
 use Rattle.picture.specs.Pictures.{Picture, places, valueAt}
 use Rattle.picture.specs.Trees.{nodeAt, mapOf}
@@ -45,7 +45,7 @@ pub record Counted (p : Picture) (k c i : ℕ) (l fs ss m : List ℕ) : Type 0 w
   pub named : (j : ℕ) → c ≤ j → j < i → new (getD ss j 0) ≡ 2048 + j
   pub either : (y : ℕ) → y < places p → root y ≡ y → Member (λ j. getD ss j 0) c i y ⊎ (new y ≡ st y)
 
--- the tests that the lent first place f of the node i passes; before is the one in front of it
+-- the tests that the lent first place of the node i passes: a place of value at most k, above the one before it, a root without a number
 pub record Fits (p : Picture) (k c i : ℕ) (l ss : List ℕ) : Type 0 where
   pub within : getD ss i 0 < places p
   pub low : valueAt p (getD ss i 0) ≤ k
@@ -83,6 +83,7 @@ pub record NodesChecked (pixels : List ℕ) (k c d : ℕ) (o ss l : List ℕ) (b
       b ≡ false → (p : Picture) (fs m : List ℕ) → p .pixels ≡ pixels → Counted p k c c o fs ss m →
       (count : ℕ) (hs : List ℕ) → Run k c d count hs → HoldsTree p count hs fs ss m → ⊥
 
+-- some picture's lent map can be checked from x on
 pub record MapReady (pixels : List ℕ) (k x : ℕ) (l m : List ℕ) : Type 0 where
   pub p : Picture
   pub c : ℕ
@@ -92,7 +93,7 @@ pub record MapReady (pixels : List ℕ) (k x : ℕ) (l m : List ℕ) : Type 0 wh
   pub is : p .pixels ≡ pixels
   pub matched : Matched p k c d x l fs ss m
 
--- what the check of the lent map leaves, for a pixel and for all before x
+-- what the check of the lent map leaves, for the pixels from x on, before z
 pub record MapChecked (pixels : List ℕ) (k x z : ℕ) (l m o : List ℕ) (b : Bool) : Type 0 where
   pub yes :
       b ≡ true → (p : Picture) (c d : ℕ) (fs ss : List ℕ) → p .pixels ≡ pixels → Matched p k c d x l fs ss m → Matched p k c d z o fs ss m

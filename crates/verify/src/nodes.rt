@@ -2,9 +2,8 @@
 use cells::wide;
 use tree::absorb::height;
 use tree::union_find::find;
-ghost use mathlib.Core.Path.{_≡_};
-ghost use Prim.Native.Nat.{_<_, _≤_, _+_, _*_};
-ghost use lib.ListN.{length, getD};
+ghost use Prim.Native.Nat.{_<_, _≤_, _+_};
+ghost use lib.ListN.{length};
 ghost use Rattle.topology.proofs.Forests.{Parents};
 ghost use Rattle.verify.specs.Steps.{Run, Fit, CountReady, NodesChecked, MapReady, MapChecked};
 

@@ -1,13 +1,12 @@
 -- The tree that the builder leaves in the cells is the one that the run reads.
-use mathlib.Core.Path.{_≡_, ap, sym, _∙_}
+use mathlib.Core.Path.{ap, sym, _∙_}
 use mathlib.Core.List.{List}
-use Prim.Native.Nat.{ℕ, _+_, _*_, _≤_, _<_}
+use Prim.Native.Nat.{ℕ, _+_, _*_, _≤_}
 use native.Mathlib.Nat.{zero-add}
 use native.Mathlib.Omega.{arith}
 use lib.ListN.{length, getD, take}
 use lib.Seq.{getD-take, length-take-le}
 use Rattle.picture.specs.Pictures.{Picture, places}
-use Rattle.picture.specs.Trees.{nodes}
 use Rattle.tree.specs.Arrays.{TreeIn}
 use Rattle.topology.proofs.Nodes.{nodes-few}
 use Rattle.topology.proofs.Turns.{Holds}

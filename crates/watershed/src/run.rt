@@ -19,7 +19,7 @@ ghost use Rattle.tree.specs.Arrays.{TreeIn};
 ghost use Rattle.topology.proofs.Running.{Settling, Settled, Turning, Turned};
 
 // Lowers the place x as far as it falls, if it is lowerable, and makes candidates of the neighbours that may now be lowerable.
-fn settle(a: u32, w: u32, h: u32, x: usize, out: &mut [u8], work: &mut [u16])
+fn lower_place(a: u32, w: u32, h: u32, x: usize, out: &mut [u8], work: &mut [u16])
     requires { ⌜ Settling (pictureOf a w h []) (now out) (take (3 * (w * h)) (now work)) (drop (3 * (w * h)) (now work)) x × (length (now work) ≡ 5 * (w * h)) ⌝ }
     ensures { λ _. ⌜ Settled (pictureOf a w h []) (now (out .entry)) (drop (3 * (w * h)) (now (work .entry))) (now (out .exit)) (take (3 * (w * h)) (now (work .exit))) (drop (3 * (w * h)) (now (work .exit))) ⌝ }
 {
@@ -46,7 +46,7 @@ fn turn(a: u32, w: u32, h: u32, x: usize, out: &mut [u8], work: &mut [u16]) -> u
     let n = w as usize * h as usize;
     let e = 3 * n;
     assign(out, &mut work[e..], n, x, NONE);
-    settle(a, w, h, x, out, work);
+    lower_place(a, w, h, x, out, work);
     wide(work[e + 1])
 }
 

@@ -22,7 +22,7 @@ fn copy(from: &[u8], to: &mut [u8])
 }
 
 // Builds the tree of a picture in work; the cells of the union-find are given back before the run.
-fn plant(a: u32, w: u32, h: u32, pixels: &[u8], work: &mut [u16])
+fn build_tree(a: u32, w: u32, h: u32, pixels: &[u8], work: &mut [u16])
     requires { ⌜ (isPicture (pictureOf a w h (now pixels)) ≡ true) × (length (now work) ≡ 5 * (w * h)) ⌝ }
     ensures { λ _. ⌜ TreeIn (pictureOf a w h (now (pixels .entry))) (now (work .exit)) ⌝ }
 {
@@ -35,7 +35,7 @@ pub fn watershed_core(a: u32, w: u32, h: u32, pixels: &[u8], out: &mut [u8], wor
     requires { ⌜ (isPicture (pictureOf a w h (now pixels)) ≡ true) × (length (now out) ≡ w * h) × (length (now work) ≡ 5 * (w * h)) ⌝ }
     ensures { λ _. ⌜ now (out .exit) ≡ watershed (pictureOf a w h (now (pixels .entry))) .pixels ⌝ }
 {
-    plant(a, w, h, pixels, work);
+    build_tree(a, w, h, pixels, work);
     copy(pixels, out);
     lower_all(a, w, h, out, work);
 }

@@ -4,7 +4,7 @@ use Prim.Native.Nat.{ℕ, _≤_}
 use native.Mathlib.Omega.{arith}
 use lib.ListN.{length, getD}
 use Rattle.picture.specs.Pictures.{Picture, pictureOf}
-use Rattle.board.specs.Trees.{treeFaultOf, checkedFault, TreeLent}
+use Rattle.board.specs.Trees.{treeFaultOf, checkedFault}
 use Rattle.faults.proofs.Laws.{Admitted}
 use Rattle.answers.proofs.Shell.{refused-answer, refused-left, accepted-answer, cleared-left}
 use Rattle.board.proofs.LentTrees.{lists-fault, tree-admitted, lent-tree, no-checked-fault}

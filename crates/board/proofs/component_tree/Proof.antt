@@ -1,8 +1,8 @@
 -- `board::component_tree` meets its contract: a refusal leaves all as it was, and else the core and the end leave what is said.
-use mathlib.Core.Path.{_≡_, refl, sym, ap, _∙_}
+use mathlib.Core.Path.{_≡_, sym, _∙_}
 use Prim.Native.Nat.{ℕ, _*_, _≤_}
 use native.Mathlib.Omega.{arith}
-use lib.ListN.{length, getD}
+use lib.ListN.{length}
 use Rattle.picture.specs.Pictures.{Picture, places, pictureOf}
 use Rattle.topology.proofs.Nodes.{nodes-few}
 use Rattle.board.specs.Trees.{shortest, treeFaultOf}

@@ -1,10 +1,9 @@
 -- `board::query_cleared` meets its contract.
-use mathlib.Core.Path.{_≡_, sym, ap, _∙_}
+use mathlib.Core.Path.{sym, ap, _∙_}
 use mathlib.Core.List.{List, _++_}
 use Prim.Native.Nat.{ℕ, _*_}
 use native.Mathlib.Omega.{arith}
 use lib.ListN.{length, replicate, length-replicate}
-use Rattle.patches.specs.Numbers.{Sizes}
 use Rattle.answers.proofs.Shell.{lent-length, behind-lent}
 use borrow.Author.Needs.{needs}
 use Rattle.board.proofs.query_cleared.Statement.{statement}

@@ -1,6 +1,5 @@
 -- `board::query_place` meets its contract: a refusal leaves all as it was, and else the core leaves what is said.
 use mathlib.Core.Path.{_≡_, refl, sym, _∙_}
-use Prim.Native.Nat.{ℕ}
 use native.Mathlib.Omega.{arith}
 use Rattle.picture.specs.Pictures.{Picture, pictureOf}
 use Rattle.board.specs.Calls.{placeFaultOf, Admits}

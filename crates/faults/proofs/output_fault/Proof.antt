@@ -1,5 +1,5 @@
 -- `faults::output_fault` meets its contract: each return is one law of the fault.
-use mathlib.Core.Path.{_≡_, sym, _∙_}
+use mathlib.Core.Path.{sym, _∙_}
 use Rattle.faults.proofs.Laws.{output-first, output-short, output-none}
 use borrow.Author.Needs.{needs}
 use Rattle.faults.proofs.output_fault.Statement.{statement}

@@ -1,5 +1,5 @@
 -- `faults::work_fault` meets its contract: each return is one law of the fault.
-use mathlib.Core.Path.{_≡_, sym, _∙_}
+use mathlib.Core.Path.{sym, _∙_}
 use native.Mathlib.Omega.{arith}
 use Rattle.faults.proofs.Laws.{work-first, work-short, work-none, fault-size, fault-few}
 use borrow.Author.Needs.{needs}

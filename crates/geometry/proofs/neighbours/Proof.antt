@@ -12,10 +12,10 @@ use Rattle.geometry.proofs.neighbours.Statement.{statement}
 use Rattle.geometry.proofs.neighbours.Tie as tie
 
 abbrev Inv-loop : tie.InvT-loop
-Inv-loop a w h x cells₀ width height column row free next steps m₀ i₀ cells m i = Front a w h x cells₀ cells m i
+Inv-loop a w h x cells₀ width height column row inner next steps m₀ i₀ cells m i = Front a w h x cells₀ cells m i
 
 abbrev μ-loop : tie.MeasureT-loop
-μ-loop a w h x cells₀ width height column row free next steps m₀ i₀ cells m i = 8 - i
+μ-loop a w h x cells₀ width height column row inner next steps m₀ i₀ cells m i = 8 - i
 
 rem-column : tie.Need-rem-column Inv-loop μ-loop
 rem-column c = search needs

@@ -1,6 +1,5 @@
 -- `geometry::put_tested` meets its contract: each return is one law of what is put.
-use mathlib.Core.Path.{_≡_, sym, _∙_}
-use mathlib.Core.Bool.{true}
+use mathlib.Core.Path.{sym, _∙_}
 use native.Mathlib.Omega.{arith}
 use borrow.Author.Tests.{not-true, not-false}
 use Rattle.geometry.proofs.Front.{right-fits, down-fits, step-leads, target-place, put-beside, put-beyond, put-written}

@@ -1,10 +1,8 @@
 -- `hold_lines::put_lines` meets its contract. The loop's invariant: the lines before i are written, 37 bytes each at most.
 use mathlib.Core.Path.{_≡_, subst}
-use mathlib.Core.List.{List}
 use Prim.Native.Nat.{ℕ, _+_, _-_, _*_, _≤_}
 use native.Mathlib.Omega.{arith}
 use borrow.Author.Needs.{needs}
-use lib.ListN.{length}
 use Rattle.picture.specs.Lists.{range}
 use Rattle.text.specs.Writing.{Written}
 use Rattle.text.proofs.Writings.{written-none, written-length}

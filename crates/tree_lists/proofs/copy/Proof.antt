@@ -1,6 +1,6 @@
 -- `tree_lists::copy` meets its contract. The loop's invariant: the first i entries are copied.
 use mathlib.Core.Path.{refl}
-use Prim.Native.Nat.{ℕ, _-_, _≤_}
+use Prim.Native.Nat.{_-_, _≤_}
 use native.Mathlib.Omega.{arith}
 use borrow.Author.Needs.{needs}
 use Rattle.topology.proofs.Copies.{Copied, copy-whole, copy-start, copy-turn}

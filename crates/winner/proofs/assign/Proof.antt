@@ -3,9 +3,6 @@ use Rattle.topology.proofs.WinnerSteps.{replay-start, replay-end}
 use borrow.Author.Needs.{needs}
 use Rattle.winner.proofs.assign.Statement.{statement}
 use Rattle.winner.proofs.assign.Tie as tie
-use Rattle.winner.proofs.assign.Reads as reads
-use Rattle.winner.proofs.assign.Lts as lts
-use Rattle.winner.proofs.replay.Reads as replay-reads
 
 add-cells : tie.Need-add-cells
 add-cells c = search needs

@@ -5,10 +5,6 @@ use Rattle.topology.proofs.WinnerTree.{last, beats-key, better-left, better-rig
 use borrow.Author.Needs.{needs}
 use Rattle.winner.proofs.better.Statement.{statement}
 use Rattle.winner.proofs.better.Tie as tie
-use Rattle.winner.proofs.better.Reads as reads
-use Rattle.winner.proofs.better.Lts as lts
-use Rattle.cells.proofs.wide.Reads as wide-reads
-use Rattle.cells.proofs.value.Reads as value-reads
 
 returns : tie.Need-returns
 returns c = better-right _ _ _ (last (c .if1 .taken))

@@ -1,15 +1,11 @@
 -- `winner::build` meets its contract. The invariant is Building: the tree is in order from a cell on.
 use mathlib.Core.Path.{_≡_, subst}
-use Prim.Native.Nat.{ℕ, _-_, _≤_}
+use Prim.Native.Nat.{_≤_}
 use native.Mathlib.Omega.{arith}
 use Rattle.topology.proofs.WinnerSteps.{Building, build-start, build-turn, winner-cell}
 use borrow.Author.Needs.{needs}
 use Rattle.winner.proofs.build.Statement.{statement}
 use Rattle.winner.proofs.build.Tie as tie
-use Rattle.winner.proofs.build.Reads as reads
-use Rattle.winner.proofs.build.Lts as lts
-use Rattle.winner.proofs.fill.Reads as fill-reads
-use Rattle.winner.proofs.play.Reads as play-reads
 
 abbrev Inv-loop : tie.InvT-loop
 Inv-loop pixels cells₀ n i₀ cells i = Building n pixels cells i × (1 ≤ i) × (i ≤ n)

@@ -1,13 +1,11 @@
 -- `winner::fill` meets its contract. The invariant is Filling: the leaves passed are set.
 use mathlib.Core.Path.{_≡_, subst}
-use Prim.Native.Nat.{ℕ, _-_, _≤_}
+use Prim.Native.Nat.{_-_, _≤_}
 use native.Mathlib.Omega.{arith}
-use Rattle.topology.proofs.WinnerSteps.{Filling, fill-start, fill-turn}
+use Rattle.topology.proofs.WinnerSteps.{Filling, fill-turn}
 use borrow.Author.Needs.{needs}
 use Rattle.winner.proofs.fill.Statement.{statement}
 use Rattle.winner.proofs.fill.Tie as tie
-use Rattle.winner.proofs.fill.Reads as reads
-use Rattle.winner.proofs.fill.Lts as lts
 
 abbrev Inv-loop : tie.InvT-loop
 Inv-loop cells₀ n x₀ cells x = Filling n cells x × (x ≤ n)

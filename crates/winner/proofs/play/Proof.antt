@@ -4,9 +4,6 @@ use Rattle.topology.proofs.WinnerTree.{same, moved}
 use borrow.Author.Needs.{needs}
 use Rattle.winner.proofs.play.Statement.{statement}
 use Rattle.winner.proofs.play.Tie as tie
-use Rattle.winner.proofs.play.Reads as reads
-use Rattle.winner.proofs.play.Lts as lts
-use Rattle.winner.proofs.better.Reads as better-reads
 
 mul-better : tie.Need-mul-better
 mul-better c = search needs

@@ -1,15 +1,11 @@
 -- `winner::replay` meets its contract. The invariant is Replaying: one cell may be wrong, the next to play.
 use mathlib.Core.Path.{_≡_, subst}
 use Rattle.topology.proofs.WinnerSteps.{played-less}
-use Prim.Native.Nat.{ℕ, _-_, _≤_}
 use native.Mathlib.Omega.{arith}
 use Rattle.topology.proofs.WinnerSteps.{Replaying, replay-turn, winner-cell}
 use borrow.Author.Needs.{needs}
 use Rattle.winner.proofs.replay.Statement.{statement}
 use Rattle.winner.proofs.replay.Tie as tie
-use Rattle.winner.proofs.replay.Reads as reads
-use Rattle.winner.proofs.replay.Lts as lts
-use Rattle.winner.proofs.play.Reads as play-reads
 
 abbrev Inv-loop : tie.InvT-loop
 Inv-loop pixels cells₀ n i j₀ cells j = Replaying n pixels cells₀ cells j

@@ -1,15 +1,11 @@
 -- `winner::wake_all` meets its contract. The invariant is Waking among the neighbours passed.
 use mathlib.Core.Path.{_≡_, subst}
-use Prim.Native.Nat.{ℕ, _-_, _≤_}
+use Prim.Native.Nat.{_-_, _≤_}
 use native.Mathlib.Omega.{arith}
-use Rattle.topology.proofs.WinnerSteps.{Waking, wake-start, wake-turn}
+use Rattle.topology.proofs.WinnerSteps.{Waking, wake-turn}
 use borrow.Author.Needs.{needs}
 use Rattle.winner.proofs.wake_all.Statement.{statement}
 use Rattle.winner.proofs.wake_all.Tie as tie
-use Rattle.winner.proofs.wake_all.Reads as reads
-use Rattle.winner.proofs.wake_all.Lts as lts
-use Rattle.cells.proofs.wide.Reads as wide-reads
-use Rattle.winner.proofs.wake.Reads as wake-reads
 
 abbrev Inv-loop : tie.InvT-loop
 Inv-loop pixels cells₀ n near m stop k i₀ cells i = Waking n pixels cells₀ stop k near cells i × (i ≤ m)

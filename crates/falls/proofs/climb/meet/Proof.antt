@@ -1,13 +1,10 @@
 -- `falls::climb::meet` meets its contract. The invariant is Climbed: a climb from the two nodes is on its way.
-use Prim.Native.Nat.{ℕ, _-_, _+_, _*_, _<_}
+use Prim.Native.Nat.{_-_, _*_, _<_}
 use native.Mathlib.Omega.{arith}
 use Rattle.topology.proofs.Stopping.{Climbed, climb-start, climb-left, climb-right, climb-above, climb-above-right, climb-within, climb-end}
 use borrow.Author.Needs.{needs}
 use Rattle.falls.proofs.climb.meet.Statement.{statement}
 use Rattle.falls.proofs.climb.meet.Tie as tie
-use Rattle.falls.proofs.climb.meet.Reads as reads
-use Rattle.falls.proofs.climb.meet.Lts as lts
-use Rattle.cells.proofs.wide.Reads as wide-reads
 
 abbrev Inv-loop : tie.InvT-loop
 Inv-loop tree n a b c₀ d₀ c d = Climbed n tree a b c d

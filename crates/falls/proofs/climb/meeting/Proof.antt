@@ -1,13 +1,8 @@
 -- `falls::climb::meeting` meets its contract: the climb from the nodes of two places, and the height where it meets.
-use native.Mathlib.Omega.{arith}
-use Rattle.topology.proofs.Stopping.{Met, climb-places, met-height}
+use Rattle.topology.proofs.Stopping.{climb-places, met-height}
 use borrow.Author.Needs.{needs}
 use Rattle.falls.proofs.climb.meeting.Statement.{statement}
 use Rattle.falls.proofs.climb.meeting.Tie as tie
-use Rattle.falls.proofs.climb.meeting.Reads as reads
-use Rattle.falls.proofs.climb.meeting.Lts as lts
-use Rattle.falls.proofs.climb.meet.Reads as meet-reads
-use Rattle.cells.proofs.wide.Reads as wide-reads
 
 mul-wide : tie.Need-mul-wide
 mul-wide c = search needs

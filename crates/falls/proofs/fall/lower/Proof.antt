@@ -3,8 +3,6 @@ use Rattle.topology.proofs.Stopping.{stays, moves}
 use borrow.Author.Needs.{needs}
 use Rattle.falls.proofs.fall.lower.Statement.{statement}
 use Rattle.falls.proofs.fall.lower.Tie as tie
-use Rattle.falls.proofs.fall.lower.Reads as reads
-use Rattle.falls.proofs.fall.lower.Lts as lts
 
 shared-slice-read-if1 : tie.Need-shared-slice-read-if1
 shared-slice-read-if1 c = search needs

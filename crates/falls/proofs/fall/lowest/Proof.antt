@@ -1,16 +1,12 @@
 -- `falls::fall::lowest` meets its contract. The invariant is Lowest among the neighbours passed.
-use mathlib.Core.Path.{_≡_, subst}
-use Prim.Native.Nat.{ℕ, _-_, _≤_}
+use mathlib.Core.Path.{_≡_}
+use Prim.Native.Nat.{_-_, _≤_}
 use native.Mathlib.Omega.{arith}
 use lib.ListN.{length}
 use Rattle.topology.proofs.Stopping.{Lowest, lowest-start, lowest-turn}
 use borrow.Author.Needs.{needs}
 use Rattle.falls.proofs.fall.lowest.Statement.{statement}
 use Rattle.falls.proofs.fall.lowest.Tie as tie
-use Rattle.falls.proofs.fall.lowest.Reads as reads
-use Rattle.falls.proofs.fall.lowest.Lts as lts
-use Rattle.cells.proofs.wide.Reads as wide-reads
-use Rattle.falls.proofs.fall.lower.Reads as lower-reads
 
 abbrev Inv-loop : tie.InvT-loop
 Inv-loop pixels x near m low₀ i₀ low i = Lowest (length pixels) pixels x near i low × (i ≤ m)

@@ -5,10 +5,6 @@ use Rattle.topology.proofs.Stopping.{above, early, late}
 use borrow.Author.Needs.{needs}
 use Rattle.falls.proofs.fall.raise.Statement.{statement}
 use Rattle.falls.proofs.fall.raise.Tie as tie
-use Rattle.falls.proofs.fall.raise.Reads as reads
-use Rattle.falls.proofs.fall.raise.Lts as lts
-use Rattle.falls.proofs.climb.meeting.Reads as meeting-reads
-use Rattle.cells.proofs.value.Reads as value-reads
 
 shared-slice-read-value : tie.Need-shared-slice-read-value
 shared-slice-read-value c = search needs

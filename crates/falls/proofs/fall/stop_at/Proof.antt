@@ -1,16 +1,11 @@
 -- `falls::fall::stop_at` meets its contract. The invariant is Stopped among the neighbours passed.
-use mathlib.Core.Path.{_≡_, subst}
-use Prim.Native.Nat.{ℕ, _-_, _≤_}
+use mathlib.Core.Path.{_≡_}
+use Prim.Native.Nat.{_-_, _≤_}
 use native.Mathlib.Omega.{arith}
 use Rattle.topology.proofs.Stopping.{Stopped, stop-start, stop-turn}
 use borrow.Author.Needs.{needs}
 use Rattle.falls.proofs.fall.stop_at.Statement.{statement}
 use Rattle.falls.proofs.fall.stop_at.Tie as tie
-use Rattle.falls.proofs.fall.stop_at.Reads as reads
-use Rattle.falls.proofs.fall.stop_at.Lts as lts
-use Rattle.cells.proofs.wide.Reads as wide-reads
-use Rattle.falls.proofs.fall.raise.Reads as raise-reads
-use Rattle.cells.proofs.value.Reads as value-reads
 
 abbrev Inv-loop : tie.InvT-loop
 Inv-loop tree n pixels low k near m stop₀ i₀ stop i = Stopped n pixels tree low k near i stop × (i ≤ m)

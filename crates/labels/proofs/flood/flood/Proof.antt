@@ -1,7 +1,7 @@
 use borrow.Author.Needs.{needs}
 -- `labels::flood::flood` meets its contract. The invariant is Flowing; twice the unmarked places with the stack's height fall.
 use mathlib.Core.Path.{_≡_, _∙_}
-use Prim.Native.Nat.{ℕ, suc, _+_, _*_, _-_, _≤_}
+use Prim.Native.Nat.{suc, _+_, _*_, _-_, _≤_}
 use native.Mathlib.Omega.{arith}
 use lib.ListN.{set, length-set}
 use Rattle.picture.specs.Pictures.{Picture, pictureOf}

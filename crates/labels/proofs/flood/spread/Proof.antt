@@ -1,11 +1,11 @@
 use borrow.Author.Needs.{needs}
 -- `labels::flood::spread` meets its contract. The invariant: the edges to the neighbours from index i on are left to follow.
-use Prim.Native.Nat.{ℕ, _-_, _≤_}
+use Prim.Native.Nat.{_-_, _≤_}
 use native.Mathlib.Omega.{arith}
 use mathlib.Core.Path.{_≡_, _∙_}
 use lib.ListN.{drop, getD}
 use Rattle.picture.proofs.Neighbours.{neighbour-at}
-use Rattle.labels.proofs.Floods.{listed-at, spread-none, spread-next, spread-end}
+use Rattle.labels.proofs.Floods.{listed-at, spread-next, spread-end}
 use Rattle.picture.specs.Geometry.{neighboursOf}
 use Rattle.picture.specs.Pictures.{pictureOf}
 use Rattle.labels.specs.Floods.{Spread}

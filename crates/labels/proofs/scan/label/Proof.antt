@@ -1,7 +1,7 @@
 use borrow.Author.Needs.{needs}
 -- `labels::scan::label` meets its contract. The invariant: the scan has come to the place x.
 use mathlib.Core.Path.{_≡_, _∙_}
-use Prim.Native.Nat.{ℕ, _-_, _≤_}
+use Prim.Native.Nat.{_-_, _≤_}
 use native.Mathlib.Omega.{arith}
 use lib.ListN.{length}
 use Rattle.picture.specs.Pictures.{Picture, pictureOf}

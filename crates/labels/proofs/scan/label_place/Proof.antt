@@ -1,5 +1,5 @@
 -- `labels::scan::label_place` meets its contract: each return is one law of the scan.
-use mathlib.Core.Path.{_≡_, sym, _∙_}
+use mathlib.Core.Path.{sym, _∙_}
 use native.Mathlib.Omega.{arith}
 use borrow.Author.Tests.{not-true, not-false}
 use Rattle.picture.specs.Pictures.{Picture, pictureOf}

@@ -1,10 +1,9 @@
 -- `p5::field::digits_at` meets its contract. Assumes nothing.
 use Rattle.p5.proofs.Tests.{was-true, was-false}
 -- `p5::field::digits_at` meets its contract. Assumes nothing.
-use mathlib.Core.Path.{sym, _∙_}
+use mathlib.Core.Path.{_∙_}
 use Prim.Native.Nat.{_-_}
 use native.Mathlib.Omega.{arith}
-use borrow.Author.Tests.{not-true, not-false}
 use borrow.Author.Needs.{needs}
 use lib.ListN.{length}
 use Rattle.p5.specs.Headers.{isDigit}

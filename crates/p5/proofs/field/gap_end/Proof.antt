@@ -1,9 +1,8 @@
 -- `p5::field::gap_end` meets its contract. Assumes nothing.
 use Rattle.p5.proofs.Tests.{was-true, was-false}
 -- `p5::field::gap_end` meets its contract. Assumes nothing.
-use mathlib.Core.Path.{_≡_, refl, sym, _∙_}
+use mathlib.Core.Path.{_≡_, refl, _∙_}
 use Prim.Native.Nat.{_-_}
-use borrow.Author.Tests.{not-true, not-false}
 use borrow.Author.Needs.{needs}
 use lib.ListN.{length}
 use Rattle.p5.specs.Headers.{gapEnd}

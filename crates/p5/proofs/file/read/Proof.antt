@@ -2,7 +2,6 @@
 use Rattle.p5.proofs.Tests.{was-true, was-false}
 -- `p5::file::read` meets its contract. Assumes nothing.
 use mathlib.Core.Path.{sym, ap, _∙_}
-use borrow.Author.Tests.{not-true, not-false}
 use borrow.Author.Needs.{needs}
 use denote.Ref.{now}
 use Rattle.p5.specs.Files.{onHeader, onWalk, malformedAt}

@@ -1,8 +1,6 @@
 -- `p5::header::header_end` meets its contract. Assumes nothing.
 use Rattle.p5.proofs.Tests.{was-true, was-false}
 -- `p5::header::header_end` meets its contract. Assumes nothing.
-use mathlib.Core.Path.{sym, _∙_}
-use borrow.Author.Tests.{not-true, not-false}
 use borrow.Author.Needs.{needs}
 use Rattle.p5.proofs.Walking.{end-past, end-stop, end-white}
 use Rattle.p5.proofs.header.header_end.Statement.{statement}

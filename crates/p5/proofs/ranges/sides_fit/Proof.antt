@@ -1,8 +1,7 @@
 -- `p5::ranges::sides_fit` meets its contract. Assumes nothing.
 use Rattle.p5.proofs.Tests.{was-true, was-false}
 -- `p5::ranges::sides_fit` meets its contract. Assumes nothing.
-use mathlib.Core.Path.{sym, _∙_}
-use borrow.Author.Tests.{not-true, not-false}
+use mathlib.Core.Path.{_∙_}
 use borrow.Author.Needs.{needs}
 use Rattle.p5.proofs.ranges.sides_fit.Statement.{statement}
 use Rattle.p5.proofs.ranges.sides_fit.Tie as tie

@@ -3,7 +3,6 @@ use Rattle.verify.proofs.Heights.{verified-start, sizes-of, says-none, 
 use Rattle.picture.specs.Pictures.{pictureOf}
 use mathlib.Core.Path.{_∙_}
 use native.Mathlib.Omega.{arith}
-use Prim.Native.Nat.{_-_}
 use borrow.Author.Needs.{needs}
 use Rattle.verify.proofs.check.is_tree_exactly.Statement.{statement}
 use Rattle.verify.proofs.check.is_tree_exactly.Tie as tie

@@ -1,7 +1,6 @@
 -- `verify::nodes::check_map_one` meets its contract.
 use Rattle.verify.proofs.Steps.{map-other, map-yes, map-free, map-differs}
 use native.Mathlib.Omega.{arith}
-use Prim.Native.Nat.{_-_}
 use borrow.Author.Needs.{needs}
 use Rattle.verify.proofs.nodes.check_map_one.Statement.{statement}
 use Rattle.verify.proofs.nodes.check_map_one.Tie as tie

@@ -1,7 +1,6 @@
 -- `verify::nodes::node_fits` meets its contract.
 use Rattle.verify.proofs.Steps.{unfit-beyond, unfit-high, unfit-taken, unfit-order, fit-yes}
 use native.Mathlib.Omega.{arith}
-use Prim.Native.Nat.{_-_}
 use borrow.Author.Needs.{needs}
 use Rattle.verify.proofs.nodes.node_fits.Statement.{statement}
 use Rattle.verify.proofs.nodes.node_fits.Tie as tie

@@ -2,25 +2,20 @@
 use native.Mathlib.Nat.{mul-le-mul}
 use mathlib.Core.Path.{_≡_, refl, sym, ap, _∙_}
 use mathlib.Core.List.{[]}
-use Prim.Native.Nat.{ℕ, _*_, _≤_, _<_}
+use Prim.Native.Nat.{_*_, _≤_}
 use native.Mathlib.Omega.{arith}
 use lib.ListN.{length, getD, take, drop}
 use lib.Seq.{getD-drop}
 use Rattle.picture.specs.Pictures.{Picture, places, pictureOf}
 use Rattle.picture.specs.Watersheds.{watershed}
 use Rattle.topology.proofs.Accepted.{accepted-is, places-bound}
-use Rattle.topology.proofs.Running.{Running, Nobody, measure, places-most}
+use Rattle.topology.proofs.Running.{Running, Nobody, measure}
 use Rattle.topology.proofs.Turns.{running-end}
 use Rattle.topology.proofs.Lending.{start-lent, start-back, size-back}
 use Rattle.watershed.proofs.Held.{tree-holds}
 use borrow.Author.Needs.{needs}
 use Rattle.watershed.proofs.run.lower_all.Statement.{statement}
 use Rattle.watershed.proofs.run.lower_all.Tie as tie
-use Rattle.watershed.proofs.run.lower_all.Reads as reads
-use Rattle.watershed.proofs.run.lower_all.Lts as lts
-use Rattle.cells.proofs.wide.Reads as wide-reads
-use Rattle.watershed.proofs.run.turn.Reads as turn-reads
-use Rattle.winner.proofs.build.Reads as build-reads
 
 abbrev Inv-loop : tie.InvT-loop
 Inv-loop a w h out₀ work₀ n e x₀ out work x = Running (pictureOf a w h []) out (take (3 * (w * h)) work) (drop (3 * (w * h)) work) Nobody ×

@@ -1,23 +1,16 @@
 -- `watershed::run::turn` meets its contract: the winner's leaf is unset, and the winner settled.
 use Rattle.picture.specs.Pictures.{pictureOf}
 use Rattle.topology.proofs.Lending.{size-back}
-use mathlib.Core.Path.{_≡_, refl}
+use mathlib.Core.Path.{refl}
 use mathlib.Core.Logic.{inr}
 use mathlib.Core.List.{[]}
-use Prim.Native.Nat.{ℕ, _*_, _≤_, _<_}
 use native.Mathlib.Omega.{arith}
-use lib.ListN.{length}
 use Rattle.topology.proofs.Running.{places-most}
 use Rattle.topology.proofs.Turns.{turn-place}
 use Rattle.topology.proofs.Lending.{start-lent, turn-winner, turn-back, turn-over}
 use borrow.Author.Needs.{needs}
 use Rattle.watershed.proofs.run.turn.Statement.{statement}
 use Rattle.watershed.proofs.run.turn.Tie as tie
-use Rattle.watershed.proofs.run.turn.Reads as reads
-use Rattle.watershed.proofs.run.turn.Lts as lts
-use Rattle.cells.proofs.wide.Reads as wide-reads
-use Rattle.watershed.proofs.run.settle.Reads as settle-reads
-use Rattle.winner.proofs.assign.Reads as assign-reads
 
 mul-n : tie.Need-mul-n
 mul-n c = search needs
@@ -49,8 +42,8 @@ assign-requires c κs = let s = c .before .before .before .before in
       inr refl,
     )
 
-settle-requires : tie.Need-settle-requires
-settle-requires c κs = let s = c .before .before .before .before .before .before .before .before .before in
+lower-place-requires : tie.Need-lower-place-requires
+lower-place-requires c κs = let s = c .before .before .before .before .before .before .before .before .before in
     let f = pictureOf (s .args .a) (s .args .w) (s .args .h) [] in (
       turn-back f _ _ _ (s .pre .0) (s .pre .1) _ (c .before .before .before .before .assign .ensures),
       size-back f (s .args .out .now) (s .args .work .now) (c .before .before .before .before .assign .last .1 .0) (s .pre .1) (c .before .before .before .before .assign .ensures .size),
@@ -68,7 +61,7 @@ slice-read-wide c = let s = c .before .before .before .before .before .before .b
     omega (
       arith,
       s .pre .0 .running .filled,
-      c .before .before .before .before .before .settle .kept .1 .1 .1 .1 .1 .0,
+      c .before .before .before .before .before .lower-place .kept .1 .1 .1 .1 .1 .0,
       size-back f (s .args .out .now) (s .args .work .now) (c .before .before .before .before .before .before .before .before .before .before .assign .last .1 .0) (s .pre .1) (c .before .before .before .before .before .before .before .before .before .before .assign .ensures .size),
     )
 
@@ -84,7 +77,7 @@ same-length-2 c = search needs
 returns : tie.Need-returns
 returns c = let s = c .before .before .before .before .before .before .before .before .before .before .before .before .before .before .before .before in
     let f = pictureOf (s .args .a) (s .args .w) (s .args .h) [] in
-    turn-over f _ _ _ (s .pre .0) (s .pre .1) _ (c .before .before .before .before .before .before .before .before .before .before .before .assign .ensures) _ _ (c .before .before .before .before .before .before .settle .ensures) _ (c .wide .ensures)
+    turn-over f _ _ _ (s .pre .0) (s .pre .1) _ (c .before .before .before .before .before .before .before .before .before .before .before .assign .ensures) _ _ (c .before .before .before .before .before .before .lower-place .ensures) _ (c .wide .ensures)
 
 pub turn-spec : {M : Type 1} → statement M
 turn-spec =
@@ -97,7 +90,7 @@ turn-spec =
     part-assign-start
     part-assign-end
     assign-requires
-    settle-requires
+    lower-place-requires
     add-wide
     mul-wide
     slice-read-wide

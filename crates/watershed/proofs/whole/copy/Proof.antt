@@ -7,8 +7,6 @@ use Rattle.topology.proofs.Copies.{Copied, copy-start, copy-turn, copy-all}
 use borrow.Author.Needs.{needs}
 use Rattle.watershed.proofs.whole.copy.Statement.{statement}
 use Rattle.watershed.proofs.whole.copy.Tie as tie
-use Rattle.watershed.proofs.whole.copy.Reads as reads
-use Rattle.watershed.proofs.whole.copy.Lts as lts
 
 abbrev Inv-loop : tie.InvT-loop
 Inv-loop from to₀ i₀ to i = Copied from 0 i to₀ to × (i ≤ length from)

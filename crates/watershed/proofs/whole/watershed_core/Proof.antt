@@ -1,18 +1,13 @@
 -- `watershed::whole::watershed_core` meets its contract: the tree is that of the pixels, and so is the copy that is lowered.
-use mathlib.Core.Path.{_≡_, sym, _∙_}
+use mathlib.Core.Path.{sym, _∙_}
 use Rattle.topology.proofs.Accepted.{accepted-is}
 use Rattle.picture.specs.Pictures.{pictureOf}
 use borrow.Author.Needs.{needs}
 use Rattle.watershed.proofs.whole.watershed_core.Statement.{statement}
 use Rattle.watershed.proofs.whole.watershed_core.Tie as tie
-use Rattle.watershed.proofs.whole.watershed_core.Reads as reads
-use Rattle.watershed.proofs.whole.watershed_core.Lts as lts
-use Rattle.watershed.proofs.run.lower_all.Reads as lower-all-reads
-use Rattle.watershed.proofs.whole.copy.Reads as copy-reads
-use Rattle.watershed.proofs.whole.plant.Reads as plant-reads
 
-plant-requires : tie.Need-plant-requires
-plant-requires c κs = search needs
+build-tree-requires : tie.Need-build-tree-requires
+build-tree-requires c κs = search needs
 
 copy-requires : tie.Need-copy-requires
 copy-requires c κs = let s = c .before .before .before .before .before .before .before .before in
@@ -21,7 +16,7 @@ copy-requires c κs = let s = c .before .before .before .before .before .before 
 lower-all-requires : tie.Need-lower-all-requires
 lower-all-requires c κs = let s = c .before .before .before .before .before .before .before .before .before .before .before .before .before in
     let e = c .before .before .before .before .copy .ensures in
-    (rw e (s .pre .0), c .before .before .before .before .before .before .before .before .plant .kept .1 .1 .1 .1 .0 ∙ s .pre .2, rw e (c .before .before .before .before .before .before .before .before .plant .ensures))
+    (rw e (s .pre .0), c .before .before .before .before .before .before .before .before .build-tree .kept .1 .1 .1 .1 .0 ∙ s .pre .2, rw e (c .before .before .before .before .before .before .before .before .build-tree .ensures))
 
 same-length : tie.Need-same-length
 same-length c = search needs
@@ -35,4 +30,4 @@ returns c = rw (c .before .before .before .before .before .before .before .befor
 pub watershed-core-spec : {M : Type 1} → statement M
 watershed-core-spec =
     tie.close
-    (tie.spec plant-requires copy-requires lower-all-requires same-length same-length-2 returns)
+    (tie.spec build-tree-requires copy-requires lower-all-requires same-length same-length-2 returns)

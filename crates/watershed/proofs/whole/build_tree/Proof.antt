@@ -1,13 +1,10 @@
--- `watershed::whole::plant` meets its contract: an accepted picture has at most 1,600 places.
+-- `watershed::whole::build_tree` meets its contract: an accepted picture has at most 1,600 places.
 use native.Mathlib.Omega.{arith}
 use Rattle.topology.proofs.Accepted.{accepted-is, places-bound}
 use Rattle.picture.specs.Pictures.{pictureOf}
 use borrow.Author.Needs.{needs}
-use Rattle.watershed.proofs.whole.plant.Statement.{statement}
-use Rattle.watershed.proofs.whole.plant.Tie as tie
-use Rattle.watershed.proofs.whole.plant.Reads as reads
-use Rattle.watershed.proofs.whole.plant.Lts as lts
-use Rattle.tree.proofs.build.build.Reads as build-reads
+use Rattle.watershed.proofs.whole.build_tree.Statement.{statement}
+use Rattle.watershed.proofs.whole.build_tree.Tie as tie
 
 slice-aggregate-build : tie.Need-slice-aggregate-build
 slice-aggregate-build c = search needs
@@ -23,5 +20,5 @@ same-length c = search needs
 returns : tie.Need-returns
 returns c = search needs
 
-pub plant-spec : {M : Type 1} → statement M
-plant-spec = tie.close (tie.spec slice-aggregate-build build-requires same-length returns)
+pub build-tree-spec : {M : Type 1} → statement M
+build-tree-spec = tie.close (tie.spec slice-aggregate-build build-requires same-length returns)

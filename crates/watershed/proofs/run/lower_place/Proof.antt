@@ -1,23 +1,15 @@
--- `watershed::run::settle` meets its contract: the place stays and was not lowerable, or falls, and its neighbours are woken.
-use mathlib.Core.Path.{_≡_, subst}
+-- `watershed::run::lower_place` meets its contract: the place stays and was not lowerable, or falls, and its neighbours are woken.
 use mathlib.Core.List.{[]}
-use Prim.Native.Nat.{ℕ, _*_, _≤_, _<_}
+use Prim.Native.Nat.{_*_}
 use native.Mathlib.Omega.{arith}
-use lib.ListN.{length, getD, take, length-set}
+use lib.ListN.{getD, take, length-set}
 use Rattle.picture.specs.Pictures.{Picture, places, pictureOf}
 use Rattle.topology.proofs.Stopping.{Around, Lowest, Stopped, listed-around, around-places}
 use Rattle.topology.proofs.Running.{places-most, settle-stays}
 use Rattle.topology.proofs.Lending.{fall-winner, fall-lent, fall-back}
 use borrow.Author.Needs.{needs}
-use Rattle.watershed.proofs.run.settle.Statement.{statement}
-use Rattle.watershed.proofs.run.settle.Tie as tie
-use Rattle.watershed.proofs.run.settle.Reads as reads
-use Rattle.watershed.proofs.run.settle.Lts as lts
-use Rattle.geometry.proofs.neighbours.Reads as neighbours-reads
-use Rattle.falls.proofs.fall.lowest.Reads as lowest-reads
-use Rattle.falls.proofs.fall.stop_at.Reads as stop-at-reads
-use Rattle.cells.proofs.value.Reads as value-reads
-use Rattle.winner.proofs.wake_all.Reads as wake-all-reads
+use Rattle.watershed.proofs.run.lower_place.Statement.{statement}
+use Rattle.watershed.proofs.run.lower_place.Tie as tie
 
 -- what the loops over the neighbours have found
 abbrev frame-at : tie.After-stop-at → Picture
@@ -160,8 +152,8 @@ returns-2 c = let s = c .before .before .before .before .before .before .before 
     fall-back _ _ _ _ (s .pre .0) (s .pre .1) _ _ _ _ (around-at q) (lowest-at q) (stopped-at q) h _
     (rw (c .before .before .before .before .before .before .before .before .before .before .before .before .before .before .before .value .ensures) at (c .before .before .wake-all .ensures))
 
-pub settle-spec : {M : Type 1} → statement M
-settle-spec =
+pub lower-place-spec : {M : Type 1} → statement M
+lower-place-spec =
     tie.close
     (tie.spec
     mul-n
