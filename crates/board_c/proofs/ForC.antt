@@ -25,8 +25,8 @@ use Rattle.board.specs.Calls.{outputFaultOf, placeFaultOf, groundOf, WaterSays,
 use Rattle.faults.proofs.Laws.{first-some, first-none, first-zero, when-zero, place-fine, workFaultOf, work-size, fault-size, fault-few, work-enough, work-none, output-none, output-enough, place-behind}
 use Rattle.answers.proofs.Shell.{refused-left, written-left}
 use Rattle.board_c.specs.CalledByC.{pair, readFaultForC, headerBytes, ReadForC, waterFaultForC, bytesAfter, WaterForC, placeFaultForC, placeFaultForCOf, patchNumber, PlaceForC}
-use Rattle.board_c.specs.Packing.{packed}
-use Rattle.board_c.proofs.Packed.{written-front, packed-zeros}
+use Rattle.packing.specs.Packing.{packed}
+use Rattle.packing.proofs.Packed.{written-front, packed-zeros}
 
 -- no fault: the bytes written from the beginning stand over what was there
 pub changed : (f : ℕ) (bytes o o′ : List ℕ) {to : ℕ} → f ≡ 0 → Written 0 bytes o to o′ → o′ ≡ afterCall f (over bytes o) o

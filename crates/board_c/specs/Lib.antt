@@ -1,3 +1,2 @@
 -- What the calls for C promise.
 pub mod CalledByC
-pub mod Packing

@@ -1,4 +1,4 @@
--- `board_c::packing::pack` meets its contract. The invariant: the first i cells are written.
+-- `packing::pack` meets its contract. The invariant: the first i cells are written.
 use mathlib.Core.Path.{_≡_, refl, ap, _∙_}
 use Prim.Native.Nat.{ℕ, _≤_, _-_, _*_}
 use native.Mathlib.Omega.{arith}
@@ -7,10 +7,10 @@ use borrow.Author.Needs.{needs}
 use Rattle.text.specs.Writing.{Written}
 use Rattle.text.proofs.Writings.{written-none}
 use Rattle.answers.specs.Answers.{over}
-use Rattle.board_c.specs.Packing.{packed}
-use Rattle.board_c.proofs.Packed.{written-front, packed-next}
-use Rattle.board_c.proofs.packing.pack.Statement.{statement}
-use Rattle.board_c.proofs.packing.pack.Tie as tie
+use Rattle.packing.specs.Packing.{packed}
+use Rattle.packing.proofs.Packed.{written-front, packed-next}
+use Rattle.packing.proofs.pack.Statement.{statement}
+use Rattle.packing.proofs.pack.Tie as tie
 
 abbrev Inv-loop : tie.InvT-loop
 Inv-loop cells bytes₀ m next₀ i₀ bytes next i = (i ≤ m) × (next ≡ 2 * i) × (length bytes ≡ length bytes₀) × Written 0 (packed (take i cells)) bytes₀ next bytes

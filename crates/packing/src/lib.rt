@@ -7,10 +7,10 @@ ghost use lib.ListN.{length, take, drop};
 ghost use Rattle.text.specs.Little.{littleEndian};
 ghost use Rattle.text.specs.Writing.{Written};
 ghost use Rattle.answers.specs.Answers.{over};
-ghost use Rattle.board_c.specs.Packing.{entries, packed};
+ghost use Rattle.packing.specs.Packing.{entries, packed};
 
 // The entry of two bytes.
-fn entry(low: u8, high: u8) -> u16
+fn entry_of(low: u8, high: u8) -> u16
     ensures { λ r. ⌜ r ≡ low + 256 * high ⌝ }
 {
     low as u16 + 256 * high as u16
@@ -23,18 +23,18 @@ pub fn unpack(bytes: &[u8], cells: &mut [u16], m: usize)
 {
     let mut i = 0;
     while i < m {
-        cells[i] = entry(bytes[2 * i], bytes[2 * i + 1]);
+        cells[i] = entry_of(bytes[2 * i], bytes[2 * i + 1]);
         i += 1;
     }
 }
 
 // Writes an entry and answers the place behind it. By `put_little`, which is recursive, packing would double the time of a place query.
-fn put_entry(bytes: &mut [u8], at: usize, entry: u16) -> usize
+fn put_entry(bytes: &mut [u8], at: usize, value: u16) -> usize
     requires { ⌜ at + 2 ≤ length (now bytes) ⌝ }
-    ensures { λ r. ⌜ Written at (littleEndian 2 entry) (now (bytes .entry)) r (now (bytes .exit)) ⌝ }
+    ensures { λ r. ⌜ Written at (littleEndian 2 value) (now (bytes .entry)) r (now (bytes .exit)) ⌝ }
 {
-    let next = put(bytes, at, (entry % 256) as u8);
-    put(bytes, next, (entry / 256) as u8)
+    let next = put(bytes, at, (value % 256) as u8);
+    put(bytes, next, (value / 256) as u8)
 }
 
 // The first m entries of the bytes become the first m cells.

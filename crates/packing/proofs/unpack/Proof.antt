@@ -1,14 +1,14 @@
--- `board_c::packing::unpack` meets its contract. The invariant: the first i cells are entries and the others as they were.
+-- `packing::unpack` meets its contract. The invariant: the first i cells are entries and the others as they were.
 use mathlib.Core.Path.{_≡_, ap, _∙_}
 use mathlib.Core.List.{_++_}
 use Prim.Native.Nat.{ℕ, _≤_, _-_}
 use native.Mathlib.Omega.{arith}
 use lib.ListN.{length, drop, length-set}
 use borrow.Author.Needs.{needs}
-use Rattle.board_c.specs.Packing.{entries}
-use Rattle.board_c.proofs.Packed.{unpacked-next}
-use Rattle.board_c.proofs.packing.unpack.Statement.{statement}
-use Rattle.board_c.proofs.packing.unpack.Tie as tie
+use Rattle.packing.specs.Packing.{entries}
+use Rattle.packing.proofs.Packed.{unpacked-next}
+use Rattle.packing.proofs.unpack.Statement.{statement}
+use Rattle.packing.proofs.unpack.Tie as tie
 
 abbrev Inv-loop : tie.InvT-loop
 Inv-loop bytes cells₀ m i₀ cells i = (i ≤ m) × (cells ≡ entries i bytes ++ drop i cells₀) × (length cells ≡ length cells₀)
@@ -19,23 +19,23 @@ abbrev μ-loop : tie.MeasureT-loop
 loop-holds : tie.Need-loop-holds Inv-loop μ-loop
 loop-holds c = search needs
 
-mul-entry : tie.Need-mul-entry Inv-loop μ-loop
-mul-entry c = search needs
+mul-entry-of : tie.Need-mul-entry-of Inv-loop μ-loop
+mul-entry-of c = search needs
 
-shared-slice-read-entry : tie.Need-shared-slice-read-entry Inv-loop μ-loop
-shared-slice-read-entry c = search needs
+shared-slice-read-entry-of : tie.Need-shared-slice-read-entry-of Inv-loop μ-loop
+shared-slice-read-entry-of c = search needs
 
-mul-entry-2 : tie.Need-mul-entry-2 Inv-loop μ-loop
-mul-entry-2 c = search needs
+mul-entry-of-2 : tie.Need-mul-entry-of-2 Inv-loop μ-loop
+mul-entry-of-2 c = search needs
 
-add-entry : tie.Need-add-entry Inv-loop μ-loop
-add-entry c = search needs
+add-entry-of : tie.Need-add-entry-of Inv-loop μ-loop
+add-entry-of c = search needs
 
-shared-slice-read-entry-2 : tie.Need-shared-slice-read-entry-2 Inv-loop μ-loop
-shared-slice-read-entry-2 c = search needs
+shared-slice-read-entry-of-2 : tie.Need-shared-slice-read-entry-of-2 Inv-loop μ-loop
+shared-slice-read-entry-of-2 c = search needs
 
-entry-requires : tie.Need-entry-requires Inv-loop μ-loop
-entry-requires c κs = search needs
+entry-of-requires : tie.Need-entry-of-requires Inv-loop μ-loop
+entry-of-requires c κs = search needs
 
 mul-cells : tie.Need-mul-cells Inv-loop μ-loop
 mul-cells c = search needs
@@ -54,7 +54,7 @@ loop-again c =
     let l = c .before .before .before .before .loop in
     let s = c .before .before .before .before .before .before .before in (
       search needs,
-      unpacked-next (s .args .bytes .now) (s .args .cells .now) (l .cells) (l .i) (c .entry .result) (omega arith) (l .inv .1) (c .entry .ensures),
+      unpacked-next (s .args .bytes .now) (s .args .cells .now) (l .cells) (l .i) (c .entry-of .result) (omega arith) (l .inv .1) (c .entry-of .ensures),
       simp length-set (l .inv .2),
     )
 
@@ -74,12 +74,12 @@ unpack-spec =
     Inv-loop
     μ-loop
     loop-holds
-    mul-entry
-    shared-slice-read-entry
-    mul-entry-2
-    add-entry
-    shared-slice-read-entry-2
-    entry-requires
+    mul-entry-of
+    shared-slice-read-entry-of
+    mul-entry-of-2
+    add-entry-of
+    shared-slice-read-entry-of-2
+    entry-of-requires
     mul-cells
     slice-write-cells
     add-i

@@ -1,9 +1,9 @@
--- `board_c::packing::put_entry` meets its contract.
+-- `packing::put_entry` meets its contract.
 use native.Mathlib.Omega.{arith}
 use borrow.Author.Needs.{needs}
-use Rattle.board_c.proofs.Packed.{entry-written}
-use Rattle.board_c.proofs.packing.put_entry.Statement.{statement}
-use Rattle.board_c.proofs.packing.put_entry.Tie as tie
+use Rattle.packing.proofs.Packed.{entry-written}
+use Rattle.packing.proofs.put_entry.Statement.{statement}
+use Rattle.packing.proofs.put_entry.Tie as tie
 
 cast-put : tie.Need-cast-put
 cast-put c = search needs
@@ -23,7 +23,7 @@ same-length c = search needs
 returns : tie.Need-returns
 returns c =
     let s = c .before .before .before .before .before .before .before .before .before in
-    entry-written (s .args .entry) (omega arith) (omega (arith, s .pre)) (c .before .before .before .before .before .before .put .ensures) (c .before .before .put2 .ensures)
+    entry-written (s .args .value) (omega arith) (omega (arith, s .pre)) (c .before .before .before .before .before .before .put .ensures) (c .before .before .put2 .ensures)
 
 pub put-entry-spec : {M : Type 1} → statement M
 put-entry-spec =

@@ -1,4 +1,4 @@
--- Laws of 16-bit entries packed in bytes: one entry more, zeros, and that packing what was unpacked gives the bytes back.
+-- Laws of 16-bit entries packed in bytes: one entry more, and zeros.
 use mathlib.Core.Path.{_≡_, refl, sym, ap, ap₂, subst, _∙_}
 use mathlib.Core.List.{List, [], _∷_, _++_, append-assoc, append-nil}
 use Prim.Native.Nat.{ℕ, zero, suc, _+_, _*_, _/_, _%_, _≤_, _<_}
@@ -11,7 +11,7 @@ use Rattle.text.specs.Little.{littleEndian}
 use Rattle.text.specs.Writing.{Written}
 use Rattle.text.proofs.Writings.{written-then}
 use Rattle.answers.specs.Answers.{over}
-use Rattle.board_c.specs.Packing.{entryAt, entries, packed}
+use Rattle.packing.specs.Packing.{entryAt, entries, packed}
 
 -- bytes written from the beginning stand over what was there
 pub written-front : {bytes o o′ : List ℕ} {to : ℕ} → Written 0 bytes o to o′ → o′ ≡ over bytes o

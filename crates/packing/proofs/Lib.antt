@@ -1,0 +1,2 @@
+-- Laws of packed entries.
+pub mod Packed

@@ -1,0 +1,2 @@
+-- Entries packed in bytes.
+pub mod Packing
