@@ -3,7 +3,7 @@ use mathlib.Core.Path.{_≡_, refl, sym, ap, subst, _∙_}
 use mathlib.Core.Logic.{_⊎_, inl, inr, ⊎-elim, by-cases, _≢_}
 use mathlib.Core.List.{List}
 use Prim.Native.Nat.{ℕ, suc, _+_, _≤_, _<_}
-use native.Mathlib.Decide.{ℕ-discrete, decLt}
+use native.Mathlib.Decide.{ℕ-discrete}
 use native.Mathlib.Omega.{arith}
 use lib.ListN.{length, getD, set, length-set}
 use Rattle.picture.specs.Pictures.{Picture, places, valueAt}
@@ -14,7 +14,7 @@ use Rattle.topology.proofs.Connected.{conn-source, conn-target, conn-tr
 use Rattle.topology.proofs.Adjacency.{Adj, At, Joined, adj-sym, joined-sym}
 use Rattle.topology.proofs.Accepted.{Accepted, byte-at, places-bound}
 use Rattle.topology.proofs.Nodes.{nodes-few}
-use Rattle.topology.proofs.Beneath.{Low, beneath-number}
+use Rattle.topology.proofs.Beneath.{beneath-number}
 use Rattle.topology.proofs.Levels.{put, relink, relink-moved, relink-kept, State, nothing, single, several, Level, Upto, Edges, edges-lower, Merged, met, met-number, linked}
 use Rattle.topology.proofs.Counts.{soFar}
 use Rattle.topology.proofs.Forests.{Forest, Found, root-cell, forest-link}

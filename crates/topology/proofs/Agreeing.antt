@@ -3,25 +3,24 @@ use mathlib.Core.Path.{_≡_, refl, sym, ap, subst, _∙_}
 use mathlib.Core.Bool.{Bool, true, false, _&&_, not}
 use mathlib.Core.Logic.{_⊎_, inl, inr, ⊎-elim, _≢_, by-cases}
 use mathlib.Core.List.{List}
-use Prim.Native.Nat.{ℕ, zero, suc, _+_, _≤_, _<_}
+use Prim.Native.Nat.{ℕ, suc, _+_, _≤_, _<_}
 use native.Mathlib.Decide.{ℕ-discrete}
 use native.Mathlib.Omega.{arith}
 use lib.Dec.{eqb}
 use lib.ListN.{length, getD}
-use borrow.Author.Tests.{eqb-true, eqb-false, eq-eqb, ne-eqb}
-use Rattle.picture.specs.Lists.{pick, tally, range}
+use borrow.Author.Tests.{eqb-true, eqb-false, ne-eqb}
+use Rattle.picture.specs.Lists.{pick, tally}
 use Rattle.picture.specs.Pictures.{Picture, places, valueAt}
 use Rattle.picture.specs.Components.{labels}
 use Rattle.picture.specs.Geometry.{neighboursIn}
 use Rattle.picture.specs.Watersheds.{lowerable}
 use Rattle.picture.proofs.Neighbours.{neighbour-at, neighbour-index}
-use Rattle.topology.proofs.Tests.{on-pick, clash, test-false}
-use Rattle.topology.proofs.Keeping.{Lowers}
+use Rattle.topology.proofs.Tests.{on-pick, test-false}
 use Rattle.topology.proofs.Adjacency.{Adj, At, Joined}
 use Rattle.topology.proofs.Reached.{first-at}
 use Rattle.topology.proofs.Parts.{isFirst}
 use Rattle.topology.proofs.Bridge.{lowerable-lowers, lowers-lowerable, lowerable-above}
-use Rattle.topology.proofs.ComponentNumbers.{tally-bound, numberAt, at-dec, number-some, number-less, number-same, same-number, labels-at, labels-none}
+use Rattle.topology.proofs.ComponentNumbers.{tally-bound, at-dec, number-some, number-less, number-same, same-number, labels-at, labels-none}
 
 -- the label common to some places, 0 for none and 65,535 for several, when a place with the label v joins them
 abbrev pub agreed : ℕ → ℕ → ℕ

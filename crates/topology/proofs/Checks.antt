@@ -3,20 +3,19 @@ use mathlib.Core.Path.{_≡_, refl, sym, ap, subst, _∙_}
 use mathlib.Core.Bool.{Bool, true, false}
 use mathlib.Core.Logic.{_⊎_, inl, inr, ⊎-elim, by-cases, _≢_}
 use mathlib.Core.List.{List}
-use Prim.Native.Nat.{ℕ, suc, _+_, _-_, _*_, _≤_, _<_}
-use native.Mathlib.Numerals.{add-one}
-use native.Mathlib.Decide.{ℕ-discrete, decLt}
+use Prim.Native.Nat.{ℕ, suc, _+_, _-_, _≤_, _<_}
+use native.Mathlib.Decide.{ℕ-discrete}
 use native.Mathlib.Omega.{arith}
 use lib.ListN.{length, getD, set, length-set}
-use Rattle.picture.specs.Pictures.{Picture, places, valueAt}
+use Rattle.picture.specs.Pictures.{Picture, places}
 use Rattle.picture.specs.Geometry.{neighboursIn, Placed}
 use Rattle.picture.specs.Trees.{nodes, nodeAt, fatherOf, mapOf}
 use Rattle.topology.proofs.Tests.{clash}
-use Rattle.topology.proofs.Accepted.{Accepted, places-bound}
-use Rattle.topology.proofs.Levels.{put, put-same, put-other, Merged, left, right, both, Upto}
-use Rattle.topology.proofs.Forests.{Forest, Found, Parents, forest-parents}
+use Rattle.topology.proofs.Accepted.{Accepted}
+use Rattle.topology.proofs.Levels.{put, put-same, put-other, Merged, left, right, both}
+use Rattle.topology.proofs.Forests.{Found, Parents, forest-parents}
 use Rattle.topology.proofs.Marks.{Names}
-use Rattle.topology.proofs.Absorbing.{Classes, Near, Edge, Ordered, below, above, Linkable, edge-touch, edge-within, near-start, near-end, near-skip, near-same, near-linkable, near-linked, near-met}
+use Rattle.topology.proofs.Absorbing.{Classes, Near, Edge, Ordered, below, above, Linkable, edge-touch, edge-within, near-skip, near-same, near-linkable, near-linked, near-met}
 use Rattle.topology.proofs.Chains.{Comes, upto-of}
 
 -- the lent entries of two lists contradict the tree: a node's father is the node of a pixel, and their entries differ

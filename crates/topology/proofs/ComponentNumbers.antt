@@ -1,23 +1,21 @@
 -- The labels of a section: a place has the number of its component's first place among the first places.
 use mathlib.Core.Path.{_≡_, refl, sym, ap, subst, _∙_}
-use mathlib.Core.Bool.{Bool, true, false, _||_}
-use mathlib.Core.Logic.{_⊎_, inl, inr, ⊎-elim, by-cases}
-use mathlib.Core.List.{List, [], _∷_, map, List·Memᴰ, List·Memᴰ·head, List·Memᴰ·tail, Memᴰ·of-map}
+use mathlib.Core.Bool.{Bool, true, false}
+use mathlib.Core.Logic.{_⊎_, inr, by-cases}
+use mathlib.Core.List.{List, [], _∷_, map, List·Memᴰ, List·Memᴰ·head, List·Memᴰ·tail}
 use Prim.Native.Nat.{ℕ, zero, suc, _+_, _-_, _≤_, _<_}
-use native.Mathlib.Decide.{decLt, decLe}
+use native.Mathlib.Decide.{decLt}
 use native.Mathlib.Omega.{arith}
-use lib.Dec.{eqb}
 use lib.ListN.{length, getD, length-map}
-use lib.Seq.{ext-getD}
 use Rattle.picture.specs.Lists.{pick, tally, select, range, isIn}
 use Rattle.picture.specs.Pictures.{Picture, places}
 use Rattle.picture.specs.Components.{componentAt, components, labelFrom, labels}
-use Rattle.topology.proofs.Tests.{on-test, on-pick, on-elim, clash, test-false}
+use Rattle.topology.proofs.Tests.{on-test, on-elim, clash, test-false}
 use Rattle.topology.proofs.Lists.{select-in, select-out, tally-in, tally-out, length-select, length-range, getD-map-range}
-use Rattle.topology.proofs.Connected.{start, conn-target}
+use Rattle.topology.proofs.Connected.{conn-target}
 use Rattle.topology.proofs.Keeping.{sec-dec}
 use Rattle.topology.proofs.Adjacency.{At, Joined}
-use Rattle.topology.proofs.Reached.{firstAt, in-joined, joined-in, first-joined, first-same, first-first, first-at, same-first}
+use Rattle.topology.proofs.Reached.{firstAt, in-joined, joined-in, first-same, first-first, first-at, same-first}
 use Rattle.topology.proofs.Parts.{isFirst, first-is, is-first, components-are, components-mem}
 
 -- tallies of the numbers below a bound

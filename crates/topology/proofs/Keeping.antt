@@ -1,10 +1,10 @@
 -- Sections of value functions, what it is to keep their connected parts, and what lowering one vertex keeps.
-use mathlib.Core.Path.{_≡_, refl, sym, subst, _∙_}
+use mathlib.Core.Path.{_≡_, refl, sym, subst}
 use mathlib.Core.Logic.{_⊎_, inl, inr, _↔_, _≢_, by-cases}
-use Prim.Native.Nat.{ℕ, zero, suc, _+_, _≤_, _<_}
+use Prim.Native.Nat.{ℕ, suc, _≤_, _<_}
 use native.Mathlib.Decide.{ℕ-discrete, decLe}
 use native.Mathlib.Omega.{arith}
-use Rattle.topology.proofs.Connected.{Conn, start, step, conn-source, conn-target, conn-trans, conn-sym, conn-edge, conn-mono, conn-closed}
+use Rattle.topology.proofs.Connected.{Conn, start, step, conn-target, conn-trans, conn-sym, conn-edge, conn-mono, conn-closed}
 
 -- y is in the section of v at height k
 pub record Sec (n : ℕ) (v : ℕ → ℕ) (k y : ℕ) : Type 0 where

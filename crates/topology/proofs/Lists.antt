@@ -1,7 +1,7 @@
 -- Laws of the list functions that the definitions share: membership, selection, tallies, ranges.
 use mathlib.Core.Path.{_≡_, refl, sym, ap, subst, _∙_}
-use mathlib.Core.Bool.{Bool, true, false, _&&_, _||_, false≢true}
-use mathlib.Core.Logic.{_⊎_, inl, inr, ⊎-elim, _↔_}
+use mathlib.Core.Bool.{Bool, true, false, _&&_, false≢true}
+use mathlib.Core.Logic.{_⊎_, inl, inr, ⊎-elim}
 use mathlib.Core.List.{List, [], _∷_, _++_, map, List·Memᴰ, List·Memᴰ·head, List·Memᴰ·tail, List·Memᴰ·not-nil, List·Memᴰ·cases-cons}
 use Prim.Native.Nat.{ℕ, zero, suc, _+_, _≤_, _<_}
 use native.Mathlib.Omega.{arith}
@@ -9,7 +9,7 @@ use lib.Dec.{eqb}
 use lib.ListN.{length, getD}
 use borrow.Author.Tests.{eqb-true, eq-eqb}
 use Rattle.picture.specs.Lists.{pick, any, all, tally, select, range, isIn}
-use Rattle.topology.proofs.Tests.{and-left, and-right, and-both, or-left, or-right, or-cases, on-test, on-pick, same-test, test-false, clash}
+use Rattle.topology.proofs.Tests.{and-left, and-right, and-both, or-left, or-right, or-cases, on-test, clash}
 
 module _ {A : Type 0} (t : A → Bool) where
   pub any-mem : (l : List A) → any t l ≡ true → (x : A) × List·Memᴰ x l × (t x ≡ true)
@@ -115,13 +115,6 @@ module _ {A : Type 0} (s t : A → Bool) where
       let r = tally-same xs (λ y m. h y (List·Memᴰ·tail m)) in
       let e = h x (List·Memᴰ·head refl) in
       ap (λ (b : Bool). pick b 1 0 + tally s xs) e ∙ ap (λ (m : ℕ). pick (t x) 1 0 + m) r
-
-  pub select-same : (l : List A) → ((x : A) → List·Memᴰ x l → s x ≡ t x) → select s l ≡ select t l
-  select-same [] h = refl
-  select-same (x ∷ xs) h =
-      let r = select-same xs (λ y m. h y (List·Memᴰ·tail m)) in
-      let e = h x (List·Memᴰ·head refl) in
-      ap (λ (b : Bool). pick b (x ∷ []) [] ++ select s xs) e ∙ ap (λ (m : List A). pick (t x) (x ∷ []) [] ++ m) r
 
   pub tally-select : (l : List A) → tally t (select s l) ≡ tally (λ x. s x && t x) l
   tally-select [] = refl

@@ -1,9 +1,9 @@
 -- The figures of a patch: its pixels by their patch number, its record by its number, its node by the map.
 use mathlib.Core.Path.{_≡_, refl, sym, ap, ap₂, subst, _∙_}
-use mathlib.Core.Bool.{Bool, true, false}
-use mathlib.Core.Logic.{_⊎_, inl, inr, ⊎-elim, by-cases}
-use mathlib.Core.List.{List, [], _∷_, _++_, map, List·Memᴰ}
-use Prim.Native.Nat.{ℕ, zero, suc, _+_, _-_, _≤_, _<_}
+use mathlib.Core.Bool.{Bool, true}
+use mathlib.Core.Logic.{by-cases}
+use mathlib.Core.List.{List, [], _∷_, map}
+use Prim.Native.Nat.{ℕ, zero, suc, _+_, _-_, _<_}
 use native.Mathlib.Decide.{decLt}
 use native.Mathlib.Omega.{arith}
 use lib.Dec.{eqb}
@@ -12,17 +12,17 @@ use borrow.Author.Tests.{eqb-true, eq-eqb}
 use Rattle.picture.specs.Lists.{pick, tally, select, range, isIn, total}
 use Rattle.picture.specs.Pictures.{Picture, places, valueAt}
 use Rattle.picture.specs.Components.{componentAt}
-use Rattle.picture.specs.Trees.{Node, nodes, nodeAt, componentOf, numberOf, mapOf}
+use Rattle.picture.specs.Trees.{Node, nodes, nodeAt, componentOf, mapOf}
 use Rattle.picture.specs.Patches.{patchNodes, Patch, patchOf, patchesFrom, patches, patchAt}
-use Rattle.topology.proofs.Tests.{on-test, same-test, clash}
-use Rattle.topology.proofs.Lists.{select-in, select-out, tally-in, tally-out, select-mem, mem-select, in-mem, mem-in, range-mem, mem-range}
+use Rattle.topology.proofs.Tests.{on-test, same-test}
+use Rattle.topology.proofs.Lists.{select-in, select-out, select-mem, mem-select, in-mem, mem-in, range-mem, mem-range}
 use Rattle.topology.proofs.Rising.{rising-select, rising-equal}
-use Rattle.topology.proofs.Connected.{start, conn-target}
+use Rattle.topology.proofs.Connected.{conn-target}
 use Rattle.topology.proofs.Adjacency.{At, Joined, joined-sym}
 use Rattle.topology.proofs.Accepted.{Accepted, byte-at}
-use Rattle.topology.proofs.Reached.{firstAt, component-rising, in-joined, joined-in, first-joined, first-same, first-at, same-first}
-use Rattle.topology.proofs.Nodes.{node, node-is, number-found}
-use Rattle.topology.proofs.Descent.{under, map-under, under-fork, Under, under-is}
+use Rattle.topology.proofs.Reached.{firstAt, component-rising, in-joined, joined-in, first-joined, first-same, first-at}
+use Rattle.topology.proofs.Nodes.{node, number-found}
+use Rattle.topology.proofs.Descent.{under, map-under, under-fork, under-is}
 use Rattle.topology.proofs.Positions.{tally-range, tally-next-in, select-index}
 use Rattle.topology.proofs.Leaves.{leafAt, bottom, leaf, leaf-sound, leaf-same, leaf-no-branch, bottom-is, first-bottom, patch-nodes-are}
 use Rattle.topology.proofs.PatchNumbers.{patch-count, patch-in, patch-out}

@@ -1,34 +1,29 @@
 -- The run of the watershed: what holds between two falls, and how a turn of the run keeps it.
 use mathlib.Core.Path.{_≡_, refl, sym, ap, subst, _∙_}
-use mathlib.Core.Bool.{Bool, true, false}
+use mathlib.Core.Bool.{true}
 use mathlib.Core.Logic.{_⊎_, inl, inr, ⊎-elim, _≢_, by-cases}
 use mathlib.Core.List.{List, [], _∷_}
-use Prim.Native.Nat.{ℕ, zero, suc, _+_, _-_, _*_, _≤_, _<_}
+use Prim.Native.Nat.{ℕ, zero, suc, _+_, _*_, _≤_, _<_}
 use native.Mathlib.Nat.{mul-le-mul}
 use native.Mathlib.Decide.{ℕ-discrete, decLt}
 use native.Mathlib.Omega.{arith}
 use lib.Dec.{eqb}
 use lib.ListN.{length, getD, set, length-set}
 use lib.Seq.{getD-set-same, getD-set-other}
-use borrow.Author.Tests.{eqb-true, eqb-false, eq-eqb}
+use borrow.Author.Tests.{eqb-true, eq-eqb}
 use Rattle.picture.specs.Lists.{pick, total}
 use Rattle.picture.specs.Pictures.{Picture, places, valueAt, withPixels, touch}
-use Rattle.picture.specs.Trees.{nodes, nodeAt, fatherOf, mapOf}
 use Rattle.picture.specs.Watersheds.{lowerable, watershed}
 use Rattle.topology.proofs.Tests.{on-pick, on-test, clash}
 use Rattle.topology.proofs.Keeping.{Lowers, Fallen}
 use Rattle.topology.proofs.Adjacency.{Adj, adj-sym, adj-irreflexive}
 use Rattle.topology.proofs.Bridge.{lowerable-above, lowerable-lowers, lowers-lowerable}
-use Rattle.topology.proofs.Accepted.{Accepted, byte-at}
-use Rattle.topology.proofs.Nodes.{nodes-few}
-use Rattle.topology.proofs.Fathers.{map-found}
-use Rattle.topology.proofs.Climb.{Meet, same, left, right, father-of, father-greater}
-use Rattle.topology.proofs.Water.{Leads, less, ties}
+use Rattle.topology.proofs.Climb.{Meet, same, left, right}
+use Rattle.topology.proofs.Water.{less}
 use Rattle.topology.proofs.Oracle.{Oracle, Stops, Drops, stops-drops, stops-there, drops-wakes, drops-oracle}
-use Rattle.topology.proofs.TreeOracle.{MeetsAt, tree-oracle}
-use Rattle.topology.proofs.Falls.{First, fall-water, watershed-end}
-use Rattle.topology.proofs.WinnerTree.{Beats, last, less as beats-less, ties as beats-ties, Winner, winner-beats, winner-place, winner-fallen, candidates, candidates-most, candidates-fewer}
-use Rattle.topology.proofs.WinnerSteps.{Assigned, Building, Waking}
+use Rattle.topology.proofs.Falls.{First, fall-water}
+use Rattle.topology.proofs.WinnerTree.{Winner, winner-fallen, candidates}
+use Rattle.topology.proofs.WinnerSteps.{Waking}
 use Rattle.topology.proofs.Stopping.{Climbs, Meets, Lowest, Stopped, Around, found-stops, found-none}
 
 -- the state of the run on the frame f: pixels g, the tree's cells, the winner tree t; a lowerable place is a candidate or exempt

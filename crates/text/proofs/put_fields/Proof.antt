@@ -1,6 +1,6 @@
 -- `text::put_fields` meets its contract. The loop's invariant: the numbers before i are written, each with a space.
 use mathlib.Core.Path.{refl}
-use Prim.Native.Nat.{_+_, _-_, _<_}
+use Prim.Native.Nat.{_-_, _<_}
 use native.Mathlib.Omega.{arith}
 use borrow.Author.Needs.{needs}
 use lib.ListN.{length, take}
