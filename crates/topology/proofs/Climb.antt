@@ -197,7 +197,7 @@ module _ (p : Picture) (ok : Accepted p) where
     up-rises stay = omega arith
     up-rises (rise {a} h f u) = let g = father-greater a h f in let w = up-rises u in omega arith
 
-    -- every common ancestor is one of the node where the climbs meet
+    -- no common ancestor has a smaller number than the node where the climbs meet
     meet-least : {a b r c : ℕ} → Meet (father p) a b r → Up (father p) (length (nodes p)) c a → Up (father p) (length (nodes p)) c b → r ≤ c
     meet-least same u v = up-rises u
     meet-least (left l n) stay v = absurd (let w = up-rises v in omega arith)

@@ -38,7 +38,7 @@ step-adjacent a w x y h =
     (and-both (leb r 1) (leb 1 (c + r)) (le-leb r 1 (omega arith)) (le-leb 1 (c + r) (omega arith))))
 
 module _ (p : Picture) (wide : 1 ≤ p .width) where
-  -- the place with column c and row r
+  -- a place and the one on its left, and the one above it
   at-left : (r c : ℕ) → suc c < p .width → Adj p (r * p .width + suc c) (r * p .width + c)
   at-left r c b =
       let w = p .width in

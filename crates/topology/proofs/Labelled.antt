@@ -16,8 +16,9 @@ use Rattle.topology.proofs.Connected.{start, conn-target}
 use Rattle.topology.proofs.Adjacency.{At, Joined, section-at, at-section}
 use Rattle.topology.proofs.Reached.{firstAt, first-least, first-same, first-at, first-first, same-first}
 use Rattle.topology.proofs.Parts.{isFirst, first-is, is-first}
-use Rattle.topology.proofs.ComponentNumbers.{tally-more, tally-less, tally-bound, numberAt, at-dec, number-some, number-less, length-labels, labels-at, labels-none, count-components}
+use Rattle.topology.proofs.ComponentNumbers.{numberAt, at-dec, number-some, number-less, length-labels, labels-at, labels-none, count-components}
 use Rattle.topology.proofs.Flood.{Flooded}
+use Rattle.topology.proofs.Positions.{tally-next-in, tally-next-out, tally-bound}
 
 -- at the place x, with c components so far
 pub record Labelled (p : Picture) (k x c : ℕ) (l : List ℕ) : Type 0 where
@@ -76,7 +77,7 @@ module _ (p : Picture) (k : ℕ) where
     pub labelled-pass : isFirst p k x ≡ false → Labelled p k (x + 1) c l
     labelled-pass f =
         record {
-          count = s .count ∙ (sym (tally-less (isFirst p k) x f) ∙ ap (λ (z : ℕ). tally (isFirst p k) (range 0 z)) next);
+          count = s .count ∙ (sym (tally-next-out (isFirst p k) x f) ∙ ap (λ (z : ℕ). tally (isFirst p k) (range 0 z)) next);
           size = s .size;
           done = λ y a h. let d = other y a in s .done y a (omega arith);
           rest = λ y h. s .rest y (λ a. let q = h a in omega arith);
@@ -108,7 +109,7 @@ module _ (p : Picture) (k : ℕ) where
           record {
             count =
                 let q = s .count in
-                let r = tally-more (isFirst p k) x f in
+                let r = tally-next-in (isFirst p k) x f in
                 let n = ap (λ (z : ℕ). tally (isFirst p k) (range 0 z)) next in
                 omega arith;
             size = size;

@@ -1,10 +1,8 @@
 -- The figures of a patch: its pixels by their patch number, its record by its number, its node by the map.
 use mathlib.Core.Path.{_≡_, refl, sym, ap, ap₂, subst, _∙_}
 use mathlib.Core.Bool.{Bool, true}
-use mathlib.Core.Logic.{by-cases}
 use mathlib.Core.List.{List, [], _∷_, map}
 use Prim.Native.Nat.{ℕ, zero, suc, _+_, _-_, _<_}
-use native.Mathlib.Decide.{decLt}
 use native.Mathlib.Omega.{arith}
 use lib.Dec.{eqb}
 use lib.ListN.{length, getD}
@@ -23,7 +21,7 @@ use Rattle.topology.proofs.Accepted.{Accepted, byte-at}
 use Rattle.topology.proofs.Reached.{firstAt, component-rising, in-joined, joined-in, first-joined, first-same, first-at}
 use Rattle.topology.proofs.Nodes.{node, number-found}
 use Rattle.topology.proofs.Descent.{under, map-under, under-fork, under-is}
-use Rattle.topology.proofs.Positions.{tally-range, tally-next-in, select-index}
+use Rattle.topology.proofs.Positions.{tally-next-in, select-index, tally-inject}
 use Rattle.topology.proofs.Leaves.{leafAt, bottom, leaf, leaf-sound, leaf-same, leaf-no-branch, bottom-is, first-bottom, patch-nodes-are}
 use Rattle.topology.proofs.PatchNumbers.{patch-count, patch-in, patch-out}
 
@@ -40,15 +38,6 @@ total-select g t (x ∷ xs) =
     ap (λ (l : List ℕ). total (map g l)) (select-out t x xs e) ∙
     (r ∙ sym (ap (λ (b : Bool). pick b (g x) 0 + total (map (λ y. pick (t y) (g y) 0) xs)) e ∙ omega arith)))
 
--- tallies of first places rise strictly at each
-tally-rises : (t : ℕ → Bool) (y z : ℕ) → y < z → t y ≡ true → tally t (range 0 y) < tally t (range 0 z)
-tally-rises t y z b e =
-    let g : suc y + (z - suc y) ≡ z = omega arith in
-    let a = tally-range t 0 (suc y) (z - suc y) in
-    let c = tally-next-in t y e in
-    let d = ap (λ (m : ℕ). tally t (range 0 m)) g in
-    omega arith
-
 module _ (p : Picture) (ok : Accepted p) where
   place : (x : ℕ) → x < places p → At p (valueAt p x) x
   place x b = record { within = b; low = omega arith }
@@ -64,12 +53,7 @@ module _ (p : Picture) (ok : Accepted p) where
   bottom-equal y z by bz hy hz e =
       let a = bottom-number y by hy in
       let b = bottom-number z bz hz in
-      by-cases (decLt y z)
-      (λ l. absurd (let r = tally-rises (bottom p) y z l hy in omega arith))
-      (λ l.
-      by-cases (decLt z y)
-      (λ m. absurd (let r = tally-rises (bottom p) z y m hz in omega arith))
-      (λ m. omega arith))
+      tally-inject (bottom p) y z hy hz (omega arith)
 
   -- the pixels of the patch that begins at z are those with its number
   pub patch-members : (z : ℕ) → z < places p → bottom p z ≡ true → componentOf p (leaf p z) ≡ select (λ x. eqb (patchAt p x) (patchAt p z)) (range 0 (places p))

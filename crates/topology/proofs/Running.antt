@@ -40,6 +40,25 @@ pub record Running (f : Picture) (g tree t : List ℕ) (Exempt : ℕ → Type 0)
   pub winner : Winner (places f) g t 1 0
   pub awake : (y : ℕ) → y < places f → lowerable (withPixels f g) y ≡ true → (getD t (places f + y) 0 ≡ y) ⊎ Exempt y
 
+-- the same pixels and cells with another winner tree, and others exempt
+pub running-with :
+    {f : Picture} {g tree t t₁ : List ℕ} {Exempt Exempt₁ : ℕ → Type 0} → Running f g tree t Exempt → length t₁ ≡ 2 * places f → Winner (places f) g t₁ 1 0 →
+    ((y : ℕ) → y < places f → lowerable (withPixels f g) y ≡ true → (getD t₁ (places f + y) 0 ≡ y) ⊎ Exempt₁ y) → Running f g tree t₁ Exempt₁
+running-with r leaves winner awake =
+    record {
+      filled = r .filled;
+      some = r .some;
+      wide = r .wide;
+      high = r .high;
+      size = r .size;
+      bytes = r .bytes;
+      climbs = r .climbs;
+      oracle = r .oracle;
+      leaves = leaves;
+      winner = winner;
+      awake = awake;
+    }
+
 -- no place is exempt
 pub data Nobody (y : ℕ) : Type 0 where
 
@@ -208,27 +227,15 @@ module _ (f : Picture) (g tree t : List ℕ) (x : ℕ) (p : Settling f g tree t 
   settle-stays h =
       record {
         running =
-            record {
-              filled = run .filled;
-              some = run .some;
-              wide = run .wide;
-              high = run .high;
-              size = run .size;
-              bytes = run .bytes;
-              climbs = run .climbs;
-              oracle = run .oracle;
-              leaves = run .leaves;
-              winner = run .winner;
-              awake =
-                  λ y b l.
-                  ⊎-elim (λ e. inl e)
-                  (λ e.
-                  let (k, v) = lowerable-above (withPixels f g) y b l in
-                  absurd
-                  (stays-there h k
-                  (subst (λ (z : ℕ). Lowers (places f) (Adj f) (valueAt (withPixels f g)) z k) e (lowerable-lowers (withPixels f g) y b k v l))))
-                  (run .awake y b l);
-            };
+            running-with run (run .leaves) (run .winner)
+            (λ y b l.
+            ⊎-elim (λ e. inl e)
+            (λ e.
+            let (k, v) = lowerable-above (withPixels f g) y b l in
+            absurd
+            (stays-there h k
+            (subst (λ (z : ℕ). Lowers (places f) (Adj f) (valueAt (withPixels f g)) z k) e (lowerable-lowers (withPixels f g) y b k v l))))
+            (run .awake y b l));
         water = refl;
         less = inr (refl, refl);
       }
@@ -319,29 +326,17 @@ module _ (f : Picture) (g tree t : List ℕ) (x : ℕ) (p : Settling f g tree t 
         let r = settle-falls in
         record {
           running =
-              record {
-                filled = r .filled;
-                some = r .some;
-                wide = r .wide;
-                high = r .high;
-                size = r .size;
-                bytes = r .bytes;
-                climbs = r .climbs;
-                oracle = r .oracle;
-                leaves = w .size;
-                winner = w .winner;
-                awake =
-                    λ y b l.
-                    inl
-                    (⊎-elim
-                    (λ e. w .stay y b e)
-                    (λ v.
-                    let (j, i, e) = around .every y b (v .near) in
-                    subst
-                    (λ (z : ℕ). s < getD lowered-to z 0 → getD lowered-to z 0 ≤ getD g x 0 → getD t₁ (places f + z) 0 ≡ z)
-                    e (w .woken j i) (v .above) (v .most))
-                    (r .awake y b l));
-              };
+              running-with r (w .size) (w .winner)
+              (λ y b l.
+              inl
+              (⊎-elim
+              (λ e. w .stay y b e)
+              (λ v.
+              let (j, i, e) = around .every y b (v .near) in
+              subst
+              (λ (z : ℕ). s < getD lowered-to z 0 → getD lowered-to z 0 ≤ getD g x 0 → getD t₁ (places f + z) 0 ≡ z)
+              e (w .woken j i) (v .above) (v .most))
+              (r .awake y b l)));
           water = fall-same-water;
           less = inl fall-total;
         }
