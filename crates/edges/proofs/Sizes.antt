@@ -1,4 +1,4 @@
--- How large pixels and names are, and a run of equal bytes.
+-- How many values a pixel can have and how large it is, and a run of equal bytes.
 use mathlib.Core.Path.{_≡_, refl, sym, ap, _∙_}
 use mathlib.Core.List.{List, _∷_}
 use Prim.Native.Nat.{ℕ, zero, suc, _+_, _*_, _≤_, _<_}

@@ -9,37 +9,33 @@ ghost use Prim.Native.Nat.{_+_, _<_, _≤_};
 ghost use lib.ListN.{length};
 ghost use Rattle.text.specs.Decimal.{fields};
 
-// Prints a name: a word and numbers.
-fn print_name(word: &[u8], numbers: &[u32])
-    requires { ⌜ (1 ≤ length (now numbers)) × (length (now word) + length (fields (now numbers)) ≤ 64) ⌝ }
-{
-    let mut out = [0u8; 64];
-    let end = put_word(&mut out, 0, word, numbers);
-    io::write_all(1, &out[..end]);
-}
-
-// Prints a name: a word and one number.
-fn print_numbered(word: &[u8], number: u32)
-    requires { ⌜ (length (now word) ≤ 8) × (number < 100000) ⌝ }
-{
-    let numbers = [number];
-    print_name(word, &numbers);
-}
-
-// Prints what `holds` prints for a file.
-fn print_text(file: &[u8]) {
+// Prints the name of a case, then what `holds` prints for its file.
+fn print_case(name: &[u8], file: &[u8]) {
+    io::write_all(1, name);
     let mut out = [0u8; 59264];
     let end = put_text(file, &mut out);
     io::write_all(1, &out[..end]);
 }
 
-// Prints what `holds` prints for the file of some sides, largest sample, number of pixels and spaces.
-fn print_file(w: u32, h: u32, largest: u32, count: u32, spaces: usize)
+// The case of a file of some sides, largest sample, number of pixels and spaces; its name is a word and numbers.
+fn print_file(word: &[u8], numbers: &[u32], w: u32, h: u32, largest: u32, count: u32, spaces: usize)
+    requires { ⌜ (1 ≤ length (now numbers)) × (length (now word) + length (fields (now numbers)) ≤ 64) ⌝ }
     requires { ⌜ (w < 100000) × (h < 100000) × (largest < 100000) × (count ≤ 2000) × (spaces ≤ 2500) ⌝ }
 {
+    let mut name = [0u8; 64];
+    let name_end = put_word(&mut name, 0, word, numbers);
     let mut file = [0u8; 4521];
     let end = put_file(&mut file, w, h, largest, count, spaces);
-    print_text(&file[..end]);
+    print_case(&name[..name_end], &file[..end]);
+}
+
+// The case of a file whose name is a word and one number.
+fn print_numbered(word: &[u8], number: u32, w: u32, h: u32, largest: u32, count: u32, spaces: usize)
+    requires { ⌜ (length (now word) ≤ 8) × (number < 100000) ⌝ }
+    requires { ⌜ (w < 100000) × (h < 100000) × (largest < 100000) × (count ≤ 2000) × (spaces ≤ 2500) ⌝ }
+{
+    let numbers = [number];
+    print_file(word, &numbers, w, h, largest, count, spaces);
 }
 
 // The case of two sides: a picture of values up to 255.
@@ -47,8 +43,7 @@ fn print_sides(w: u32, h: u32)
     requires { ⌜ (w ≤ 41) × (h ≤ 41) ⌝ }
 {
     let numbers = [w, h];
-    print_name(b"sides ", &numbers);
-    print_file(w, h, 255, w * h, 0);
+    print_file(b"sides ", &numbers, w, h, 255, w * h, 0);
 }
 
 // The cases of a width with each height.
@@ -65,31 +60,27 @@ fn print_heights(w: u32)
 fn print_largest(largest: u32)
     requires { ⌜ largest ≤ 256 ⌝ }
 {
-    print_numbered(b"largest ", largest);
-    print_file(3, 2, largest, 6, 0);
+    print_numbered(b"largest ", largest, 3, 2, largest, 6, 0);
 }
 
 // The case of a number of pixels in a file of 3 by 2.
 fn print_pixels(count: u32)
     requires { ⌜ count ≤ 7 ⌝ }
 {
-    print_numbered(b"pixels ", count);
-    print_file(3, 2, 255, count, 0);
+    print_numbered(b"pixels ", count, 3, 2, 255, count, 0);
 }
 
 // The case of empty input.
 fn print_empty() {
-    io::write_all(1, b"empty\n");
     let file = [0u8; 1];
-    print_text(&file[..0]);
+    print_case(b"empty\n", &file[..0]);
 }
 
 // The case of a length: a picture of 40 by 40, which has 1,613 bytes, and spaces.
 fn print_bytes(length: u32)
     requires { ⌜ (4096 ≤ length) × (length ≤ 4097) ⌝ }
 {
-    print_numbered(b"bytes ", length);
-    print_file(40, 40, 255, 1600, length as usize - 1613);
+    print_numbered(b"bytes ", length, 40, 40, 255, 1600, length as usize - 1613);
 }
 
 fn main() {

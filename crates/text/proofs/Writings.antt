@@ -1,7 +1,7 @@
 -- Laws of writing: nothing, one byte, more behind it.
 use mathlib.Core.Path.{_≡_, refl, sym, ap, subst, _∙_}
 use mathlib.Core.List.{List, [], _∷_, _++_, append-assoc}
-use Prim.Native.Nat.{ℕ, zero, suc, _+_, _-_, _/_, _%_, _≤_, _<_}
+use Prim.Native.Nat.{ℕ, suc, _+_, _-_, _/_, _%_, _≤_, _<_}
 use native.Mathlib.Omega.{arith}
 use native.Mathlib.Numerals.{add-one}
 use lib.ListN.{length, getD, take, drop, set, length-append, length-drop, take-append-drop}
@@ -94,7 +94,7 @@ number-room n h =
 pub number-some : (n : ℕ) → n < 10 → length (decimal n) ≡ 1
 number-some n h = ap length (decimal-one n h)
 
--- one number more of a line, and the last one
+-- one number more of a line, and the last one with the byte that ends it
 pub spaced-more :
     (ns a b c : List ℕ) (at to next i : ℕ) → i < length ns → at ≤ length a →
     Written at (spaced (take i ns)) a to b → Written to (decimal (getD ns i 0) ++ (32 ∷ [])) b next c → Written at (spaced (take (i + 1) ns)) a next c
@@ -104,10 +104,13 @@ spaced-more ns a b c at to next i h r v w =
     (written-then r v w)
 
 pub fields-done :
-    (ns a b c : List ℕ) (at to next i : ℕ) → suc i ≡ length ns → at ≤ length a →
-    Written at (spaced (take i ns)) a to b → Written to (decimal (getD ns i 0) ++ (10 ∷ [])) b next c → Written at (fields ns) a next c
-fields-done ns a b c at to next i h r v w =
-    subst (λ (xs : List ℕ). Written at xs a next c) (sym (fields-last ns i h)) (written-then r v w)
+    (ns a b c : List ℕ) (at to next i : ℕ) {byte : ℕ} → suc i ≡ length ns → at ≤ length a →
+    Written at (spaced (take i ns)) a to b → Written to (decimal (getD ns i 0) ++ (byte ∷ [])) b next c → byte ≡ 10 →
+    Written at (fields ns) a next c
+fields-done ns a b c at to next i h r v w e =
+    subst (λ (xs : List ℕ). Written at xs a next c)
+    (ap (λ (n : ℕ). spaced (take i ns) ++ (decimal (getD ns i 0) ++ (n ∷ []))) e ∙ sym (fields-last ns i h))
+    (written-then r v w)
 
 -- room for the number at i behind those before it
 pub field-room :

@@ -68,9 +68,13 @@ pub fn put_little(out: &mut [u8], at: usize, n: u64, l: usize) -> usize
     requires { ⌜ at + l ≤ length (now out) ⌝ }
     ensures { λ r. ⌜ Written at (littleEndian l n) (now (out .entry)) r (now (out .exit)) ⌝ }
 {
-    if l == 0 {
-        return at;
+    let mut to = at;
+    let mut rest = n;
+    let mut left = l;
+    while left != 0 {
+        to = put(out, to, (rest % 256) as u8);
+        rest /= 256;
+        left -= 1;
     }
-    let next = put(out, at, (n % 256) as u8);
-    put_little(out, next, n / 256, l - 1)
+    to
 }

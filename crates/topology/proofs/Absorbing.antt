@@ -3,7 +3,7 @@ use mathlib.Core.Path.{_≡_, refl, sym, ap, subst, _∙_}
 use mathlib.Core.Logic.{_⊎_, inl, inr, ⊎-elim, by-cases, _≢_}
 use mathlib.Core.List.{List}
 use Prim.Native.Nat.{ℕ, suc, _+_, _≤_, _<_}
-use native.Mathlib.Decide.{ℕ-discrete, decLt}
+use native.Mathlib.Decide.{ℕ-discrete}
 use native.Mathlib.Omega.{arith}
 use lib.ListN.{length, getD, set, length-set}
 use Rattle.picture.specs.Pictures.{Picture, places, valueAt}
@@ -14,7 +14,7 @@ use Rattle.topology.proofs.Connected.{conn-source, conn-target, conn-tr
 use Rattle.topology.proofs.Adjacency.{Adj, At, Joined, adj-sym, joined-sym}
 use Rattle.topology.proofs.Accepted.{Accepted, byte-at, places-bound}
 use Rattle.topology.proofs.Nodes.{nodes-few}
-use Rattle.topology.proofs.Beneath.{Low, beneath-number}
+use Rattle.topology.proofs.Beneath.{beneath-number}
 use Rattle.topology.proofs.Levels.{put, relink, relink-moved, relink-kept, State, nothing, single, several, Level, Upto, Edges, edges-lower, Merged, met, met-number, linked}
 use Rattle.topology.proofs.Counts.{soFar}
 use Rattle.topology.proofs.Forests.{Forest, Found, root-cell, forest-link}
@@ -48,10 +48,31 @@ pub record Edge (p : Picture) (x j y : ℕ) : Type 0 where
   pub listed : j < length (neighboursIn p x)
   pub is : y ≡ getD (neighboursIn p x) j 0
 
+-- two roots, the smaller first
+pub data Ordered (q r : ℕ) : ℕ → ℕ → Type 0 where
+  below : q < r → Ordered q r q r
+  above : r < q → Ordered q r r q
+
+-- what the link of two roots at x asks
+pub record Linkable (x q r : ℕ) (l : List ℕ) : Type 0 where
+  pub few : length l ≤ 1600
+  pub place : x < length l
+  pub in-q : q < length l
+  pub in-r : r < length l
+  pub name-q : Names (length l) (getD l q 0)
+  pub name-r : Names (length l) (getD l r 0)
+
 module _ (p : Picture) (ok : Accepted p) (k x : ℕ) where
   pub edge-touch : (j y : ℕ) → Edge p x j y → (y < places p) × Adj p x y
   edge-touch j y e =
       subst (λ (z : ℕ). (z < places p) × Adj p x z) (sym (e .is)) (neighbour-at p x j (e .listed))
+
+  pub edge-within : (j y : ℕ) (pixels l : List ℕ) → Edge p x j y → p .pixels ≡ pixels → length l ≡ places p → (y < length pixels) × (y < length l)
+  edge-within j y pixels l e is cells =
+      let (b, t) = edge-touch j y e in
+      let size = ok .size in
+      let same = ap length is in
+      (omega arith, omega arith)
 
   pub near-start : (r : ℕ) (l m : List ℕ) (fa : ℕ → ℕ) → Classes p k x l fa → x < places p → valueAt p x ≡ k → Found l x r m → Near p k x 0 r m fa
   near-start r l m fa c b v f =
@@ -113,32 +134,35 @@ module _ (p : Picture) (ok : Accepted p) (k x : ℕ) where
         ap new g ∙ f (subst (Upto p k x) g u))
         (λ d. same (getD (neighboursIn p x) i 0) x (n .seen i (omega arith) u))
 
-    -- a neighbour that is still to come
-    pub near-skip : (y : ℕ) → Edge p x j y → (Upto p k x y → ⊥) → Near p k x (suc j) r l fa
-    near-skip y e d =
+    -- the next neighbour is still to come or has the same root
+    near-next : (m : List ℕ) → length m ≡ length l → Forest m (n .root) (n .st) → (y : ℕ) → Edge p x j y → (Upto p k x y → n .root y ≡ n .root x) → Near p k x (suc j) r m fa
+    near-next m size forest y e f =
         record {
           root = n .root;
           st = n .st;
-          size = n .size;
+          size = size ∙ n .size;
           low = n .low;
-          forest = n .forest;
+          forest = forest;
           level = n .level;
           edges = n .edges;
           within = n .within;
           value = n .value;
           is = n .is;
-          seen = seen-next (n .root) (λ a b q. q) y e (λ u. absurd (d u));
+          seen = seen-next (n .root) (λ a b q. q) y e f;
         }
 
+    pub near-skip : (y : ℕ) → Edge p x j y → (Upto p k x y → ⊥) → Near p k x (suc j) r l fa
+    near-skip y e d = near-next l refl (n .forest) y e (λ u. absurd (d u))
+
     -- a root's cell is a state
-    pub near-names : (y : ℕ) → At p k y → n .root y ≡ y → Names (length l) (getD l y 0)
-    near-names y s e =
-        let b : y < length l = let a = s .within in let g = n .size in omega arith in
-        let h = root-cell (n .forest) y b e in
-        let t = n .forest .state y b h in
+    near-names : (m : List ℕ) → length m ≡ length l → Forest m (n .root) (n .st) → (y : ℕ) → At p k y → n .root y ≡ y → Names (length m) (getD m y 0)
+    near-names m size forest y s e =
+        let b : y < length m = let a = s .within in let g = n .size in omega arith in
+        let h = root-cell forest y b e in
+        let t = forest .state y b h in
         record { root = h; node = λ q. by (n .level .state y s e) t q }
       where
-        by : State p k (n .root) y (n .st y) → getD l y 0 ≡ n .st y → getD l y 0 < 65534 → getD l y 0 < 2048 + length l
+        by : State p k (n .root) y (n .st y) → getD m y 0 ≡ n .st y → getD m y 0 < 65534 → getD m y 0 < 2048 + length m
         by (nothing a f) t q = absurd (omega arith)
         by (several z w a c d f g h) t q = absurd (omega arith)
         by (single z c d a f) t q =
@@ -154,10 +178,10 @@ module _ (p : Picture) (ok : Accepted p) (k x : ℕ) where
       at-y : At p k y
       at-y = record { within = u .within; low = ⊎-elim (λ h. omega arith) (λ h. let g = h .0 in omega arith) (u .passed) }
 
-      pub root-x : (n .root (n .root x) ≡ n .root x) × At p k (n .root x)
+      root-x : (n .root (n .root x) ≡ n .root x) × At p k (n .root x)
       root-x = (n .level .fixed x (n .within), conn-target (n .level .own x at-x))
 
-      pub root-y : (n .root (n .root y) ≡ n .root y) × At p k (n .root y)
+      root-y : (n .root (n .root y) ≡ n .root y) × At p k (n .root y)
       root-y = (n .level .fixed y (u .within), conn-target (n .level .own y at-y))
 
       joined-roots : Joined p k (n .root x) (n .root y)
@@ -165,26 +189,51 @@ module _ (p : Picture) (ok : Accepted p) (k x : ℕ) where
           conn-trans (joined-sym p k (n .level .own x at-x))
           (conn-trans (conn-edge at-x t at-y) (n .level .own y at-y))
 
-      -- the neighbour has the same root
-      pub near-same : (m : List ℕ) (q : ℕ) → Edge p x j y → Found l y q m → q ≡ r → Near p k x (suc j) r m fa
-      near-same m q e f g =
-          record {
-            root = n .root;
-            st = n .st;
-            size = f .size ∙ n .size;
-            low = n .low;
-            forest = f .keeps (n .root) (n .st) (n .forest);
-            level = n .level;
-            edges = n .edges;
-            within = n .within;
-            value = n .value;
-            is = n .is;
-            seen = seen-next (n .root) (λ a b h. h) y e (λ h. f .is (n .root) (n .st) (n .forest) ∙ (g ∙ sym (n .is)));
-          }
+      module _ {m : List ℕ} {q : ℕ} (f : Found l y q m) where
+        root-of-y : n .root y ≡ q
+        root-of-y = f .is (n .root) (n .st) (n .forest)
+
+        forest : Forest m (n .root) (n .st)
+        forest = f .keeps (n .root) (n .st) (n .forest)
+
+        pub near-same : Edge p x j y → q ≡ r → Near p k x (suc j) r m fa
+        near-same e g = near-next m (f .size) forest y e (λ h. root-of-y ∙ (g ∙ sym (n .is)))
+
+        pub near-linkable : Linkable x q r m
+        near-linkable =
+            let size = f .size in
+            let same = n .size in
+            let most = places-bound p ok in
+            let within = n .within in
+            let x-is = n .is in
+            let y-is = root-of-y in
+            let in-x = root-x .1 .within in
+            let in-y = root-y .1 .within in
+            record {
+              few = omega arith;
+              place = omega arith;
+              in-q = omega arith;
+              in-r = omega arith;
+              name-q = subst (λ (a : ℕ). Names (length m) (getD m a 0)) root-of-y (near-names m (f .size) forest (n .root y) (root-y .1) (root-y .0));
+              name-r = subst (λ (a : ℕ). Names (length m) (getD m a 0)) (n .is) (near-names m (f .size) forest (n .root x) (root-x .1) (root-x .0));
+            }
 
       -- the two roots, the smaller first
-      module _ (lo hi : ℕ) (m : List ℕ) (ends : ((n .root x ≡ lo) × (n .root y ≡ hi)) ⊎ ((n .root x ≡ hi) × (n .root y ≡ lo))) (less : lo < hi)
-          (size : length m ≡ length l) (forest : Forest m (n .root) (n .st)) where
+      module _ {m : List ℕ} {q lo hi : ℕ} (f : Found l y q m) (o : Ordered q r lo hi) where
+        less : lo < hi
+        less = by o
+          where
+            by : {a b : ℕ} → Ordered q r a b → a < b
+            by (below h) = h
+            by (above h) = h
+
+        ends : ((n .root x ≡ lo) × (n .root y ≡ hi)) ⊎ ((n .root x ≡ hi) × (n .root y ≡ lo))
+        ends = by o
+          where
+            by : {a b : ℕ} → Ordered q r a b → ((n .root x ≡ a) × (n .root y ≡ b)) ⊎ ((n .root x ≡ b) × (n .root y ≡ a))
+            by (below h) = inr (n .is, root-of-y f)
+            by (above h) = inl (n .is, root-of-y f)
+
         both : Joined p k lo hi × Joined p k x lo
         both =
             ⊎-elim
@@ -214,16 +263,16 @@ module _ (p : Picture) (ok : Accepted p) (k x : ℕ) where
             ends
 
         hi-in : hi < length m
-        hi-in = let b = conn-target (both .0) .within in let g = n .size in omega (arith, b, g, size)
+        hi-in = let b = conn-target (both .0) .within in let g = n .size in omega (arith, b, g, f .size)
 
         small : lo < 2048
         small = let b = conn-source (both .0) .within in let g = places-bound p ok in omega arith
 
         lo-state : getD m lo 0 ≡ n .st lo
-        lo-state = forest .state lo (omega (arith, hi-in, less)) (root-cell forest lo (omega (arith, hi-in, less)) lo-root)
+        lo-state = forest f .state lo (omega (arith, hi-in, less)) (root-cell (forest f) lo (omega (arith, hi-in, less)) lo-root)
 
         hi-state : getD m hi 0 ≡ n .st hi
-        hi-state = forest .state hi hi-in (root-cell forest hi hi-in hi-root)
+        hi-state = forest f .state hi hi-in (root-cell (forest f) hi hi-in hi-root)
 
         same-class : (a b : ℕ) → n .root a ≡ n .root b → relink (n .root) lo hi a ≡ relink (n .root) lo hi b
         same-class a b q =
@@ -232,13 +281,13 @@ module _ (p : Picture) (ok : Accepted p) (k x : ℕ) where
             (λ d. relink-kept (n .root) lo hi a (λ g. d (sym q ∙ g)) ∙ (q ∙ sym (relink-kept (n .root) lo hi b d)))
 
         x-now : relink (n .root) lo hi x ≡ lo
-        x-now = ⊎-elim (λ h. relink-kept (n .root) lo hi x (λ q. let g = h .0 in omega arith) ∙ h .0) (λ h. relink-moved (n .root) lo hi x (h .0)) ends
+        x-now = ⊎-elim (λ h. relink-kept (n .root) lo hi x (λ q. let g = h .0 in omega (arith, less)) ∙ h .0) (λ h. relink-moved (n .root) lo hi x (h .0)) ends
 
         y-now : relink (n .root) lo hi y ≡ lo
-        y-now = ⊎-elim (λ h. relink-moved (n .root) lo hi y (h .1)) (λ h. relink-kept (n .root) lo hi y (λ q. let g = h .1 in omega arith) ∙ h .1) ends
+        y-now = ⊎-elim (λ h. relink-moved (n .root) lo hi y (h .1)) (λ h. relink-kept (n .root) lo hi y (λ q. let g = h .1 in omega (arith, less)) ∙ h .1) ends
 
         -- the father of a node that one of the two roots says
-        near-met :
+        pub near-met :
             (i : ℕ) → i < 1600 → getD m lo 0 ≢ 65535 → getD m hi 0 ≢ 65535 → (getD m lo 0 ≡ 2048 + i) ⊎ (getD m hi 0 ≡ 2048 + i) →
             (i < length (nodes p)) × (fatherOf p (nodeAt p i) ≡ mapOf p x)
         near-met i b da db e =
@@ -250,16 +299,16 @@ module _ (p : Picture) (ok : Accepted p) (k x : ℕ) where
             )
 
         -- the two roots are linked
-        near-linked :
+        pub near-linked :
             (s : ℕ) (fb : ℕ → ℕ) → 2048 ≤ s → Merged x (getD m lo 0) (getD m hi 0) s fa fb → Edge p x j y →
             Near p k x (suc j) lo (set (set m hi lo) lo s) fb
         near-linked s fb big merged e =
             record {
               root = relink (n .root) lo hi;
               st = put (n .st) lo s;
-              size = length-set (set m hi lo) lo s ∙ (length-set m hi lo ∙ (size ∙ n .size));
+              size = length-set (set m hi lo) lo s ∙ (length-set m hi lo ∙ (f .size ∙ n .size));
               low = n .low;
-              forest = forest-link m lo hi s (n .root) (n .st) forest less hi-in small lo-root hi-root big;
+              forest = forest-link m lo hi s (n .root) (n .st) (forest f) less hi-in small lo-root hi-root big;
               level =
                   linked p ok k (n .low) (soFar p k) x lo hi (n .root) (n .st) fa (n .level)
                   (edges-lower p k x (n .root) (let h = n .low in omega arith) (n .edges))
@@ -272,25 +321,3 @@ module _ (p : Picture) (ok : Accepted p) (k x : ℕ) where
               is = x-now;
               seen = seen-next (relink (n .root) lo hi) same-class y e (λ h. y-now ∙ sym x-now);
             }
-
-      module _ (m : List ℕ) (q s : ℕ) (fb : ℕ → ℕ) (e : Edge p x j y) (f : Found l y q m) (big : 2048 ≤ s) where
-        pub near-below : q < r → Merged x (getD m q 0) (getD m r 0) s fa fb → Near p k x (suc j) q (set (set m r q) q s) fb
-        near-below h g =
-            near-linked q r m (inr (n .is, f .is (n .root) (n .st) (n .forest))) h (f .size) (f .keeps (n .root) (n .st) (n .forest)) s fb big g e
-
-        pub near-above : r < q → Merged x (getD m r 0) (getD m q 0) s fa fb → Near p k x (suc j) r (set (set m q r) r s) fb
-        near-above h g =
-            near-linked r q m (inl (n .is, f .is (n .root) (n .st) (n .forest))) h (f .size) (f .keeps (n .root) (n .st) (n .forest)) s fb big g e
-
-      module _ (m : List ℕ) (q : ℕ) (f : Found l y q m) where
-        pub met-below :
-            q < r → (i : ℕ) → i < 1600 → getD m q 0 ≢ 65535 → getD m r 0 ≢ 65535 → (getD m q 0 ≡ 2048 + i) ⊎ (getD m r 0 ≡ 2048 + i) →
-            (i < length (nodes p)) × (fatherOf p (nodeAt p i) ≡ mapOf p x)
-        met-below h =
-            near-met q r m (inr (n .is, f .is (n .root) (n .st) (n .forest))) h (f .size) (f .keeps (n .root) (n .st) (n .forest))
-
-        pub met-above :
-            r < q → (i : ℕ) → i < 1600 → getD m r 0 ≢ 65535 → getD m q 0 ≢ 65535 → (getD m r 0 ≡ 2048 + i) ⊎ (getD m q 0 ≡ 2048 + i) →
-            (i < length (nodes p)) × (fatherOf p (nodeAt p i) ≡ mapOf p x)
-        met-above h =
-            near-met r q m (inl (n .is, f .is (n .root) (n .st) (n .forest))) h (f .size) (f .keeps (n .root) (n .st) (n .forest))

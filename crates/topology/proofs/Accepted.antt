@@ -1,15 +1,15 @@
 -- What an accepted picture is, entry by entry.
-use mathlib.Core.Path.{_≡_, refl, sym, ap, subst, _∙_}
-use mathlib.Core.Bool.{Bool, true, false, _&&_, _||_}
+use mathlib.Core.Path.{_≡_, refl}
+use mathlib.Core.Bool.{true, _||_}
 use mathlib.Core.Logic.{_⊎_, inl, inr, ⊎-elim}
 use mathlib.Core.List.{List, [], _∷_}
-use Prim.Native.Nat.{ℕ, zero, suc, _+_, _*_, _≤_, _<_}
+use Prim.Native.Nat.{ℕ, zero, suc, _≤_, _<_}
 use native.Mathlib.Nat.{mul-le-mul}
 use native.Mathlib.Omega.{arith}
 use lib.Dec.{eqb, ltb, leb}
 use lib.ListN.{length, getD}
 use borrow.Author.Tests.{eqb-true, leb-true, ltb-true, eq-eqb, le-leb, lt-ltb}
-use Rattle.picture.specs.Pictures.{Picture, places, valueAt, withPixels, sideFits, allBytes, isPicture}
+use Rattle.picture.specs.Pictures.{Picture, places, withPixels, sideFits, allBytes, isPicture}
 use Rattle.picture.specs.Kept.{nowhereAbove}
 use Rattle.topology.proofs.Tests.{and-left, and-right, and-both, or-cases, or-left, or-right, clash}
 

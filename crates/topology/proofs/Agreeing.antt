@@ -1,27 +1,27 @@
 -- A pixel is lowerable if the labels of its neighbours in the section below it agree.
-use mathlib.Core.Path.{_≡_, refl, sym, ap, subst, _∙_}
+use mathlib.Core.Path.{_≡_, refl, sym, ap, _∙_}
 use mathlib.Core.Bool.{Bool, true, false, _&&_, not}
-use mathlib.Core.Logic.{_⊎_, inl, inr, ⊎-elim, _≢_, by-cases}
+use mathlib.Core.Logic.{_⊎_, inl, inr, ⊎-elim, _≢_}
 use mathlib.Core.List.{List}
-use Prim.Native.Nat.{ℕ, zero, suc, _+_, _≤_, _<_}
-use native.Mathlib.Decide.{ℕ-discrete}
+use Prim.Native.Nat.{ℕ, suc, _+_, _≤_, _<_}
 use native.Mathlib.Omega.{arith}
 use lib.Dec.{eqb}
 use lib.ListN.{length, getD}
-use borrow.Author.Tests.{eqb-true, eqb-false, eq-eqb, ne-eqb}
-use Rattle.picture.specs.Lists.{pick, tally, range}
+use borrow.Author.Count.{below-more}
+use borrow.Author.Tests.{eqb-true, eqb-false, ne-eqb}
+use Rattle.picture.specs.Lists.{pick, tally}
 use Rattle.picture.specs.Pictures.{Picture, places, valueAt}
 use Rattle.picture.specs.Components.{labels}
 use Rattle.picture.specs.Geometry.{neighboursIn}
 use Rattle.picture.specs.Watersheds.{lowerable}
 use Rattle.picture.proofs.Neighbours.{neighbour-at, neighbour-index}
-use Rattle.topology.proofs.Tests.{on-pick, clash, test-false}
-use Rattle.topology.proofs.Keeping.{Lowers}
+use Rattle.topology.proofs.Tests.{on-pick, test-false}
 use Rattle.topology.proofs.Adjacency.{Adj, At, Joined}
 use Rattle.topology.proofs.Reached.{first-at}
 use Rattle.topology.proofs.Parts.{isFirst}
 use Rattle.topology.proofs.Bridge.{lowerable-lowers, lowers-lowerable, lowerable-above}
-use Rattle.topology.proofs.ComponentNumbers.{tally-bound, numberAt, at-dec, number-some, number-less, number-same, same-number, labels-at, labels-none}
+use Rattle.topology.proofs.ComponentNumbers.{at-dec, number-some, number-less, number-same, same-number, labels-at, labels-none}
+use Rattle.topology.proofs.Positions.{tally-bound}
 
 -- the label common to some places, 0 for none and 65,535 for several, when a place with the label v joins them
 abbrev pub agreed : ℕ → ℕ → ℕ
@@ -45,24 +45,19 @@ module _ (l ns : List ℕ) where
   pub common-start : Common l ns 0 0
   common-start = none refl (λ j h. absurd (omega arith))
 
-  -- what holds below i and at i holds below i + 1
-  upto : (P : ℕ → Type 0) (i : ℕ) → ((j : ℕ) → j < i → P j) → P i → (j : ℕ) → j < i + 1 → P j
-  upto P i f a j h =
-      by-cases (ℕ-discrete j i) (λ e. subst P (sym e) a) (λ e. let g : j < i = omega arith in f j g)
-
   module _ (i v : ℕ) (e : getD l (getD ns i 0) 0 ≡ v) where
     common-same : (m : ℕ) → v ≡ 0 → Common l ns i m → Common l ns (i + 1) m
-    common-same m z (none q f) = none q (upto (λ j. getD l (getD ns j 0) 0 ≡ 0) i f (e ∙ z))
+    common-same m z (none q f) = none q (below-more (λ j. getD l (getD ns j 0) 0 ≡ 0) i f (e ∙ z))
     common-same m z (one a b j h g f) =
         let d : j < i + 1 = omega arith in
-        one a b j d g (upto (λ j. (getD l (getD ns j 0) 0 ≡ 0) ⊎ (getD l (getD ns j 0) 0 ≡ m)) i f (inl (e ∙ z)))
+        one a b j d g (below-more (λ j. (getD l (getD ns j 0) 0 ≡ 0) ⊎ (getD l (getD ns j 0) 0 ≡ m)) i f (inl (e ∙ z)))
     common-same m z (many q j h a b r s t) =
         let c : j < i + 1 = omega arith in let d : h < i + 1 = omega arith in many q j h c d r s t
 
     common-first : (m : ℕ) → v ≢ 0 → v ≢ 65535 → m ≡ 0 → Common l ns i m → Common l ns (i + 1) v
     common-first m z s q (none w f) =
         one z s i (omega arith) e
-        (upto (λ j. (getD l (getD ns j 0) 0 ≡ 0) ⊎ (getD l (getD ns j 0) 0 ≡ v)) i (λ j h. inl (f j h)) (inr e))
+        (below-more (λ j. (getD l (getD ns j 0) 0 ≡ 0) ⊎ (getD l (getD ns j 0) 0 ≡ v)) i (λ j h. inl (f j h)) (inr e))
     common-first m z s q (one a b j h g f) = absurd (a q)
     common-first m z s q (many w j h a b r u t) = absurd (omega arith)
 
@@ -70,7 +65,7 @@ module _ (l ns : List ℕ) where
     common-more m z q s (none w f) = absurd (z w)
     common-more m z q s (one a b j h g f) =
         let d : j < i + 1 = omega arith in
-        one a b j d g (upto (λ j. (getD l (getD ns j 0) 0 ≡ 0) ⊎ (getD l (getD ns j 0) 0 ≡ m)) i f (inr (e ∙ sym q)))
+        one a b j d g (below-more (λ j. (getD l (getD ns j 0) 0 ≡ 0) ⊎ (getD l (getD ns j 0) 0 ≡ m)) i f (inr (e ∙ sym q)))
     common-more m z q s (many w j h a b r u t) = absurd (s (sym q ∙ w))
 
     common-other : (m : ℕ) → v ≢ 0 → m ≢ 0 → m ≢ v → Common l ns i m → Common l ns (i + 1) 65535

@@ -1,19 +1,18 @@
 -- The node that a component of the height below goes down to: forks, branches and fathers read off it.
-use mathlib.Core.Path.{_≡_, refl, sym, ap, subst, _∙_}
-use mathlib.Core.Bool.{Bool, true, false}
-use mathlib.Core.Logic.{_⊎_, inl, inr, ⊎-elim, _≢_}
-use Prim.Native.Nat.{ℕ, zero, suc, _+_, _≤_, _<_}
+use mathlib.Core.Path.{_≡_, refl, sym, ap, _∙_}
+use mathlib.Core.Bool.{true, false}
+use mathlib.Core.Logic.{_⊎_, ⊎-elim, _≢_}
+use Prim.Native.Nat.{ℕ, zero, suc, _≤_, _<_}
 use native.Mathlib.Omega.{arith}
 use lib.ListN.{length}
 use Rattle.picture.specs.Pictures.{Picture, places, valueAt}
 use Rattle.picture.specs.Components.{componentAt}
-use Rattle.picture.specs.Trees.{Node, isBranch, nodes, nodeAt, numberOf, fatherOf, mapOf}
-use Rattle.topology.proofs.Tests.{on-test, test-false, clash}
+use Rattle.picture.specs.Trees.{Node, isBranch, nodes, nodeAt, fatherOf, mapOf}
+use Rattle.topology.proofs.Tests.{test-false}
 use Rattle.topology.proofs.Connected.{start, conn-source, conn-target, conn-trans}
 use Rattle.topology.proofs.Adjacency.{At, Joined, joined-sym}
-use Rattle.topology.proofs.Reached.{firstAt, component-same}
-use Rattle.topology.proofs.Branches.{Branch, joined-mono, branch-zero, branch-sound, branch-complete}
-use Rattle.topology.proofs.Nodes.{node, node-is, number-found}
+use Rattle.topology.proofs.Branches.{Branch, branch-zero, branch-sound, branch-complete}
+use Rattle.topology.proofs.Nodes.{number-found}
 use Rattle.topology.proofs.Descent.{under, map-under, under-same, under-branch, under-fork, under-is, under-joined, under-up}
 
 -- z is a place of a value below k

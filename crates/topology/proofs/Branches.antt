@@ -1,8 +1,8 @@
 -- Branches: components that contain exactly one component of the height below. Keeping parts keeps them.
-use mathlib.Core.Path.{_≡_, refl, sym, ap, subst, _∙_}
+use mathlib.Core.Path.{_≡_, refl, sym, ap, _∙_}
 use mathlib.Core.Bool.{Bool, true, false}
 use mathlib.Core.List.{List, [], _∷_, List·Memᴰ, List·Memᴰ·not-nil, List·Memᴰ·eq-of-singleton}
-use Prim.Native.Nat.{ℕ, zero, suc, _+_, _≤_, _<_}
+use Prim.Native.Nat.{ℕ, zero, suc, _≤_}
 use native.Mathlib.Omega.{arith}
 use lib.Dec.{eqb}
 use lib.ListN.{length, getD}
@@ -11,13 +11,13 @@ use Rattle.picture.specs.Lists.{any, tally, select, isIn}
 use Rattle.picture.specs.Pictures.{Picture, places, valueAt, withPixels}
 use Rattle.picture.specs.Components.{componentAt, components}
 use Rattle.picture.specs.Trees.{headOf, below, isBranch}
-use Rattle.topology.proofs.Tests.{on-test, same-test, test-false, clash}
+use Rattle.topology.proofs.Tests.{on-test, same-test, clash}
 use Rattle.topology.proofs.Lists.{any-mem, mem-any, mem-select, length-select}
 use Rattle.topology.proofs.Connected.{start, step, conn-source, conn-target, conn-trans, conn-mono, conn-closed}
 use Rattle.topology.proofs.Keeping.{Keeps, sec-mono}
 use Rattle.topology.proofs.Adjacency.{Adj, At, Joined, joined-sym}
 use Rattle.topology.proofs.Reached.{firstAt, component-same, mem-joined, in-joined, joined-in, joined-mem, first-joined}
-use Rattle.topology.proofs.Parts.{OnePart, mem-components, tally-part, part-tally}
+use Rattle.topology.proofs.Parts.{mem-components, tally-part, part-tally}
 
 pub joined-mono : (p : Picture) {j k : ℕ} → j ≤ k → {x y : ℕ} → Joined p j x y → Joined p k x y
 joined-mono p h c = conn-mono (sec-mono h) c

@@ -1,9 +1,8 @@
 -- The tests of the definitions and the facts about connected places that they stand for.
-use mathlib.Core.Path.{_≡_, refl, sym, ap, subst, _∙_}
-use mathlib.Core.Bool.{Bool, true, false, _&&_}
-use mathlib.Core.Logic.{_⊎_, inl, inr, ⊎-elim, _↔_}
-use mathlib.Core.List.{List, [], _∷_, List·Memᴰ}
-use Prim.Native.Nat.{ℕ, zero, suc, _+_, _≤_, _<_}
+use mathlib.Core.Path.{_≡_, refl, sym, subst}
+use mathlib.Core.Bool.{Bool, true}
+use mathlib.Core.List.{List}
+use Prim.Native.Nat.{ℕ, zero, suc, _≤_, _<_}
 use native.Mathlib.Omega.{arith}
 use lib.Dec.{eqb}
 use borrow.Author.Tests.{eqb-true, eq-eqb}
@@ -13,11 +12,11 @@ use Rattle.picture.specs.Components.{touchesSome, componentAt, components}
 use Rattle.picture.specs.Watersheds.{lowerableAt, lowerable}
 use Rattle.picture.specs.Kept.{keepsAt, keepsParts}
 use Rattle.topology.proofs.Tests.{and-left, and-right, and-both, clash}
-use Rattle.topology.proofs.Lists.{any-mem, mem-any, all-mem, mem-all, in-mem, range-mem, mem-range}
+use Rattle.topology.proofs.Lists.{any-mem, mem-any, all-mem, mem-all, range-mem, mem-range}
 use Rattle.topology.proofs.Connected.{start, conn-source, conn-target, conn-trans, conn-mono}
-use Rattle.topology.proofs.Keeping.{Sec, Keeps, Lowers}
-use Rattle.topology.proofs.Adjacency.{Adj, At, Joined, joined-sym, section-at}
-use Rattle.topology.proofs.Reached.{component-same, mem-joined, joined-mem, joined-in, in-joined}
+use Rattle.topology.proofs.Keeping.{Keeps, Lowers}
+use Rattle.topology.proofs.Adjacency.{Adj, At, Joined, joined-sym}
+use Rattle.topology.proofs.Reached.{mem-joined, joined-mem, joined-in, in-joined}
 use Rattle.topology.proofs.Parts.{OnePart, all-parts, parts-all, tally-part, part-tally}
 
 -- a component lies within another

@@ -3,21 +3,20 @@ use mathlib.Core.Path.{_≡_, refl, sym, ap, subst, _∙_}
 use mathlib.Core.Bool.{Bool, true, false}
 use mathlib.Core.Logic.{_⊎_, inl, inr, ⊎-elim, by-cases, _≢_}
 use mathlib.Core.List.{List}
-use Prim.Native.Nat.{ℕ, suc, _+_, _-_, _*_, _≤_, _<_}
-use native.Mathlib.Numerals.{add-one}
-use native.Mathlib.Decide.{ℕ-discrete, decLt}
+use Prim.Native.Nat.{ℕ, suc, _+_, _-_, _≤_, _<_}
+use native.Mathlib.Decide.{ℕ-discrete}
 use native.Mathlib.Omega.{arith}
 use lib.ListN.{length, getD, set, length-set}
-use Rattle.picture.specs.Pictures.{Picture, places, valueAt}
+use Rattle.picture.specs.Pictures.{Picture, places}
 use Rattle.picture.specs.Geometry.{neighboursIn, Placed}
 use Rattle.picture.specs.Trees.{nodes, nodeAt, fatherOf, mapOf}
 use Rattle.topology.proofs.Tests.{clash}
-use Rattle.topology.proofs.Accepted.{Accepted, places-bound}
-use Rattle.topology.proofs.Levels.{put, put-same, put-other, Merged, left, right, both, Upto}
-use Rattle.topology.proofs.Forests.{Forest, Found, Parents, forest-parents}
+use Rattle.topology.proofs.Accepted.{Accepted}
+use Rattle.topology.proofs.Levels.{put, put-same, put-other, Merged, left, right, both}
+use Rattle.topology.proofs.Forests.{Found, Parents, forest-parents}
 use Rattle.topology.proofs.Marks.{Names}
-use Rattle.topology.proofs.Absorbing.{Classes, Near, Edge, edge-touch, near-start, near-end, near-skip, near-names, root-x, root-y, near-same, near-below, near-above, met-below, met-above}
-use Rattle.topology.proofs.Chains.{Comes}
+use Rattle.topology.proofs.Absorbing.{Classes, Near, Edge, Ordered, below, above, Linkable, edge-touch, edge-within, near-skip, near-same, near-linkable, near-linked, near-met}
+use Rattle.topology.proofs.Chains.{Comes, upto-of}
 
 -- the lent entries of two lists contradict the tree: a node's father is the node of a pixel, and their entries differ
 pub record Differs (p : Picture) (fs m : List ℕ) : Type 0 where
@@ -167,20 +166,7 @@ pub record Looked (pixels : List ℕ) (k x r y : ℕ) (l fs m : List ℕ) (q : �
   pub differs :
       (p : Picture) (j : ℕ) → Accepted p → p .pixels ≡ pixels → Edge p x j y → NearBy p k x j r l fs m → length l ≤ q → Differs p fs m
 
--- what a checked link asks
-pub record LookBounds (x q r : ℕ) (o : List ℕ) : Type 0 where
-  pub few : length o ≤ 1600
-  pub place : x < length o
-  pub in-q : q < length o
-  pub in-r : r < length o
-  pub name-q : Names (length o) (getD o q 0)
-  pub name-r : Names (length o) (getD o r 0)
-
 module _ (pixels : List ℕ) (k x r y : ℕ) (l fs m : List ℕ) where
-  upto-of : (p : Picture) → p .pixels ≡ pixels → y < places p → Comes k x y (getD pixels y 0) true → Upto p k x y
-  upto-of p e b c =
-      record { within = b; passed = subst (λ (v : List ℕ). (getD v y 0 < k) ⊎ ((getD v y 0 ≡ k) × (y < x))) (sym e) (c .yes refl) }
-
   root-in : (p : Picture) (j : ℕ) → Accepted p → NearBy p k x j r l fs m → r < length l
   root-in p j ok n =
       let f = n .near .level .first x (n .near .within) in
@@ -190,12 +176,7 @@ module _ (pixels : List ℕ) (k x r y : ℕ) (l fs m : List ℕ) where
       omega arith
 
   pub look-bounds : LookReady pixels k x r y l fs m → (y < length pixels) × (y < length l)
-  look-bounds e =
-      let (b, t) = edge-touch (e .p) (e .ok) k x (e .j) y (e .edge) in
-      let size = e .ok .size in
-      let cells = e .near .near .size in
-      let same = ap length (e .is) in
-      (omega arith, omega arith)
+  look-bounds e = edge-within (e .p) (e .ok) k x (e .j) y pixels l (e .edge) (e .is) (e .near .near .size)
 
   pub look-parents : LookReady pixels k x r y l fs m → Parents l
   look-parents e = forest-parents (e .near .near .forest)
@@ -224,109 +205,66 @@ module _ (pixels : List ℕ) (k x r y : ℕ) (l fs m : List ℕ) where
           near =
               λ p j ok e g n b.
               let (s, t) = edge-touch p ok k x j y g in
-              record { fa = n .fa; near = near-same p ok k x j r l (n .fa) (n .near) y (upto-of p e s c) t o q g f h; agree = n .agree };
+              record { fa = n .fa; near = near-same p ok k x j r l (n .fa) (n .near) y (upto-of p e s c) t f g h; agree = n .agree };
           differs = λ p j ok e g n b. absurd (let i = root-in p j ok n in omega arith);
         }
 
-    names : (p : Picture) (j : ℕ) → Accepted p → p .pixels ≡ pixels → Edge p x j y → NearBy p k x j r l fs m → LookBounds x q r o
-    names p j ok e g by-near =
-        let n = by-near .near in
-        let near : Near p k x j r o (by-near .fa) =
-        record {
-          root = n .root;
-          st = n .st;
-          size = f .size ∙ n .size;
-          low = n .low;
-          forest = f .keeps (n .root) (n .st) (n .forest);
-          level = n .level;
-          edges = n .edges;
-          within = n .within;
-          value = n .value;
-          is = n .is;
-          seen = n .seen;
-        }
-        in
+    linkable : (p : Picture) (j : ℕ) → Accepted p → p .pixels ≡ pixels → Edge p x j y → NearBy p k x j r l fs m → Linkable x q r o
+    linkable p j ok e g n =
         let (s, t) = edge-touch p ok k x j y g in
-        let u = upto-of p e s c in
-        let (rx, ax) = root-x p ok k x j r o (by-near .fa) near y u t in
-        let (ry, ay) = root-y p ok k x j r o (by-near .fa) near y u t in
-        let q-is = f .is (n .root) (n .st) (n .forest) in
-        let size = f .size ∙ n .size in
-        let few = places-bound p ok in
-        let wx = n .within in
-        let bx = ax .within in
-        let by = ay .within in
-        let x-is = n .is in
+        near-linkable p ok k x j r l (n .fa) (n .near) y (upto-of p e s c) t f
+
+    pub look-join : LookReady pixels k x r y l fs m → Linkable x q r o
+    look-join e = linkable (e .p) (e .j) (e .ok) (e .is) (e .edge) (e .near)
+
+    -- the names of the two roots, the smaller first
+    names : {lo hi : ℕ} → Ordered q r lo hi → Linkable x q r o → Names (length o) (getD o lo 0) × Names (length o) (getD o hi 0)
+    names (below h) a = (a .name-q, a .name-r)
+    names (above h) a = (a .name-r, a .name-q)
+
+    most : {lo hi : ℕ} → Ordered q r lo hi → lo ≤ r
+    most (below h) = omega arith
+    most (above h) = omega arith
+
+    look-linked : {lo hi : ℕ} (u : List ℕ) → Ordered q r lo hi → Joint x lo hi o fs m u true → Looked pixels k x r y l fs m lo u
+    look-linked {lo} {hi} u h (linked s big e g) =
         record {
-          few = omega arith;
-          place = omega arith;
-          in-q = omega arith;
-          in-r = omega arith;
-          name-q = subst (λ (a : ℕ). Names (length o) (getD o a 0)) q-is (near-names p ok k x j r o (by-near .fa) near (n .root y) ay ry);
-          name-r = subst (λ (a : ℕ). Names (length o) (getD o a 0)) x-is (near-names p ok k x j r o (by-near .fa) near (n .root x) ax rx);
+          size = ap length e ∙ (length-set (set o hi lo) lo s ∙ (length-set o hi lo ∙ f .size));
+          near =
+              λ p j ok i a n z.
+              let (w, t) = edge-touch p ok k x j y a in
+              let (na, nb) = names h (linkable p j ok i a n) in
+              let (fb, merged, agree) = merged-by x (getD o lo 0) (getD o hi 0) s fs m (n .fa) (na .root) (nb .root) g (n .agree) in
+              record {
+                fa = fb;
+                near =
+                    subst (λ (v : List ℕ). Near p k x (suc j) lo v fb) (sym e)
+                    (near-linked p ok k x j r l (n .fa) (n .near) y (upto-of p i w c) t f h s fb big merged a);
+                agree = agree;
+              };
+          differs = λ p j ok i a n z. absurd (let w = root-in p j ok n in omega (arith, most h));
         }
 
-    pub look-join : LookReady pixels k x r y l fs m → LookBounds x q r o
-    look-join e = names (e .p) (e .j) (e .ok) (e .is) (e .edge) (e .near)
+    look-differs : {lo hi : ℕ} (u : List ℕ) (z : ℕ) → Ordered q r lo hi → z ≡ length u → Joint x lo hi o fs m u false → Looked pixels k x r y l fs m z u
+    look-differs u z h e (differs i b da db a d s) =
+        record {
+          size = s ∙ f .size;
+          near = λ p j ok i a n v. absurd (let g = f .size in omega arith);
+          differs =
+              λ p j ok g t n v.
+              let (w, touch) = edge-touch p ok k x j y t in
+              let (num, father) = near-met p ok k x j r l (n .fa) (n .near) y (upto-of p g w c) touch f h i b da db a in
+              record { at = i; pixel = x; number = num; place = n .near .within; father = father; differs = d };
+        }
 
     pub look-below : (u : List ℕ) → q < r → q < length l → Joint x q r o fs m u true → Looked pixels k x r y l fs m q u
-    look-below u h b (linked s big e g) =
-        record {
-          size = ap length e ∙ (length-set (set o r q) q s ∙ (length-set o r q ∙ f .size));
-          near =
-              λ p j ok i a n z.
-              let (w, t) = edge-touch p ok k x j y a in
-              let k′ = names p j ok i a n in
-              let (fb, merged, agree) = merged-by x (getD o q 0) (getD o r 0) s fs m (n .fa) (k′ .name-q .root) (k′ .name-r .root) g (n .agree) in
-              record {
-                fa = fb;
-                near =
-                    subst (λ (v : List ℕ). Near p k x (suc j) q v fb) (sym e)
-                    (near-below p ok k x j r l (n .fa) (n .near) y (upto-of p i w c) t o q s fb a f big h merged);
-                agree = agree;
-              };
-          differs = λ p j ok i a n z. absurd (omega arith);
-        }
+    look-below u h b = look-linked u (below h)
 
     pub look-above : (u : List ℕ) → r < q → Joint x r q o fs m u true → Looked pixels k x r y l fs m r u
-    look-above u h (linked s big e g) =
-        record {
-          size = ap length e ∙ (length-set (set o q r) r s ∙ (length-set o q r ∙ f .size));
-          near =
-              λ p j ok i a n z.
-              let (w, t) = edge-touch p ok k x j y a in
-              let k′ = names p j ok i a n in
-              let (fb, merged, agree) = merged-by x (getD o r 0) (getD o q 0) s fs m (n .fa) (k′ .name-r .root) (k′ .name-q .root) g (n .agree) in
-              record {
-                fa = fb;
-                near =
-                    subst (λ (v : List ℕ). Near p k x (suc j) r v fb) (sym e)
-                    (near-above p ok k x j r l (n .fa) (n .near) y (upto-of p i w c) t o q s fb a f big h merged);
-                agree = agree;
-              };
-          differs = λ p j ok i a n z. absurd (let w = root-in p j ok n in omega arith);
-        }
+    look-above u h = look-linked u (above h)
 
     pub look-differs-below : (u : List ℕ) (z : ℕ) → q < r → z ≡ length u → Joint x q r o fs m u false → Looked pixels k x r y l fs m z u
-    look-differs-below u z h e (differs i b da db a d s) =
-        record {
-          size = s ∙ f .size;
-          near = λ p j ok i a n v. absurd (let g = f .size in omega arith);
-          differs =
-              λ p j ok g t n v.
-              let (w, touch) = edge-touch p ok k x j y t in
-              let (num, father) = met-below p ok k x j r l (n .fa) (n .near) y (upto-of p g w c) touch o q f h i b da db a in
-              record { at = i; pixel = x; number = num; place = n .near .within; father = father; differs = d };
-        }
+    look-differs-below u z h = look-differs u z (below h)
 
     pub look-differs-above : (u : List ℕ) (z : ℕ) → r < q → z ≡ length u → Joint x r q o fs m u false → Looked pixels k x r y l fs m z u
-    look-differs-above u z h e (differs i b da db a d s) =
-        record {
-          size = s ∙ f .size;
-          near = λ p j ok i a n v. absurd (let g = f .size in omega arith);
-          differs =
-              λ p j ok g t n v.
-              let (w, touch) = edge-touch p ok k x j y t in
-              let (num, father) = met-above p ok k x j r l (n .fa) (n .near) y (upto-of p g w c) touch o q f h i b da db a in
-              record { at = i; pixel = x; number = num; place = n .near .within; father = father; differs = d };
-        }
+    look-differs-above u z h = look-differs u z (above h)

@@ -1,25 +1,23 @@
 -- The climb from two nodes to their nearest common ancestor, whose height decides at which heights two places are joined.
-use mathlib.Core.Path.{_≡_, refl, sym, ap, subst, _∙_}
-use mathlib.Core.Bool.{Bool, true, false}
-use mathlib.Core.Logic.{_⊎_, inl, inr, ⊎-elim, by-cases, _↔_}
-use mathlib.Core.List.{List, [], _∷_}
+use mathlib.Core.Path.{_≡_, sym, ap, subst, _∙_}
+use mathlib.Core.Logic.{_⊎_, ⊎-elim, by-cases, _↔_}
 use Prim.Native.Nat.{ℕ, zero, suc, _+_, _-_, _≤_, _<_, max}
 use native.Mathlib.Decide.{decLe, decLt}
 use native.Mathlib.Omega.{arith}
-use lib.ListN.{length, getD}
+use lib.ListN.{length}
 use Rattle.picture.specs.Pictures.{Picture, places, valueAt}
 use Rattle.picture.specs.Components.{componentAt, pass}
 use Rattle.picture.specs.Trees.{Node, isBranch, nodes, nodeAt, numberOf, fatherOf, mapOf}
 use Rattle.topology.proofs.Tests.{clash}
-use Rattle.topology.proofs.Connected.{start, conn-source, conn-target, conn-trans}
+use Rattle.topology.proofs.Connected.{conn-source, conn-target, conn-trans}
 use Rattle.topology.proofs.Keeping.{sec-mono}
 use Rattle.topology.proofs.Adjacency.{At, Joined, joined-sym}
 use Rattle.topology.proofs.Reached.{component-same}
 use Rattle.topology.proofs.Accepted.{Accepted, byte-at}
 use Rattle.topology.proofs.Branches.{joined-mono}
-use Rattle.topology.proofs.Nodes.{IsNode, node, node-is, node-equal, number-found, heights-rise}
+use Rattle.topology.proofs.Nodes.{node, node-is, node-equal, number-found, heights-rise}
 use Rattle.topology.proofs.Fathers.{Above, top, fork, father-is, father-found, number-small, map-found}
-use Rattle.topology.proofs.Descent.{under, map-under, under-same, under-fork, Under, under-is, under-joined, under-down, under-up}
+use Rattle.topology.proofs.Descent.{under, map-under, under-same, under-fork, Under, under-is, under-down, under-up}
 use Rattle.topology.proofs.Grid.{grid-joined, pass-most, pass-byte, pass-joined}
 
 -- c is a or an ancestor of a, by the fathers P of m nodes
@@ -199,7 +197,7 @@ module _ (p : Picture) (ok : Accepted p) where
     up-rises stay = omega arith
     up-rises (rise {a} h f u) = let g = father-greater a h f in let w = up-rises u in omega arith
 
-    -- every common ancestor is one of the node where the climbs meet
+    -- no common ancestor has a smaller number than the node where the climbs meet
     meet-least : {a b r c : ℕ} → Meet (father p) a b r → Up (father p) (length (nodes p)) c a → Up (father p) (length (nodes p)) c b → r ≤ c
     meet-least same u v = up-rises u
     meet-least (left l n) stay v = absurd (let w = up-rises v in omega arith)

@@ -1,74 +1,23 @@
 -- The labels of a section: a place has the number of its component's first place among the first places.
 use mathlib.Core.Path.{_≡_, refl, sym, ap, subst, _∙_}
-use mathlib.Core.Bool.{Bool, true, false, _||_}
-use mathlib.Core.Logic.{_⊎_, inl, inr, ⊎-elim, by-cases}
-use mathlib.Core.List.{List, [], _∷_, map, List·Memᴰ, List·Memᴰ·head, List·Memᴰ·tail, Memᴰ·of-map}
-use Prim.Native.Nat.{ℕ, zero, suc, _+_, _-_, _≤_, _<_}
-use native.Mathlib.Decide.{decLt, decLe}
+use mathlib.Core.Bool.{true, false}
+use mathlib.Core.Logic.{_⊎_, inr, by-cases}
+use mathlib.Core.List.{List, [], _∷_, map, List·Memᴰ, List·Memᴰ·head, List·Memᴰ·tail}
+use Prim.Native.Nat.{ℕ, zero, suc, _+_, _≤_, _<_}
+use native.Mathlib.Decide.{decLt}
 use native.Mathlib.Omega.{arith}
-use lib.Dec.{eqb}
 use lib.ListN.{length, getD, length-map}
-use lib.Seq.{ext-getD}
-use Rattle.picture.specs.Lists.{pick, tally, select, range, isIn}
+use Rattle.picture.specs.Lists.{tally, select, range, isIn}
 use Rattle.picture.specs.Pictures.{Picture, places}
 use Rattle.picture.specs.Components.{componentAt, components, labelFrom, labels}
-use Rattle.topology.proofs.Tests.{on-test, on-pick, on-elim, clash, test-false}
+use Rattle.topology.proofs.Tests.{on-test, on-elim, clash, test-false}
 use Rattle.topology.proofs.Lists.{select-in, select-out, tally-in, tally-out, length-select, length-range, getD-map-range}
-use Rattle.topology.proofs.Connected.{start, conn-target}
+use Rattle.topology.proofs.Connected.{conn-target}
 use Rattle.topology.proofs.Keeping.{sec-dec}
 use Rattle.topology.proofs.Adjacency.{At, Joined}
-use Rattle.topology.proofs.Reached.{firstAt, in-joined, joined-in, first-joined, first-same, first-first, first-at, same-first}
+use Rattle.topology.proofs.Reached.{firstAt, in-joined, joined-in, first-same, first-first, first-at, same-first}
 use Rattle.topology.proofs.Parts.{isFirst, first-is, is-first, components-are, components-mem}
-
--- tallies of the numbers below a bound
-abbrev bit : Bool → ℕ
-bit b = pick b 1 0
-
-module _ (t : ℕ → Bool) where
-  tally-end : (x l : ℕ) → tally t (range x (suc l)) ≡ tally t (range x l) + bit (t (x + l))
-  tally-end x zero =
-      let e : x ≡ x + 0 = omega arith in
-      let q = ap (λ (z : ℕ). bit (t z)) e in
-      omega arith
-  tally-end x (suc l) =
-      let e : suc x + l ≡ x + suc l = omega arith in
-      let q = ap (λ (z : ℕ). bit (t z)) e in
-      let r = tally-end (suc x) l in
-      omega arith
-
-  pub tally-more : (x : ℕ) → t x ≡ true → tally t (range 0 (suc x)) ≡ suc (tally t (range 0 x))
-  tally-more x e =
-      let z : 0 + x ≡ x = omega arith in
-      let q : bit (t (0 + x)) ≡ 1 = ap bit (ap t z ∙ e) in
-      let r = tally-end 0 x in
-      omega arith
-
-  pub tally-less : (x : ℕ) → t x ≡ false → tally t (range 0 (suc x)) ≡ tally t (range 0 x)
-  tally-less x e =
-      let z : 0 + x ≡ x = omega arith in
-      let q : bit (t (0 + x)) ≡ 0 = ap bit (ap t z ∙ e) in
-      let r = tally-end 0 x in
-      omega arith
-
-  tally-add : (x d : ℕ) → tally t (range 0 x) ≤ tally t (range 0 (x + d))
-  tally-add x zero = let e : x ≡ x + 0 = omega arith in let q = ap (λ (z : ℕ). tally t (range 0 z)) e in omega arith
-  tally-add x (suc d) =
-      let e : x + suc d ≡ suc (x + d) = omega arith in
-      let q = ap (λ (z : ℕ). tally t (range 0 z)) e in
-      let r = tally-end 0 (x + d) in
-      let s = tally-add x d in
-      omega arith
-
-  pub tally-below : (x y : ℕ) → x ≤ y → tally t (range 0 x) ≤ tally t (range 0 y)
-  tally-below x y h =
-      let e : x + (y - x) ≡ y = omega arith in
-      subst (λ (z : ℕ). tally t (range 0 x) ≤ tally t (range 0 z)) e (tally-add x (y - x))
-
-  pub tally-bound : (x : ℕ) → tally t (range 0 x) ≤ x
-  tally-bound zero = omega arith
-  tally-bound (suc x) =
-      let r = tally-bound x in
-      on-test (t x) (λ e. omega (arith, tally-more x e)) (λ e. omega (arith, tally-less x e))
+use Rattle.topology.proofs.Positions.{tally-next-in, tally-below}
 
 -- the number of the component that holds a place of the section
 unfoldable pub numberAt : Picture → ℕ → ℕ → ℕ
@@ -89,7 +38,7 @@ module _ (p : Picture) (k : ℕ) where
   pub number-less : (y x : ℕ) → At p k y → firstAt p k y < x → numberAt p k y ≤ tally (isFirst p k) (range 0 x)
   unfolding numberAt
   number-less y x s h =
-      let a = tally-more (isFirst p k) (firstAt p k y) (first-true y s) in
+      let a = tally-next-in (isFirst p k) (firstAt p k y) (first-true y s) in
       let b = tally-below (isFirst p k) (suc (firstAt p k y)) x h in
       omega arith
 

@@ -1,5 +1,4 @@
 -- Paths in a graph: R the edges, Q the vertices that a path may use.
-use mathlib.Core.Path.{_≡_}
 use Prim.Native.Nat.{ℕ}
 
 -- a path from x within Q, which grows at its end

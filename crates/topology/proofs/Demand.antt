@@ -2,13 +2,13 @@
 -- and no other picture nowhere above it does.
 use mathlib.Core.Path.{_≡_, refl, sym, ap, ap₂, subst, _∙_}
 use mathlib.Core.Bool.{Bool, true, false, _&&_}
-use mathlib.Core.List.{List, [], _∷_}
-use Prim.Native.Nat.{ℕ, zero, suc, _+_, _-_, _≤_, _<_}
+use mathlib.Core.List.{List}
+use Prim.Native.Nat.{ℕ, zero, suc, _-_, _≤_, _<_}
 use native.Mathlib.Omega.{arith}
 use lib.ListN.{length, getD, set, length-set}
 use lib.Seq.{ext-getD, getD-set-same}
 use Rattle.picture.specs.Lists.{range, isIn}
-use Rattle.picture.specs.Pictures.{Picture, places, valueAt, withPixels, allBytes, isPicture}
+use Rattle.picture.specs.Pictures.{Picture, places, valueAt, withPixels, allBytes}
 use Rattle.picture.specs.Components.{inSection, componentAt, passFrom, pass}
 use Rattle.picture.specs.Watersheds.{lowerable, watershed}
 use Rattle.picture.specs.Patches.{patchAt}
@@ -16,15 +16,15 @@ use Rattle.picture.specs.Kept.{nowhereAbove, keepsAt, keepsParts, Kept, Demand-
 use Rattle.topology.proofs.Tests.{and-left, and-right, and-both, same-test, test-false}
 use Rattle.topology.proofs.Lists.{all-fails, range-mem}
 use Rattle.topology.proofs.Connected.{conn-target}
-use Rattle.topology.proofs.Keeping.{Keeps, Lowers, keeps-compose}
+use Rattle.topology.proofs.Keeping.{Keeps, keeps-compose}
 use Rattle.topology.proofs.Least.{least-sections}
-use Rattle.topology.proofs.Adjacency.{Adj, At, Joined, adj-sym, section-at, at-section}
+use Rattle.topology.proofs.Adjacency.{Adj, At, adj-sym, section-at, at-section}
 use Rattle.topology.proofs.Reached.{in-joined, joined-in}
 use Rattle.topology.proofs.Bridge.{lowerable-above, lowerable-lowers, lowers-lowerable, keeps-parts, parts-keeps}
 use Rattle.topology.proofs.Accepted.{Accepted, accepted-is, is-accepted, accepted-with, byte-at, at-byte, above-at, at-above}
 use Rattle.topology.proofs.Water.{Watered, lower-under, lower-keeps, watershed-shape, watershed-watered}
 use Rattle.topology.proofs.Branches.{joined-kept}
-use Rattle.topology.proofs.Minima.{InMinimum, patch-minimum, minimum-kept}
+use Rattle.topology.proofs.Minima.{patch-minimum, minimum-kept}
 use Rattle.topology.proofs.Partners.{partner-found, partner-of, fathers-partners, roots-partners, roots-joined}
 
 -- passes in two pictures whose components hold both places at the same heights

@@ -1,22 +1,21 @@
 -- The node that a component goes down to, as its height rises: the same through branches, its father at a fork.
 use mathlib.Core.Path.{_≡_, refl, sym, ap, subst, _∙_}
-use mathlib.Core.Bool.{Bool, true, false}
-use mathlib.Core.Logic.{_⊎_, inl, inr, ⊎-elim, by-cases}
-use mathlib.Core.List.{List, [], _∷_}
-use Prim.Native.Nat.{ℕ, zero, suc, _+_, _-_, _≤_, _<_}
+use mathlib.Core.Bool.{true, false}
+use mathlib.Core.Logic.{_⊎_, inl, inr, by-cases}
+use Prim.Native.Nat.{ℕ, zero, suc, _≤_, _<_}
 use native.Mathlib.Decide.{ℕ-discrete, decLe}
 use native.Mathlib.Omega.{arith}
-use lib.ListN.{length, getD}
-use Rattle.picture.specs.Pictures.{Picture, places, valueAt}
+use lib.ListN.{length}
+use Rattle.picture.specs.Pictures.{Picture, valueAt}
 use Rattle.picture.specs.Components.{componentAt}
 use Rattle.picture.specs.Trees.{Node, below, isBranch, nodes, nodeAt, numberOf, fatherOf, downFrom, mapOf}
 use Rattle.topology.proofs.Tests.{on-test, on-elim, clash}
-use Rattle.topology.proofs.Connected.{start, conn-source, conn-target, conn-trans}
+use Rattle.topology.proofs.Connected.{start, conn-trans}
 use Rattle.topology.proofs.Keeping.{sec-mono}
 use Rattle.topology.proofs.Adjacency.{At, Joined, joined-sym}
-use Rattle.topology.proofs.Reached.{firstAt, component-same, first-joined, first-at, same-first}
+use Rattle.topology.proofs.Reached.{component-same, first-joined}
 use Rattle.topology.proofs.Branches.{Branch, joined-mono, branch-zero, branch-sound, branch-complete, branch-below}
-use Rattle.topology.proofs.Nodes.{IsNode, node, node-is, node-equal, number-found}
+use Rattle.topology.proofs.Nodes.{number-found}
 use Rattle.topology.proofs.Fathers.{Above, top, fork, father-is}
 
 -- the number of the node that the component of height k with x goes down to

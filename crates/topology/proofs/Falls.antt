@@ -1,18 +1,18 @@
 -- Falls and the watershed: a pixel that leads the lowerable ones may fall as far as it drops in one go.
 use mathlib.Core.Path.{_≡_, refl, sym, ap, subst, _∙_}
-use mathlib.Core.Bool.{Bool, true, false}
-use mathlib.Core.Logic.{_⊎_, inl, inr, ⊎-elim, _≢_, by-cases}
-use mathlib.Core.List.{List, [], _∷_}
+use mathlib.Core.Bool.{true}
+use mathlib.Core.Logic.{_⊎_, inl, inr, ⊎-elim, by-cases}
+use mathlib.Core.List.{List}
 use Prim.Native.Nat.{ℕ, zero, suc, _+_, _-_, _≤_, _<_}
-use native.Mathlib.Decide.{ℕ-discrete, decLe}
+use native.Mathlib.Decide.{ℕ-discrete}
 use native.Mathlib.Omega.{arith}
 use lib.ListN.{length, getD, set, length-set}
 use lib.Seq.{getD-set-same, getD-set-other, set-set, set-getD}
 use Rattle.picture.specs.Lists.{total}
-use Rattle.picture.specs.Pictures.{Picture, places, valueAt, withPixels, distance, adjacent, touch}
-use Rattle.picture.specs.Watersheds.{lowerable, best, lowered, waterFrom, watershed}
+use Rattle.picture.specs.Pictures.{Picture, places, valueAt, withPixels, touch}
+use Rattle.picture.specs.Watersheds.{lowerable, best, waterFrom, watershed}
 use Rattle.topology.proofs.Tests.{on-test, clash}
-use Rattle.topology.proofs.Keeping.{Lowers, Fallen}
+use Rattle.topology.proofs.Keeping.{Fallen}
 use Rattle.topology.proofs.Adjacency.{Adj, adj-sym, adj-irreflexive}
 use Rattle.topology.proofs.Bridge.{lowerable-above, lowerable-lowers, lowers-lowerable}
 use Rattle.topology.proofs.Water.{Leads, less, ties, Best, nobody, leader, best-is, water-stop, water-step, total-set}

@@ -1,21 +1,21 @@
 -- Fathers and the map: which node they are, and that only a root's father is missing.
-use mathlib.Core.Path.{_≡_, refl, sym, ap, subst, _∙_}
-use mathlib.Core.Bool.{Bool, true, false}
+use mathlib.Core.Path.{_≡_, refl, sym, subst}
+use mathlib.Core.Bool.{true, false}
 use mathlib.Core.Logic.{_⊎_, inl, inr, by-cases}
-use mathlib.Core.List.{List, [], _∷_}
+use mathlib.Core.List.{List}
 use Prim.Native.Nat.{ℕ, zero, suc, _+_, _-_, _≤_, _<_}
 use native.Mathlib.Decide.{ℕ-discrete}
 use native.Mathlib.Omega.{arith}
-use lib.ListN.{length, getD}
+use lib.ListN.{length}
 use Rattle.picture.specs.Pictures.{Picture, places, valueAt}
 use Rattle.picture.specs.Components.{componentAt}
-use Rattle.picture.specs.Trees.{Node, below, isBranch, nodes, nodeAt, numberOf, aboveFrom, fatherOf, downFrom, mapOf}
+use Rattle.picture.specs.Trees.{Node, below, isBranch, nodes, numberOf, aboveFrom, fatherOf, downFrom, mapOf}
 use Rattle.topology.proofs.Tests.{on-elim}
 use Rattle.topology.proofs.Keeping.{sec-mono}
 use Rattle.topology.proofs.Adjacency.{At}
 use Rattle.topology.proofs.Accepted.{Accepted, byte-at, places-bound}
 use Rattle.topology.proofs.Branches.{branch-zero, branch-sound, branch-below}
-use Rattle.topology.proofs.Nodes.{IsNode, node-is, number-found, nodes-few}
+use Rattle.topology.proofs.Nodes.{IsNode, number-found, nodes-few}
 
 -- r is the number of the least node from height k on that contains x, or 65535 where each component is a branch
 pub data Above (p : Picture) (x k r : ℕ) : Type 0 where

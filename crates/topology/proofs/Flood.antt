@@ -1,18 +1,16 @@
 -- A flood from a place: what is marked, what lies on the stack, and that a flood with an empty stack has marked the component.
-use mathlib.Core.Path.{_≡_, refl, sym, ap, subst, _∙_}
-use mathlib.Core.Bool.{Bool, true, false}
+use mathlib.Core.Path.{_≡_, sym, ap, subst, _∙_}
 use mathlib.Core.Logic.{_⊎_, inl, inr, ⊎-elim, _≢_, by-cases}
 use mathlib.Core.List.{List, [], _∷_, List·Memᴰ, List·Memᴰ·not-nil, List·Memᴰ·cases-cons}
-use Prim.Native.Nat.{ℕ, zero, suc, _+_, _-_, _≤_, _<_}
-use native.Mathlib.Decide.{ℕ-discrete, decLt}
+use Prim.Native.Nat.{ℕ, suc, _<_}
+use native.Mathlib.Decide.{ℕ-discrete}
 use native.Mathlib.Omega.{arith}
 use lib.Dec.{eqb}
 use lib.ListN.{length, getD, set}
 use lib.Seq.{getD-set-same, getD-set-other}
-use borrow.Author.Tests.{eq-eqb, ne-eqb}
 use Rattle.picture.specs.Lists.{tally}
 use Rattle.picture.specs.Pictures.{Picture, places}
-use Rattle.topology.proofs.Lists.{tally-in, tally-out}
+use Rattle.topology.proofs.Lists.{set-cases, tally-set}
 use Rattle.topology.proofs.Connected.{start, step, conn-closed}
 use Rattle.topology.proofs.Adjacency.{Adj, At, Joined}
 
@@ -22,22 +20,7 @@ unmarked l = tally (eqb 0) l
 
 -- a mark in the place of a 0
 pub unmarked-set : (l : List ℕ) (y c : ℕ) → y < length l → getD l y 0 ≡ 0 → c ≢ 0 → suc (unmarked (set l y c)) ≡ unmarked l
-unmarked-set [] y c h e d = absurd (omega arith)
-unmarked-set (x ∷ xs) zero c h e d =
-    let p = tally-in (eqb 0) x xs (eq-eqb 0 x (sym e)) in
-    let q = tally-out (eqb 0) c xs (ne-eqb 0 c (λ f. d (sym f))) in
-    omega arith
-unmarked-set (x ∷ xs) (suc y) c h e d =
-    let r = unmarked-set xs y c (omega arith) e d in
-    by-cases (ℕ-discrete 0 x)
-    (λ f.
-    let p = tally-in (eqb 0) x xs (eq-eqb 0 x f) in
-    let q = tally-in (eqb 0) x (set xs y c) (eq-eqb 0 x f) in
-    omega arith)
-    (λ f.
-    let p = tally-out (eqb 0) x xs (ne-eqb 0 x f) in
-    let q = tally-out (eqb 0) x (set xs y c) (ne-eqb 0 x f) in
-    omega arith)
+unmarked-set = tally-set 0
 
 -- the edge from y to z is still to be followed: y is among the t cells of the stack, or y is q and z one of zs
 pub data Pending (cells : List ℕ) (t q : ℕ) (zs : List ℕ) (y z : ℕ) : Type 0 where
@@ -58,13 +41,6 @@ pub record Flooding (p : Picture) (k s c : ℕ) (before l cells : List ℕ) (t q
 pub record Flooded (p : Picture) (k s c : ℕ) (before l : List ℕ) : Type 0 where
   pub new : (y : ℕ) → Joined p k s y → getD l y 0 ≡ c
   pub old : (y : ℕ) → (Joined p k s y → ⊥) → getD l y 0 ≡ getD before y 0
-
--- an entry after a store: the value stored, or the entry from before
-pub set-cases : (l : List ℕ) (x v y : ℕ) → x < length l → ((y ≡ x) × (getD (set l x v) y 0 ≡ v)) ⊎ ((y ≢ x) × (getD (set l x v) y 0 ≡ getD l y 0))
-set-cases l x v y h =
-    by-cases (ℕ-discrete y x)
-    (λ e. inl (e, ap (λ (z : ℕ). getD (set l x v) z 0) e ∙ getD-set-same l x v 0 h))
-    (λ e. inr (e, getD-set-other l x y v 0 e))
 
 module _ (p : Picture) (k s c : ℕ) (before : List ℕ) where
   -- the seed marked and alone on the stack

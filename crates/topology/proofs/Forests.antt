@@ -2,12 +2,12 @@
 use mathlib.Core.Path.{_≡_, refl, sym, ap, subst, _∙_}
 use mathlib.Core.Logic.{_⊎_, inl, inr, by-cases, _≢_}
 use mathlib.Core.List.{List}
-use Prim.Native.Nat.{ℕ, suc, _+_, _≤_, _<_}
+use Prim.Native.Nat.{ℕ, _+_, _≤_, _<_}
 use native.Mathlib.Decide.{ℕ-discrete, decLt}
 use native.Mathlib.Omega.{arith}
 use lib.ListN.{length, getD, set, length-set}
 use lib.Seq.{getD-set-same, getD-set-other}
-use Rattle.topology.proofs.Levels.{put, put-same, put-other, relink, relink-moved, relink-kept, Merged}
+use Rattle.topology.proofs.Levels.{put, put-same, put-other, relink, relink-moved, relink-kept}
 
 -- every parent is a smaller place
 pub record Parents (l : List ℕ) : Type 0 where

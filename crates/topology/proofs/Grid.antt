@@ -1,19 +1,19 @@
 -- The whole grid is one component, so a pass is a height that a picture can have.
-use mathlib.Core.Path.{_≡_, refl, sym, ap, ap₂, subst, _∙_}
-use mathlib.Core.Bool.{Bool, true, false, _&&_}
+use mathlib.Core.Path.{_≡_, sym, ap, subst, _∙_}
+use mathlib.Core.Bool.{Bool, true, _&&_}
 use mathlib.Core.Logic.{by-cases}
-use Prim.Native.Nat.{ℕ, zero, suc, _+_, _-_, _*_, _/_, _%_, _≤_, _<_}
+use Prim.Native.Nat.{ℕ, zero, suc, _+_, _*_, _/_, _%_, _≤_, _<_}
 use native.Mathlib.Nat.{div-add-mod', mod-lt}
 use native.Mathlib.Decide.{ℕ-discrete}
 use native.Mathlib.Omega.{arith}
 use lib.Arith.{digits-div, digits-mod}
 use lib.Dec.{eqb, leb}
-use borrow.Author.Tests.{eq-eqb, le-leb, leb-true, leb-false}
+use borrow.Author.Tests.{eq-eqb, le-leb}
 use Rattle.picture.specs.Lists.{pick, isIn}
-use Rattle.picture.specs.Pictures.{Picture, places, valueAt, distance, adjacent, touch}
+use Rattle.picture.specs.Pictures.{Picture, places, valueAt, distance, adjacent}
 use Rattle.picture.specs.Components.{inSection, componentAt, passFrom, pass}
 use Rattle.picture.proofs.Neighbours.{distance-is}
-use Rattle.topology.proofs.Tests.{and-left, and-right, and-both, on-pick, on-elim, on-test, clash}
+use Rattle.topology.proofs.Tests.{and-left, and-right, and-both, on-pick, on-elim, clash}
 use Rattle.topology.proofs.Connected.{start, step, conn-trans, conn-source}
 use Rattle.topology.proofs.Adjacency.{Adj, At, Joined, adj-sym, joined-sym, section-at, at-section}
 use Rattle.topology.proofs.Reached.{in-joined, joined-in}
@@ -38,7 +38,7 @@ step-adjacent a w x y h =
     (and-both (leb r 1) (leb 1 (c + r)) (le-leb r 1 (omega arith)) (le-leb 1 (c + r) (omega arith))))
 
 module _ (p : Picture) (wide : 1 ≤ p .width) where
-  -- the place with column c and row r
+  -- a place and the one on its left, and the one above it
   at-left : (r c : ℕ) → suc c < p .width → Adj p (r * p .width + suc c) (r * p .width + c)
   at-left r c b =
       let w = p .width in

@@ -1,10 +1,14 @@
 -- Sections of value functions, what it is to keep their connected parts, and what lowering one vertex keeps.
-use mathlib.Core.Path.{_≡_, refl, sym, subst, _∙_}
+use mathlib.Core.Path.{_≡_, refl, sym, ap, subst}
+use mathlib.Core.Bool.{Bool}
 use mathlib.Core.Logic.{_⊎_, inl, inr, _↔_, _≢_, by-cases}
-use Prim.Native.Nat.{ℕ, zero, suc, _+_, _≤_, _<_}
+use Prim.Native.Nat.{ℕ, suc, _≤_, _<_}
 use native.Mathlib.Decide.{ℕ-discrete, decLe}
 use native.Mathlib.Omega.{arith}
-use Rattle.topology.proofs.Connected.{Conn, start, step, conn-source, conn-target, conn-trans, conn-sym, conn-edge, conn-mono, conn-closed}
+use lib.Dec.{eqb}
+use borrow.Author.Tests.{eq-eqb, ne-eqb}
+use Rattle.picture.specs.Lists.{pick}
+use Rattle.topology.proofs.Connected.{Conn, start, step, conn-target, conn-trans, conn-sym, conn-edge, conn-mono, conn-closed}
 
 -- y is in the section of v at height k
 pub record Sec (n : ℕ) (v : ℕ → ℕ) (k y : ℕ) : Type 0 where
@@ -30,6 +34,21 @@ pub record Lowers (n : ℕ) (R : ℕ → ℕ → Type 0) (v : ℕ → ℕ) (x k 
 pub record Fallen (v w : ℕ → ℕ) (x s : ℕ) : Type 0 where
   pub at : w x ≡ s
   pub other : (y : ℕ) → y ≢ x → w y ≡ v y
+
+-- v with the value s at x
+pub put : (ℕ → ℕ) → ℕ → ℕ → ℕ → ℕ
+put v x s y = pick (eqb y x) s (v y)
+
+pub put-same : (v : ℕ → ℕ) (x s y : ℕ) → y ≡ x → put v x s y ≡ s
+unfolding put
+put-same v x s y e = ap (λ (b : Bool). pick b s (v y)) (eq-eqb y x e)
+
+pub put-other : (v : ℕ → ℕ) (x s y : ℕ) → y ≢ x → put v x s y ≡ v y
+unfolding put
+put-other v x s y d = ap (λ (b : Bool). pick b s (v y)) (ne-eqb y x d)
+
+pub put-fallen : (v : ℕ → ℕ) (x s : ℕ) → Fallen v (put v x s) x s
+put-fallen v x s = record { at = put-same v x s x refl; other = put-other v x s }
 
 pub sec-mono : {n : ℕ} {v : ℕ → ℕ} {j k : ℕ} → j ≤ k → (y : ℕ) → Sec n v j y → Sec n v k y
 sec-mono h y s = record { within = s .within; low = omega (arith, s .low) }
@@ -62,7 +81,6 @@ module _ (n : ℕ) (R : ℕ → ℕ → Type 0) where
   pub keeps-refl : {f : ℕ → ℕ} {k : ℕ} → Keeps n R f f k
   keeps-refl = keeps-same (λ y. (λ s. s, λ s. s))
 
-  -- what is kept at two heights is joined at the higher only if it was
   module _ (symmetric : (y z : ℕ) → R y z → R z y) where
     -- one more vertex x whose old neighbours are joined: a path through it between old vertices can be led round it
     module _ (v w : ℕ → ℕ) (x k : ℕ) (l : Lowers n R v x k) (e : Fallen v w x k) where

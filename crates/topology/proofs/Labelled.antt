@@ -1,9 +1,9 @@
 -- The scan of a labelling: the places whose component begins before x have its number, the others none.
 use mathlib.Core.Path.{_≡_, refl, sym, ap, subst, _∙_}
-use mathlib.Core.Bool.{Bool, true, false}
-use mathlib.Core.Logic.{_⊎_, inl, inr, ⊎-elim, _≢_, by-cases}
+use mathlib.Core.Bool.{true, false}
+use mathlib.Core.Logic.{_⊎_, ⊎-elim, _≢_, by-cases}
 use mathlib.Core.List.{List}
-use Prim.Native.Nat.{ℕ, zero, suc, _+_, _≤_, _<_}
+use Prim.Native.Nat.{ℕ, suc, _+_, _≤_, _<_}
 use native.Mathlib.Decide.{decLt}
 use native.Mathlib.Omega.{arith}
 use lib.ListN.{length, getD, replicate, length-replicate, getD-replicate, List·getD-eq-default}
@@ -12,12 +12,13 @@ use Rattle.picture.specs.Lists.{tally, range}
 use Rattle.picture.specs.Pictures.{Picture, places}
 use Rattle.picture.specs.Components.{inSection, components, labels}
 use Rattle.topology.proofs.Tests.{clash, test-false}
-use Rattle.topology.proofs.Connected.{start, conn-source, conn-target}
+use Rattle.topology.proofs.Connected.{start, conn-target}
 use Rattle.topology.proofs.Adjacency.{At, Joined, section-at, at-section}
 use Rattle.topology.proofs.Reached.{firstAt, first-least, first-same, first-at, first-first, same-first}
 use Rattle.topology.proofs.Parts.{isFirst, first-is, is-first}
-use Rattle.topology.proofs.ComponentNumbers.{tally-more, tally-less, tally-bound, numberAt, at-dec, number-some, number-less, length-labels, labels-at, labels-none, count-components}
+use Rattle.topology.proofs.ComponentNumbers.{numberAt, at-dec, number-some, number-less, length-labels, labels-at, labels-none, count-components}
 use Rattle.topology.proofs.Flood.{Flooded}
+use Rattle.topology.proofs.Positions.{tally-next-in, tally-next-out, tally-bound}
 
 -- at the place x, with c components so far
 pub record Labelled (p : Picture) (k x c : ℕ) (l : List ℕ) : Type 0 where
@@ -76,7 +77,7 @@ module _ (p : Picture) (k : ℕ) where
     pub labelled-pass : isFirst p k x ≡ false → Labelled p k (x + 1) c l
     labelled-pass f =
         record {
-          count = s .count ∙ (sym (tally-less (isFirst p k) x f) ∙ ap (λ (z : ℕ). tally (isFirst p k) (range 0 z)) next);
+          count = s .count ∙ (sym (tally-next-out (isFirst p k) x f) ∙ ap (λ (z : ℕ). tally (isFirst p k) (range 0 z)) next);
           size = s .size;
           done = λ y a h. let d = other y a in s .done y a (omega arith);
           rest = λ y h. s .rest y (λ a. let q = h a in omega arith);
@@ -108,7 +109,7 @@ module _ (p : Picture) (k : ℕ) where
           record {
             count =
                 let q = s .count in
-                let r = tally-more (isFirst p k) x f in
+                let r = tally-next-in (isFirst p k) x f in
                 let n = ap (λ (z : ℕ). tally (isFirst p k) (range 0 z)) next in
                 omega arith;
             size = size;

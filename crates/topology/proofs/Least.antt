@@ -3,7 +3,7 @@ use mathlib.Core.Path.{_≡_}
 use mathlib.Core.Logic.{_⊎_, inl, inr, ⊎-elim}
 use Prim.Native.Nat.{ℕ, zero, suc, _+_, _≤_, _<_}
 use native.Mathlib.Omega.{arith}
-use Rattle.topology.proofs.Connected.{Conn, start, step, conn-target, conn-trans, conn-sym, conn-edge, conn-mono}
+use Rattle.topology.proofs.Connected.{Conn, start, step, conn-trans, conn-sym, conn-edge, conn-mono}
 use Rattle.topology.proofs.Keeping.{Sec, Keeps, Lowers, sec-mono, sec-dec}
 
 -- an edge of a path that leaves a set

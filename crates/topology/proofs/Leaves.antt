@@ -1,30 +1,30 @@
 -- The patches of a picture are the minima, found at their first places, rising.
 use mathlib.Core.Path.{_≡_, refl, sym, ap, ap₂, subst, _∙_}
 use mathlib.Core.Bool.{Bool, true, false, _&&_}
-use mathlib.Core.Logic.{_⊎_, inl, inr, ⊎-elim, _≢_, by-cases}
-use mathlib.Core.List.{List, [], _∷_, map, map-map, List·Memᴰ, List·Memᴰ·head, List·Memᴰ·tail, List·Memᴰ·not-nil, List·Memᴰ·cases-cons, Memᴰ·map, Memᴰ·of-map}
-use Prim.Native.Nat.{ℕ, zero, suc, _+_, _≤_, _<_}
+use mathlib.Core.Logic.{_⊎_, ⊎-elim, _≢_}
+use mathlib.Core.List.{List, [], _∷_, map, List·Memᴰ, List·Memᴰ·head, List·Memᴰ·tail, List·Memᴰ·cases-cons, Memᴰ·map, Memᴰ·of-map}
+use Prim.Native.Nat.{ℕ, zero, suc, _≤_, _<_}
 use native.Mathlib.Omega.{arith}
 use lib.Dec.{eqb, ltb}
-use lib.ListN.{length, getD}
+use lib.ListN.{length}
 use borrow.Author.Tests.{eqb-true, eq-eqb, ltb-true, ltb-false}
 use Rattle.picture.specs.Lists.{tally, select, range, isIn}
 use Rattle.picture.specs.Pictures.{Picture, places, valueAt}
 use Rattle.picture.specs.Components.{componentAt, components}
-use Rattle.picture.specs.Trees.{Node, headOf, below, isBranch, nodes, nodeAt, componentOf, isLeaf}
+use Rattle.picture.specs.Trees.{Node, headOf, below, isBranch, nodes, isLeaf}
 use Rattle.picture.specs.Patches.{insertByFirst, byFirst, patchNodes}
-use Rattle.topology.proofs.Tests.{and-left, and-right, and-both, on-test, on-elim, same-test, test-false, clash}
+use Rattle.topology.proofs.Tests.{and-left, and-right, and-both, on-test, on-elim, same-test, test-false}
 use Rattle.topology.proofs.Lists.{select-in, select-out, select-mem, mem-select, length-select, tally-none, in-mem, mem-in, range-mem, mem-range}
 use Rattle.topology.proofs.Rising.{Rising, none, more, rising-select, rising-equal}
-use Rattle.topology.proofs.Connected.{start, conn-target, conn-trans}
-use Rattle.topology.proofs.Adjacency.{At, Joined, joined-sym}
+use Rattle.topology.proofs.Connected.{start, conn-target}
+use Rattle.topology.proofs.Adjacency.{At, Joined}
 use Rattle.topology.proofs.Accepted.{Accepted, byte-at}
-use Rattle.topology.proofs.Reached.{firstAt, component-same, first-joined, first-least, first-same, first-first}
+use Rattle.topology.proofs.Reached.{firstAt, component-same, first-joined, first-first}
 use Rattle.topology.proofs.Parts.{isFirst, first-is, is-first, components-mem}
 use Rattle.topology.proofs.Branches.{below-joined}
-use Rattle.topology.proofs.Numbers.{mem-index, map-same}
-use Rattle.topology.proofs.Nodes.{node, IsNode, nodes-mem, mem-nodes, Sorted, end, next, nodes-sorted, sorted-later}
-use Rattle.topology.proofs.Minima.{insert-mem, by-first-mem, leaf-flat}
+use Rattle.topology.proofs.Numbers.{mem-index}
+use Rattle.topology.proofs.Nodes.{node, nodes-mem, mem-nodes, Sorted, end, next, nodes-sorted, sorted-later}
+use Rattle.topology.proofs.Minima.{by-first-mem, leaf-flat}
 
 -- the component of height k with x contains none of the height below
 unfoldable pub leafAt : Picture → ℕ → ℕ → Bool

@@ -1,6 +1,6 @@
 -- The classes of places while the pixels of one height are joined: what their roots say of the components beneath, and what a link keeps.
 use mathlib.Core.Path.{_≡_, refl, sym, ap, subst, _∙_}
-use mathlib.Core.Bool.{Bool, true, false}
+use mathlib.Core.Bool.{Bool}
 use mathlib.Core.Logic.{_⊎_, inl, inr, ⊎-elim, by-cases, _≢_}
 use Prim.Native.Nat.{ℕ, zero, suc, _+_, _≤_, _<_}
 use native.Mathlib.Decide.{ℕ-discrete}
@@ -11,24 +11,12 @@ use borrow.Author.Tests.{eq-eqb, ne-eqb}
 use Rattle.picture.specs.Lists.{pick}
 use Rattle.picture.specs.Pictures.{Picture, places, valueAt}
 use Rattle.picture.specs.Trees.{nodes, nodeAt, fatherOf, mapOf}
-use Rattle.topology.proofs.Tests.{on-test}
-use Rattle.topology.proofs.Connected.{start, conn-source, conn-target, conn-trans, conn-closed}
+pub use Rattle.topology.proofs.Keeping.{put, put-same, put-other}
+use Rattle.topology.proofs.Connected.{conn-source, conn-target, conn-trans, conn-closed}
 use Rattle.topology.proofs.Adjacency.{Adj, At, Joined, joined-sym}
 use Rattle.topology.proofs.Accepted.{Accepted, places-bound}
 use Rattle.topology.proofs.Nodes.{nodes-few}
-use Rattle.topology.proofs.Beneath.{Low, beneath, low-at, low-at-below, beneath-number, beneath-joined, fork-father}
-
--- f with the value v at i
-unfoldable pub put : (ℕ → ℕ) → ℕ → ℕ → ℕ → ℕ
-put f i v j = pick (eqb j i) v (f j)
-
-pub put-same : (f : ℕ → ℕ) (i v j : ℕ) → j ≡ i → put f i v j ≡ v
-unfolding put
-put-same f i v j e = ap (λ (b : Bool). pick b v (f j)) (eq-eqb j i e)
-
-pub put-other : (f : ℕ → ℕ) (i v j : ℕ) → j ≢ i → put f i v j ≡ f j
-unfolding put
-put-other f i v j d = ap (λ (b : Bool). pick b v (f j)) (ne-eqb j i d)
+use Rattle.topology.proofs.Beneath.{Low, beneath, low-at, beneath-number, beneath-joined, fork-father}
 
 -- the roots after the class of hi is hung below lo
 unfoldable pub relink : (ℕ → ℕ) → ℕ → ℕ → ℕ → ℕ

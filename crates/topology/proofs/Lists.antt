@@ -1,15 +1,17 @@
--- Laws of the list functions that the definitions share: membership, selection, tallies, ranges.
+-- Laws of the list functions that the definitions share: membership, selection, tallies, ranges, stores.
 use mathlib.Core.Path.{_≡_, refl, sym, ap, subst, _∙_}
-use mathlib.Core.Bool.{Bool, true, false, _&&_, _||_, false≢true}
-use mathlib.Core.Logic.{_⊎_, inl, inr, ⊎-elim, _↔_}
+use mathlib.Core.Bool.{Bool, true, false, _&&_, false≢true}
+use mathlib.Core.Logic.{_⊎_, inl, inr, ⊎-elim, _≢_, by-cases}
 use mathlib.Core.List.{List, [], _∷_, _++_, map, List·Memᴰ, List·Memᴰ·head, List·Memᴰ·tail, List·Memᴰ·not-nil, List·Memᴰ·cases-cons}
 use Prim.Native.Nat.{ℕ, zero, suc, _+_, _≤_, _<_}
+use native.Mathlib.Decide.{ℕ-discrete}
 use native.Mathlib.Omega.{arith}
 use lib.Dec.{eqb}
-use lib.ListN.{length, getD}
-use borrow.Author.Tests.{eqb-true, eq-eqb}
+use lib.ListN.{length, getD, set}
+use lib.Seq.{getD-set-same, getD-set-other}
+use borrow.Author.Tests.{eqb-true, eq-eqb, ne-eqb}
 use Rattle.picture.specs.Lists.{pick, any, all, tally, select, range, isIn}
-use Rattle.topology.proofs.Tests.{and-left, and-right, and-both, or-left, or-right, or-cases, on-test, on-pick, same-test, test-false, clash}
+use Rattle.topology.proofs.Tests.{and-left, and-right, and-both, or-left, or-right, or-cases, on-test, clash}
 
 module _ {A : Type 0} (t : A → Bool) where
   pub any-mem : (l : List A) → any t l ≡ true → (x : A) × List·Memᴰ x l × (t x ≡ true)
@@ -115,13 +117,6 @@ module _ {A : Type 0} (s t : A → Bool) where
       let r = tally-same xs (λ y m. h y (List·Memᴰ·tail m)) in
       let e = h x (List·Memᴰ·head refl) in
       ap (λ (b : Bool). pick b 1 0 + tally s xs) e ∙ ap (λ (m : ℕ). pick (t x) 1 0 + m) r
-
-  pub select-same : (l : List A) → ((x : A) → List·Memᴰ x l → s x ≡ t x) → select s l ≡ select t l
-  select-same [] h = refl
-  select-same (x ∷ xs) h =
-      let r = select-same xs (λ y m. h y (List·Memᴰ·tail m)) in
-      let e = h x (List·Memᴰ·head refl) in
-      ap (λ (b : Bool). pick b (x ∷ []) [] ++ select s xs) e ∙ ap (λ (m : List A). pick (t x) (x ∷ []) [] ++ m) r
 
   pub tally-select : (l : List A) → tally t (select s l) ≡ tally (λ x. s x && t x) l
   tally-select [] = refl
@@ -229,3 +224,23 @@ getD-map-range f d x zero i h = absurd (omega arith)
 getD-map-range f d x (suc l) zero h = let e : x ≡ x + 0 = omega arith in ap f e
 getD-map-range f d x (suc l) (suc i) h =
     let e : suc x + i ≡ x + suc i = omega arith in getD-map-range f d (suc x) l i (omega arith) ∙ ap f e
+
+-- an entry after a store: the value stored, or the entry from before
+pub set-cases : (l : List ℕ) (x v y : ℕ) → x < length l → ((y ≡ x) × (getD (set l x v) y 0 ≡ v)) ⊎ ((y ≢ x) × (getD (set l x v) y 0 ≡ getD l y 0))
+set-cases l x v y h =
+    by-cases (ℕ-discrete y x)
+    (λ e. inl (e, ap (λ (z : ℕ). getD (set l x v) z 0) e ∙ getD-set-same l x v 0 h))
+    (λ e. inr (e, getD-set-other l x y v 0 e))
+
+-- another value in the place of an a: there is one a less
+pub tally-set : (a : ℕ) (l : List ℕ) (y v : ℕ) → y < length l → getD l y 0 ≡ a → v ≢ a → suc (tally (eqb a) (set l y v)) ≡ tally (eqb a) l
+tally-set a [] y v h e d = absurd (omega arith)
+tally-set a (x ∷ xs) zero v h e d =
+    let p = tally-in (eqb a) x xs (eq-eqb a x (sym e)) in
+    let q = tally-out (eqb a) v xs (ne-eqb a v (λ f. d (sym f))) in
+    omega arith
+tally-set a (x ∷ xs) (suc y) v h e d =
+    let r = tally-set a xs y v (omega arith) e d in
+    on-test (eqb a x)
+    (λ f. let p = tally-in (eqb a) x xs f in let q = tally-in (eqb a) x (set xs y v) f in omega arith)
+    (λ f. let p = tally-out (eqb a) x xs f in let q = tally-out (eqb a) x (set xs y v) f in omega arith)

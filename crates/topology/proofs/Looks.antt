@@ -3,19 +3,19 @@ use mathlib.Core.Path.{_≡_, refl, sym, ap, subst, _∙_}
 use mathlib.Core.Bool.{Bool, true, false}
 use mathlib.Core.Logic.{_⊎_, inl, inr, ⊎-elim, by-cases, _≢_}
 use mathlib.Core.List.{List}
-use Prim.Native.Nat.{ℕ, suc, _+_, _*_, _≤_, _<_}
+use Prim.Native.Nat.{ℕ, suc, _+_, _≤_, _<_}
 use native.Mathlib.Numerals.{add-one}
 use native.Mathlib.Decide.{ℕ-discrete}
 use native.Mathlib.Omega.{arith}
 use lib.ListN.{length, getD}
-use Rattle.picture.specs.Pictures.{Picture, places, valueAt}
+use Rattle.picture.specs.Pictures.{Picture, valueAt}
 use Rattle.picture.specs.Geometry.{neighboursIn, Placed}
 use Rattle.topology.proofs.Tests.{clash}
 use Rattle.topology.proofs.Accepted.{Accepted}
 use Rattle.topology.proofs.Levels.{Upto}
 use Rattle.topology.proofs.Forests.{Found, Parents, forest-parents}
 use Rattle.topology.proofs.Marks.{Names}
-use Rattle.topology.proofs.Absorbing.{Classes, Near, Edge, near-start, near-end}
+use Rattle.topology.proofs.Absorbing.{Near, near-start, near-end}
 use Rattle.topology.proofs.Checks.{Differs, Checking, NearBy, LookReady, Looked}
 
 -- x is joined to the first i of its neighbours

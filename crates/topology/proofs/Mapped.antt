@@ -9,12 +9,11 @@ use native.Mathlib.Omega.{arith}
 use lib.ListN.{length, getD, set, length-set}
 use lib.Seq.{getD-set-same, getD-set-other}
 use Rattle.picture.specs.Pictures.{Picture, places, valueAt}
-use Rattle.picture.specs.Trees.{nodes, nodeAt, mapOf}
-use Rattle.topology.proofs.Adjacency.{At}
+use Rattle.picture.specs.Trees.{nodes, mapOf}
 use Rattle.topology.proofs.Accepted.{Accepted, places-bound}
 use Rattle.topology.proofs.Nodes.{nodes-few}
 use Rattle.topology.proofs.Descent.{under, map-under}
-use Rattle.topology.proofs.Levels.{Level, Upto, Edges}
+use Rattle.topology.proofs.Levels.{Level, Upto}
 use Rattle.topology.proofs.Counts.{soFar, so-few}
 use Rattle.topology.proofs.Forests.{Forest, Found, Block, block-set, Parents, forest-parents}
 use Rattle.topology.proofs.Absorbing.{Classes}

@@ -1,9 +1,9 @@
 -- Patches are minima: leaves of the tree, whose pixels all have the leaf's height.
-use mathlib.Core.Path.{_≡_, refl, sym, ap, subst, _∙_}
-use mathlib.Core.Bool.{Bool, true, false}
+use mathlib.Core.Path.{_≡_, refl}
+use mathlib.Core.Bool.{true}
 use mathlib.Core.Logic.{_⊎_, inl, inr, ⊎-elim, by-cases}
 use mathlib.Core.List.{List, [], _∷_, List·Memᴰ, List·Memᴰ·head, List·Memᴰ·tail, List·Memᴰ·not-nil, List·Memᴰ·cases-cons}
-use Prim.Native.Nat.{ℕ, zero, suc, _+_, _≤_, _<_}
+use Prim.Native.Nat.{ℕ, zero, suc, _≤_}
 use native.Mathlib.Decide.{decLe}
 use native.Mathlib.Omega.{arith}
 use lib.Dec.{eqb, ltb}
@@ -14,15 +14,15 @@ use Rattle.picture.specs.Pictures.{Picture, places, valueAt, withPixels}
 use Rattle.picture.specs.Components.{componentAt, components}
 use Rattle.picture.specs.Trees.{Node, headOf, below, nodes, componentOf, isLeaf}
 use Rattle.picture.specs.Patches.{insertByFirst, byFirst, patchNodes, patchFrom, patchAt}
-use Rattle.topology.proofs.Tests.{on-test, on-elim}
+use Rattle.topology.proofs.Tests.{on-elim}
 use Rattle.topology.proofs.Lists.{select-mem, mem-select}
-use Rattle.topology.proofs.Connected.{start, conn-target, conn-trans}
+use Rattle.topology.proofs.Connected.{conn-target, conn-trans}
 use Rattle.topology.proofs.Keeping.{Keeps, sec-mono}
-use Rattle.topology.proofs.Adjacency.{Adj, At, Joined, joined-sym}
+use Rattle.topology.proofs.Adjacency.{Adj, At, Joined}
 use Rattle.topology.proofs.Reached.{in-joined}
 use Rattle.topology.proofs.Parts.{mem-components}
 use Rattle.topology.proofs.Branches.{joined-mono, joined-below}
-use Rattle.topology.proofs.Nodes.{IsNode, nodes-mem}
+use Rattle.topology.proofs.Nodes.{nodes-mem}
 
 pub insert-mem : {n : Node} (m : Node) (ns : List Node) → List·Memᴰ n (insertByFirst m ns) → (n ≡ m) ⊎ List·Memᴰ n ns
 insert-mem m [] i = List·Memᴰ·cases-cons i

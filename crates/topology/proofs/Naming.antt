@@ -2,24 +2,22 @@
 use mathlib.Core.Path.{_≡_, refl, sym, ap, subst, _∙_}
 use mathlib.Core.Logic.{_⊎_, inl, inr, ⊎-elim, by-cases, _≢_}
 use mathlib.Core.List.{List}
-use Prim.Native.Nat.{ℕ, suc, _+_, _-_, _*_, _≤_, _<_}
-use native.Mathlib.Numerals.{add-one}
+use Prim.Native.Nat.{ℕ, suc, _+_, _*_, _≤_, _<_}
 use native.Mathlib.Decide.{ℕ-discrete, decLt}
 use native.Mathlib.Omega.{arith}
 use lib.ListN.{length, getD, set, length-set}
 use lib.Seq.{getD-set-same, getD-set-other}
 use Rattle.picture.specs.Pictures.{Picture, places, valueAt}
-use Rattle.picture.specs.Trees.{Node, nodes, nodeAt, mapOf}
+use Rattle.picture.specs.Trees.{Node, nodes, nodeAt}
 use Rattle.topology.proofs.Adjacency.{At}
-use Rattle.topology.proofs.Accepted.{Accepted, places-bound}
+use Rattle.topology.proofs.Accepted.{Accepted}
 use Rattle.topology.proofs.Nodes.{nodes-few}
-use Rattle.topology.proofs.Descent.{under, map-under}
-use Rattle.topology.proofs.Levels.{put, put-same, put-other, Level, Upto, Edges}
+use Rattle.topology.proofs.Descent.{under}
+use Rattle.topology.proofs.Levels.{put, put-same, put-other, Level, Edges}
 use Rattle.topology.proofs.Counts.{soFar, so-few}
 use Rattle.topology.proofs.Numbering.{Member, Listed, Numbered, number-new, count-next, next-level, named-all, edges-next}
-use Rattle.topology.proofs.Forests.{Forest, Found, Parents, forest-parents, forest-state}
-use Rattle.topology.proofs.Absorbing.{Classes}
-use Rattle.topology.proofs.Chains.{fathersIn, mapIn, Next, After, Threads, upto-skip}
+use Rattle.topology.proofs.Forests.{Forest, forest-state}
+use Rattle.topology.proofs.Chains.{fathersIn, mapIn, Next, Threads, upto-skip}
 use Rattle.topology.proofs.Listing.{firstsIn, NodesIn, Listing, list-end}
 
 -- the listed roots from c on, before i, have their numbers; w is the work before

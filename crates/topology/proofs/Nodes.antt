@@ -2,8 +2,8 @@
 use mathlib.Core.Path.{_≡_, refl, sym, ap, ap₂, subst, _∙_}
 use mathlib.Core.Bool.{Bool, true, false, _&&_, not}
 use mathlib.Core.Logic.{_⊎_, inl, inr, ⊎-elim}
-use mathlib.Core.List.{List, [], _∷_, _++_, map, map-map, List·Memᴰ, List·Memᴰ·head, List·Memᴰ·tail, List·Memᴰ·not-nil, List·Memᴰ·append-cases, Memᴰ·append-left, Memᴰ·append-right, Memᴰ·map, Memᴰ·of-map}
-use Prim.Native.Nat.{ℕ, zero, suc, _+_, _-_, _≤_, _<_}
+use mathlib.Core.List.{List, [], _∷_, _++_, map, map-map, List·Memᴰ, List·Memᴰ·not-nil, List·Memᴰ·append-cases, Memᴰ·append-left, Memᴰ·append-right, Memᴰ·map, Memᴰ·of-map}
+use Prim.Native.Nat.{ℕ, zero, suc, _+_, _≤_, _<_}
 use native.Mathlib.Omega.{arith}
 use lib.Dec.{eqb}
 use lib.ListN.{length, getD}
@@ -12,11 +12,11 @@ use Rattle.picture.specs.Lists.{select, range}
 use Rattle.picture.specs.Pictures.{Picture, places, valueAt}
 use Rattle.picture.specs.Components.{componentAt, components}
 use Rattle.picture.specs.Trees.{Node, headOf, isBranch, nodesAt, nodesFrom, nodes, nodeAt, componentOf, numberFrom, numberOf}
-use Rattle.topology.proofs.Tests.{and-left, and-right, and-both, on-test, on-elim, not-of-false, clash, test-false}
+use Rattle.topology.proofs.Tests.{and-left, and-right, and-both, on-test, on-elim, not-of-false, clash}
 use Rattle.topology.proofs.Lists.{select-map, select-select, select-mem, mem-select, range-mem, mem-range}
 use Rattle.topology.proofs.Rising.{Rising, none, more, rising-select}
-use Rattle.topology.proofs.Connected.{start, conn-target}
-use Rattle.topology.proofs.Adjacency.{At, Joined}
+use Rattle.topology.proofs.Connected.{conn-target}
+use Rattle.topology.proofs.Adjacency.{At}
 use Rattle.topology.proofs.Reached.{firstAt, component-same, first-joined, first-same, first-at, first-first}
 use Rattle.topology.proofs.Parts.{isFirst, first-is, is-first, components-are}
 use Rattle.topology.proofs.Branches.{own-pixel}

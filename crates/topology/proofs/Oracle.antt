@@ -1,28 +1,11 @@
 -- How far a vertex falls: an oracle for joined vertices, where a fall stops, what it keeps and whom it makes lowerable.
-use mathlib.Core.Path.{_≡_, refl, sym, ap, subst, _∙_}
-use mathlib.Core.Bool.{Bool, true, false}
+use mathlib.Core.Path.{_≡_, sym, ap, subst, _∙_}
 use mathlib.Core.Logic.{_⊎_, inl, inr, ⊎-elim, _↔_, _≢_, by-cases}
-use Prim.Native.Nat.{ℕ, zero, suc, _+_, _≤_, _<_}
+use Prim.Native.Nat.{ℕ, suc, _≤_, _<_}
 use native.Mathlib.Decide.{ℕ-discrete, decLe, decLt}
 use native.Mathlib.Omega.{arith}
-use lib.Dec.{eqb}
-use borrow.Author.Tests.{eqb-true, eq-eqb}
-use Rattle.picture.specs.Lists.{pick}
-use Rattle.topology.proofs.Tests.{on-pick, clash}
-use Rattle.topology.proofs.Connected.{Conn, start, step, conn-source, conn-target, conn-trans, conn-sym, conn-edge, conn-mono}
-use Rattle.topology.proofs.Keeping.{Sec, Keeps, Lowers, Fallen, sec-mono, keeps-compose, keeps-same, lowering-keeps}
-
--- v with the value s at x
-put : (ℕ → ℕ) → ℕ → ℕ → ℕ → ℕ
-put v x s y = pick (eqb y x) s (v y)
-
-put-fallen : (v : ℕ → ℕ) (x s : ℕ) → Fallen v (put v x s) x s
-unfolding put
-put-fallen v x s =
-    record {
-      at = on-pick (λ (m : ℕ). m ≡ s) (eqb x x) (λ e. refl) (λ e. absurd (clash (eq-eqb x x refl) e));
-      other = λ y d. on-pick (λ (m : ℕ). m ≡ v y) (eqb y x) (λ e. absurd (d (eqb-true y x e))) (λ e. refl);
-    }
+use Rattle.topology.proofs.Connected.{Conn, start, conn-trans, conn-sym, conn-edge, conn-mono}
+use Rattle.topology.proofs.Keeping.{Sec, Keeps, Lowers, Fallen, put, put-fallen, keeps-compose, keeps-same, lowering-keeps}
 
 -- sections of values that differ at x alone agree at a height where x is in both or in neither
 same-sections :

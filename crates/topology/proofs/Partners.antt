@@ -1,37 +1,31 @@
 -- Partners: keeping parts keeps the nodes of the tree, one for one, with their fathers.
 use mathlib.Core.Path.{_≡_, refl, sym, ap, ap₂, subst, _∙_}
-use mathlib.Core.Bool.{Bool, true, false, _&&_}
+use mathlib.Core.Bool.{true, false}
 use mathlib.Core.Logic.{by-cases}
-use mathlib.Core.List.{List, [], _∷_}
-use Prim.Native.Nat.{ℕ, zero, suc, _+_, _-_, _≤_, _<_}
+use mathlib.Core.List.{List}
+use Prim.Native.Nat.{ℕ, suc, _≤_, _<_}
 use native.Mathlib.Decide.{ℕ-discrete, decLt}
 use native.Mathlib.Omega.{arith}
 use lib.Dec.{eqb}
-use lib.ListN.{length, getD}
-use lib.Seq.{ext-getD}
+use lib.ListN.{length}
 use borrow.Author.Tests.{eqb-true, eq-eqb}
-use Rattle.picture.specs.Lists.{tally, isIn, allWithin}
-use Rattle.picture.specs.Pictures.{Picture, places, valueAt, withPixels, allBytes, isPicture}
-use Rattle.picture.specs.Components.{inSection, componentAt, passFrom, pass}
+use Rattle.picture.specs.Lists.{tally, allWithin}
+use Rattle.picture.specs.Pictures.{Picture, places, valueAt, withPixels}
+use Rattle.picture.specs.Components.{componentAt}
 use Rattle.picture.specs.Trees.{Node, isBranch, nodes, nodeAt, componentOf, numberOf, fatherOf}
-use Rattle.picture.specs.Watersheds.{watershed}
-use Rattle.picture.specs.Patches.{patchAt}
-use Rattle.picture.specs.Kept.{nowhereAbove, keepsParts, partners, Kept, Demand-3}
-use Rattle.topology.proofs.Tests.{and-left, and-right, and-both, same-test, clash}
+use Rattle.picture.specs.Kept.{partners}
+use Rattle.topology.proofs.Tests.{and-left, and-right, and-both, clash}
 use Rattle.topology.proofs.Connected.{start, conn-target, conn-trans}
-use Rattle.topology.proofs.Keeping.{Keeps, Lowers, sec-mono}
-use Rattle.topology.proofs.Least.{least-sections}
-use Rattle.topology.proofs.Adjacency.{Adj, At, Joined, adj-sym, joined-sym, section-at, at-section}
-use Rattle.topology.proofs.Reached.{firstAt, component-same, in-joined, joined-in, first-joined, first-same, same-first}
-use Rattle.topology.proofs.Bridge.{within-joined, joined-within, lowers-lowerable, keeps-parts, parts-keeps}
-use Rattle.topology.proofs.Accepted.{Accepted, accepted-is, is-accepted, accepted-with, byte-at, at-byte, above-at, at-above}
-use Rattle.topology.proofs.Water.{Watered, watershed-shape, watershed-watered}
+use Rattle.topology.proofs.Keeping.{Keeps, sec-mono}
+use Rattle.topology.proofs.Adjacency.{Adj, At, Joined, joined-sym}
+use Rattle.topology.proofs.Reached.{firstAt, first-joined, first-same}
+use Rattle.topology.proofs.Bridge.{within-joined, joined-within}
+use Rattle.topology.proofs.Accepted.{Accepted}
 use Rattle.topology.proofs.Branches.{joined-mono, joined-kept, branch-same}
 use Rattle.topology.proofs.Numbers.{one-index, index-one}
 use Rattle.topology.proofs.Nodes.{node, IsNode, node-is, node-equal, number-found}
 use Rattle.topology.proofs.Climb.{root-is}
 use Rattle.topology.proofs.Fathers.{Above, top, fork, father-is, number-small}
-use Rattle.topology.proofs.Minima.{InMinimum, patch-minimum, minimum-kept}
 
 -- a picture that keeps f's parts, in the same frame
 module _ (f : Picture) (xs : List ℕ) (keeps : (k : ℕ) → Keeps (places f) (Adj f) (valueAt f) (valueAt (withPixels f xs)) k) where

@@ -1,18 +1,18 @@
 -- The components of a height are those of the first places, rising.
 use mathlib.Core.Path.{_≡_, refl, sym, ap, subst, _∙_}
 use mathlib.Core.Bool.{Bool, true, false, _&&_, _||_, not}
-use mathlib.Core.Logic.{_⊎_, inl, inr, ⊎-elim, _↔_}
+use mathlib.Core.Logic.{_⊎_, ⊎-elim, _↔_}
 use mathlib.Core.List.{List, [], _∷_, _++_, map, List·Memᴰ, Memᴰ·map, Memᴰ·of-map, append-nil, append-assoc}
 use Prim.Native.Nat.{ℕ, zero, suc, _+_, _≤_, _<_}
 use native.Mathlib.Omega.{arith}
 use lib.Dec.{eqb}
 use borrow.Author.Tests.{eqb-true, eq-eqb}
 use Rattle.picture.specs.Lists.{any, all, tally, select, range, isIn}
-use Rattle.picture.specs.Pictures.{Picture, places, valueAt}
+use Rattle.picture.specs.Pictures.{Picture, places}
 use Rattle.picture.specs.Components.{inSection, componentAt, componentsFrom, components}
 use Rattle.topology.proofs.Tests.{and-left, and-right, and-both, or-left, or-right, or-cases, not-of-false, on-test, on-elim, clash, test-false}
 use Rattle.topology.proofs.Lists.{select-in, select-out, select-mem, mem-select, range-mem, mem-range, all-mem, mem-all, tally-map, tally-select}
-use Rattle.topology.proofs.Rising.{One, one-tally, tally-one}
+use Rattle.topology.proofs.Rising.{one-tally, tally-one}
 use Rattle.topology.proofs.Connected.{start}
 use Rattle.topology.proofs.Adjacency.{At, Joined, section-at, at-section}
 use Rattle.topology.proofs.Reached.{firstAt, component-same, in-joined, joined-in, first-joined, first-least, first-same, first-first, first-at, same-first}

@@ -1,30 +1,28 @@
 -- The number of patches and the patch of a place, by the first places of minima; a leaf is nobody's father.
 use mathlib.Core.Path.{_≡_, refl, sym, ap, subst, _∙_}
-use mathlib.Core.Bool.{Bool, true, false}
-use mathlib.Core.Logic.{_⊎_, inl, inr, ⊎-elim, by-cases}
-use mathlib.Core.List.{List, [], _∷_, map, List·Memᴰ, Memᴰ·of-map}
+use mathlib.Core.Bool.{true, false}
+use mathlib.Core.Logic.{_⊎_, ⊎-elim}
+use mathlib.Core.List.{List, map, Memᴰ·of-map}
 use Prim.Native.Nat.{ℕ, zero, suc, _+_, _-_, _≤_, _<_}
-use native.Mathlib.Decide.{ℕ-discrete, decLe}
 use native.Mathlib.Omega.{arith}
 use lib.Dec.{leb}
-use lib.ListN.{length, getD, length-map, List·getD-map}
+use lib.ListN.{length, length-map}
 use borrow.Author.Tests.{leb-true, le-leb}
 use Rattle.picture.specs.Lists.{any, tally, select, range, isIn}
 use Rattle.picture.specs.Pictures.{Picture, places, valueAt}
 use Rattle.picture.specs.Components.{componentAt}
-use Rattle.picture.specs.Trees.{Node, isBranch, nodes, nodeAt, componentOf, numberOf, fatherOf, mapOf, isLeaf}
-use Rattle.picture.specs.Patches.{patchNodes, Patch, patchOf, patchesFrom, patches, patchFrom, patchAt}
+use Rattle.picture.specs.Trees.{Node, nodes, nodeAt, componentOf}
+use Rattle.picture.specs.Patches.{patchNodes, patchFrom, patchAt}
 use Rattle.topology.proofs.Tests.{on-test, clash, test-false}
 use Rattle.topology.proofs.Lists.{any-mem, mem-any, length-select, select-mem, range-mem}
-use Rattle.topology.proofs.Connected.{start, conn-source, conn-target, conn-trans}
+use Rattle.topology.proofs.Connected.{conn-target}
 use Rattle.topology.proofs.Keeping.{sec-mono}
 use Rattle.topology.proofs.Adjacency.{At, Joined, joined-sym}
-use Rattle.topology.proofs.Accepted.{Accepted, byte-at}
+use Rattle.topology.proofs.Accepted.{Accepted}
 use Rattle.topology.proofs.Reached.{firstAt, mem-joined, joined-mem, in-joined, joined-in, first-joined, first-same, first-at}
-use Rattle.topology.proofs.Branches.{joined-mono}
-use Rattle.topology.proofs.Nodes.{node, IsNode, node-is, node-equal, number-found}
-use Rattle.topology.proofs.Fathers.{Above, top, fork, father-is, map-found, number-small}
-use Rattle.topology.proofs.Descent.{under, map-under, under-same, under-fork, Under, under-is, under-up}
+use Rattle.topology.proofs.Nodes.{node, IsNode, node-is, number-found}
+use Rattle.topology.proofs.Fathers.{Above, top, fork, father-is, number-small}
+use Rattle.topology.proofs.Descent.{under, under-same, under-is, under-up}
 use Rattle.topology.proofs.Climb.{father, under-node}
 use Rattle.topology.proofs.Positions.{tally-next-in, index-only, index-none}
 use Rattle.topology.proofs.Leaves.{leafAt, bottom, leaf, leaf-sound, leaf-complete, leaf-same, bottom-is, first-bottom, patch-nodes-are}

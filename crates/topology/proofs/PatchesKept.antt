@@ -3,7 +3,7 @@ use mathlib.Core.Path.{_≡_, refl, sym, ap, subst, _∙_}
 use mathlib.Core.Bool.{Bool, true}
 use mathlib.Core.Logic.{by-cases}
 use mathlib.Core.List.{List}
-use Prim.Native.Nat.{ℕ, zero, suc, _+_, _-_, _≤_, _<_}
+use Prim.Native.Nat.{ℕ, zero, suc, _≤_, _<_}
 use native.Mathlib.Decide.{decLt}
 use native.Mathlib.Omega.{arith}
 use lib.Dec.{eqb}
@@ -27,7 +27,7 @@ use Rattle.topology.proofs.Water.{watershed-shape, watershed-watered}
 use Rattle.topology.proofs.Branches.{joined-mono, joined-kept}
 use Rattle.topology.proofs.Numbers.{pigeonhole}
 use Rattle.topology.proofs.Nodes.{node-is}
-use Rattle.topology.proofs.Positions.{tally-range, tally-next-in, tally-next-out}
+use Rattle.topology.proofs.Positions.{tally-next-in, tally-next-out, tally-rises, tally-inject}
 use Rattle.topology.proofs.Leaves.{leafAt, bottom, leaf-sound, leaf-complete, leaf-same, bottom-is, first-bottom}
 use Rattle.topology.proofs.PatchFigures.{patches-count}
 use Rattle.topology.proofs.LeafNodes.{leafNode}
@@ -47,21 +47,6 @@ tally-reach t (suc m) i h =
     let q = tally-next-out t m e in
     let (z, b, p, r) = tally-reach t m i (omega arith) in
     (z, omega arith, p, r))
-
--- a tally rises at a member that passes the test
-pub tally-below : (t : ℕ → Bool) (y z : ℕ) → y < z → t y ≡ true → tally t (range 0 y) < tally t (range 0 z)
-tally-below t y z b e =
-    let g : suc y + (z - suc y) ≡ z = omega arith in
-    let a = tally-range t 0 (suc y) (z - suc y) in
-    let c = tally-next-in t y e in
-    let d = ap (λ (m : ℕ). tally t (range 0 m)) g in
-    omega arith
-
--- so two members that pass the test have different numbers
-pub tally-inject : (t : ℕ → Bool) (y z : ℕ) → t y ≡ true → t z ≡ true → tally t (range 0 y) ≡ tally t (range 0 z) → y ≡ z
-tally-inject t y z p q e =
-    by-cases (decLt y z) (λ l. absurd (let r = tally-below t y z l p in omega arith))
-    (λ l. by-cases (decLt z y) (λ m. absurd (let r = tally-below t z y m q in omega arith)) (λ m. omega arith))
 
 module _ (f : Picture) (xs : List ℕ) (keeps : (k : ℕ) → Keeps (places f) (Adj f) (valueAt f) (valueAt (withPixels f xs)) k) where
   abbrev a : Picture
@@ -156,7 +141,7 @@ module _ (f : Picture) (xs : List ℕ) (keeps : (k : ℕ) → Keeps (places f) (
       let wb = first-at a k z t .within in
       let (g, v) = first-begins a z k t (leaf-forth k z s l) in (
         tally (bottom a) (range 0 w),
-        tally-below (bottom a) w (places f) wb g,
+        tally-rises (bottom a) w (places f) wb g,
         partner z w k b wb q g r refl refl v (first-joined a k z t),
       )
 
@@ -173,7 +158,7 @@ module _ (f : Picture) (xs : List ℕ) (keeps : (k : ℕ) → Keeps (places f) (
       let zb = conn-target d .within in
       let (g, v) = first-begins f u k su lu in (
         tally (bottom f) (range 0 z),
-        tally-below (bottom f) z (places f) zb g,
+        tally-rises (bottom f) z (places f) zb g,
         partner z w k zb b g q refl r v refl (joined-sym a k (conn-trans c (joined-kept f xs keeps d))),
       )
 

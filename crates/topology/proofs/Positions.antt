@@ -4,7 +4,7 @@ use mathlib.Core.Bool.{Bool, true, false}
 use mathlib.Core.Logic.{by-cases}
 use mathlib.Core.List.{List, [], _∷_, map, List·Memᴰ, List·Memᴰ·head, List·Memᴰ·tail}
 use Prim.Native.Nat.{ℕ, zero, suc, _+_, _-_, _≤_, _<_}
-use native.Mathlib.Decide.{ℕ-discrete}
+use native.Mathlib.Decide.{ℕ-discrete, decLt}
 use native.Mathlib.Omega.{arith}
 use lib.ListN.{length, getD}
 use Rattle.picture.specs.Lists.{tally, select, indexFrom, range}
@@ -39,6 +39,32 @@ tally-next-in t x e = let a = tally-next t x in let b = tally-in t x [] e in ome
 
 pub tally-next-out : (t : ℕ → Bool) (x : ℕ) → t x ≡ false → tally t (range 0 (suc x)) ≡ tally t (range 0 x)
 tally-next-out t x e = let a = tally-next t x in let b = tally-out t x [] e in omega arith
+
+-- tallies of the numbers below a bound
+module _ (t : ℕ → Bool) where
+  pub tally-bound : (x : ℕ) → tally t (range 0 x) ≤ x
+  tally-bound zero = omega arith
+  tally-bound (suc x) =
+      let r = tally-bound x in
+      on-test (t x) (λ e. omega (arith, tally-next-in t x e)) (λ e. omega (arith, tally-next-out t x e))
+
+  pub tally-below : (x y : ℕ) → x ≤ y → tally t (range 0 x) ≤ tally t (range 0 y)
+  tally-below x y h =
+      let e : x + (y - x) ≡ y = omega arith in
+      let a = tally-range t 0 x (y - x) in
+      let d = ap (λ (m : ℕ). tally t (range 0 m)) e in
+      omega arith
+
+  -- they rise at a number that passes the test
+  pub tally-rises : (y z : ℕ) → y < z → t y ≡ true → tally t (range 0 y) < tally t (range 0 z)
+  tally-rises y z b e = let a = tally-next-in t y e in let c = tally-below (suc y) z (omega arith) in omega arith
+
+  -- so two numbers that pass the test have different tallies before them
+  pub tally-inject : (y z : ℕ) → t y ≡ true → t z ≡ true → tally t (range 0 y) ≡ tally t (range 0 z) → y ≡ z
+  tally-inject y z p q e =
+      by-cases (decLt y z)
+      (λ l. absurd (let r = tally-rises y z l p in omega arith))
+      (λ l. by-cases (decLt z y) (λ m. absurd (let r = tally-rises z y m q in omega arith)) (λ m. omega arith))
 
 -- the selected number z stands at the index that counts those before it
 pub select-index :

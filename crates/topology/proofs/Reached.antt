@@ -1,7 +1,7 @@
 -- The component of a place, as its definition grows it, holds exactly the places that are joined to it.
 use mathlib.Core.Path.{_≡_, refl, sym, ap, subst, _∙_}
-use mathlib.Core.Bool.{Bool, true, false, _&&_, _||_}
-use mathlib.Core.Logic.{_⊎_, inl, inr, ⊎-elim}
+use mathlib.Core.Bool.{Bool, true, _&&_, _||_}
+use mathlib.Core.Logic.{_⊎_, ⊎-elim}
 use mathlib.Core.List.{List, [], _∷_, List·Memᴰ, List·Memᴰ·head, List·Memᴰ·eq-of-singleton}
 use Prim.Native.Nat.{ℕ, zero, suc, _+_, _≤_, _<_}
 use native.Mathlib.Omega.{arith}
@@ -9,10 +9,10 @@ use lib.Dec.{eqb}
 use lib.ListN.{length}
 use borrow.Author.Tests.{eqb-true, eq-eqb}
 use Rattle.picture.specs.Lists.{tally, select, range, isIn}
-use Rattle.picture.specs.Pictures.{Picture, places, valueAt, touch}
+use Rattle.picture.specs.Pictures.{Picture, places, touch}
 use Rattle.picture.specs.Components.{inSection, touchesSome, grown, spread, componentAt}
 use Rattle.picture.specs.Trees.{headOf}
-use Rattle.topology.proofs.Tests.{and-left, and-right, and-both, or-left, or-right, or-cases, on-test, on-elim, same-test, clash}
+use Rattle.topology.proofs.Tests.{and-left, and-right, and-both, or-left, or-right, or-cases, on-elim, same-test, clash}
 use Rattle.topology.proofs.Lists.{any-mem, mem-any, select-mem, mem-select, length-select, tally-length, tally-stronger, tally-equal, in-mem, mem-in, length-range, range-mem, mem-range}
 use Rattle.topology.proofs.Rising.{Rising, none, more, rising-select, rising-equal, head-in}
 use Rattle.topology.proofs.Connected.{start, step, conn-source, conn-target, conn-trans, conn-closed}
@@ -138,10 +138,6 @@ module _ (p : Picture) (k : ℕ) where
   pub component-rising : (x : ℕ) → At p k x → Rising 0 (componentAt p k x)
   component-rising x s = component-reached x s .rising
 
-  -- a component is closed: no further place of the section touches it
-  pub component-closed : (x : ℕ) → At p k x → (y z : ℕ) → List·Memᴰ y (componentAt p k x) → Adj p y z → At p k z → List·Memᴰ z (componentAt p k x)
-  component-closed x s = component-reached x s .closed
-
   pub mem-joined : (x y : ℕ) → At p k x → List·Memᴰ y (componentAt p k x) → Joined p k x y
   mem-joined x y s m = component-reached x s .sound y m
 
@@ -155,10 +151,6 @@ module _ (p : Picture) (k : ℕ) where
 
   pub joined-in : {x y : ℕ} → Joined p k x y → isIn y (componentAt p k x) ≡ true
   joined-in {x} {y} c = mem-in y (componentAt p k x) (joined-mem c)
-
-  pub joined-dec : (x y : ℕ) → At p k x → Joined p k x y ⊎ (Joined p k x y → ⊥)
-  joined-dec x y s =
-      on-test (isIn y (componentAt p k x)) (λ e. inl (in-joined x y s e)) (λ e. inr (λ c. clash (joined-in c) e))
 
   -- joined places have the same component
   pub component-same : {x y : ℕ} → Joined p k x y → componentAt p k x ≡ componentAt p k y

@@ -1,15 +1,15 @@
 -- Rising lists of numbers, and exactly one number of a range.
 use mathlib.Core.Path.{_≡_, refl, sym, ap, ap₂, subst, _∙_}
 use mathlib.Core.Bool.{Bool, true, false, _||_, false≢true}
-use mathlib.Core.Logic.{_⊎_, inl, inr, ⊎-elim, _≢_}
-use mathlib.Core.List.{List, [], _∷_, List·Memᴰ, List·Memᴰ·head, List·Memᴰ·tail, List·Memᴰ·not-nil, List·Memᴰ·cases-cons}
+use mathlib.Core.Logic.{_⊎_, inl, inr, ⊎-elim}
+use mathlib.Core.List.{List, [], _∷_, List·Memᴰ, List·Memᴰ·head, List·Memᴰ·not-nil, List·Memᴰ·cases-cons}
 use Prim.Native.Nat.{ℕ, zero, suc, _+_, _≤_, _<_}
 use native.Mathlib.Omega.{arith}
 use lib.Dec.{eqb}
-use borrow.Author.Tests.{eqb-true, eq-eqb, ne-eqb}
+use borrow.Author.Tests.{eqb-true, eq-eqb}
 use Rattle.picture.specs.Lists.{tally, select, range, isIn}
 use Rattle.picture.specs.Trees.{headOf}
-use Rattle.topology.proofs.Tests.{on-test, clash, same-test, test-false}
+use Rattle.topology.proofs.Tests.{on-test, clash, test-false}
 use Rattle.topology.proofs.Lists.{select-in, select-out, tally-in, tally-out, tally-none, none-tally, in-mem, mem-in, range-mem, mem-range}
 
 -- strictly rising, from a on

@@ -1,34 +1,29 @@
 -- The run of the watershed: what holds between two falls, and how a turn of the run keeps it.
 use mathlib.Core.Path.{_≡_, refl, sym, ap, subst, _∙_}
-use mathlib.Core.Bool.{Bool, true, false}
+use mathlib.Core.Bool.{true}
 use mathlib.Core.Logic.{_⊎_, inl, inr, ⊎-elim, _≢_, by-cases}
 use mathlib.Core.List.{List, [], _∷_}
-use Prim.Native.Nat.{ℕ, zero, suc, _+_, _-_, _*_, _≤_, _<_}
+use Prim.Native.Nat.{ℕ, zero, suc, _+_, _*_, _≤_, _<_}
 use native.Mathlib.Nat.{mul-le-mul}
 use native.Mathlib.Decide.{ℕ-discrete, decLt}
 use native.Mathlib.Omega.{arith}
 use lib.Dec.{eqb}
 use lib.ListN.{length, getD, set, length-set}
 use lib.Seq.{getD-set-same, getD-set-other}
-use borrow.Author.Tests.{eqb-true, eqb-false, eq-eqb}
+use borrow.Author.Tests.{eqb-true, eq-eqb}
 use Rattle.picture.specs.Lists.{pick, total}
 use Rattle.picture.specs.Pictures.{Picture, places, valueAt, withPixels, touch}
-use Rattle.picture.specs.Trees.{nodes, nodeAt, fatherOf, mapOf}
 use Rattle.picture.specs.Watersheds.{lowerable, watershed}
 use Rattle.topology.proofs.Tests.{on-pick, on-test, clash}
 use Rattle.topology.proofs.Keeping.{Lowers, Fallen}
 use Rattle.topology.proofs.Adjacency.{Adj, adj-sym, adj-irreflexive}
 use Rattle.topology.proofs.Bridge.{lowerable-above, lowerable-lowers, lowers-lowerable}
-use Rattle.topology.proofs.Accepted.{Accepted, byte-at}
-use Rattle.topology.proofs.Nodes.{nodes-few}
-use Rattle.topology.proofs.Fathers.{map-found}
-use Rattle.topology.proofs.Climb.{Meet, same, left, right, father-of, father-greater}
-use Rattle.topology.proofs.Water.{Leads, less, ties}
+use Rattle.topology.proofs.Climb.{Meet, same, left, right}
+use Rattle.topology.proofs.Water.{less}
 use Rattle.topology.proofs.Oracle.{Oracle, Stops, Drops, stops-drops, stops-there, drops-wakes, drops-oracle}
-use Rattle.topology.proofs.TreeOracle.{MeetsAt, tree-oracle}
-use Rattle.topology.proofs.Falls.{First, fall-water, watershed-end}
-use Rattle.topology.proofs.WinnerTree.{Beats, last, less as beats-less, ties as beats-ties, Winner, winner-beats, winner-place, winner-fallen, candidates, candidates-most, candidates-fewer}
-use Rattle.topology.proofs.WinnerSteps.{Assigned, Building, Waking}
+use Rattle.topology.proofs.Falls.{First, fall-water}
+use Rattle.topology.proofs.WinnerTree.{Winner, winner-fallen, candidates}
+use Rattle.topology.proofs.WinnerSteps.{Waking}
 use Rattle.topology.proofs.Stopping.{Climbs, Meets, Lowest, Stopped, Around, found-stops, found-none}
 
 -- the state of the run on the frame f: pixels g, the tree's cells, the winner tree t; a lowerable place is a candidate or exempt
@@ -44,6 +39,25 @@ pub record Running (f : Picture) (g tree t : List ℕ) (Exempt : ℕ → Type 0)
   pub leaves : length t ≡ 2 * places f
   pub winner : Winner (places f) g t 1 0
   pub awake : (y : ℕ) → y < places f → lowerable (withPixels f g) y ≡ true → (getD t (places f + y) 0 ≡ y) ⊎ Exempt y
+
+-- the same pixels and cells with another winner tree, and others exempt
+pub running-with :
+    {f : Picture} {g tree t t₁ : List ℕ} {Exempt Exempt₁ : ℕ → Type 0} → Running f g tree t Exempt → length t₁ ≡ 2 * places f → Winner (places f) g t₁ 1 0 →
+    ((y : ℕ) → y < places f → lowerable (withPixels f g) y ≡ true → (getD t₁ (places f + y) 0 ≡ y) ⊎ Exempt₁ y) → Running f g tree t₁ Exempt₁
+running-with r leaves winner awake =
+    record {
+      filled = r .filled;
+      some = r .some;
+      wide = r .wide;
+      high = r .high;
+      size = r .size;
+      bytes = r .bytes;
+      climbs = r .climbs;
+      oracle = r .oracle;
+      leaves = leaves;
+      winner = winner;
+      awake = awake;
+    }
 
 -- no place is exempt
 pub data Nobody (y : ℕ) : Type 0 where
@@ -213,27 +227,15 @@ module _ (f : Picture) (g tree t : List ℕ) (x : ℕ) (p : Settling f g tree t 
   settle-stays h =
       record {
         running =
-            record {
-              filled = run .filled;
-              some = run .some;
-              wide = run .wide;
-              high = run .high;
-              size = run .size;
-              bytes = run .bytes;
-              climbs = run .climbs;
-              oracle = run .oracle;
-              leaves = run .leaves;
-              winner = run .winner;
-              awake =
-                  λ y b l.
-                  ⊎-elim (λ e. inl e)
-                  (λ e.
-                  let (k, v) = lowerable-above (withPixels f g) y b l in
-                  absurd
-                  (stays-there h k
-                  (subst (λ (z : ℕ). Lowers (places f) (Adj f) (valueAt (withPixels f g)) z k) e (lowerable-lowers (withPixels f g) y b k v l))))
-                  (run .awake y b l);
-            };
+            running-with run (run .leaves) (run .winner)
+            (λ y b l.
+            ⊎-elim (λ e. inl e)
+            (λ e.
+            let (k, v) = lowerable-above (withPixels f g) y b l in
+            absurd
+            (stays-there h k
+            (subst (λ (z : ℕ). Lowers (places f) (Adj f) (valueAt (withPixels f g)) z k) e (lowerable-lowers (withPixels f g) y b k v l))))
+            (run .awake y b l));
         water = refl;
         less = inr (refl, refl);
       }
@@ -324,29 +326,17 @@ module _ (f : Picture) (g tree t : List ℕ) (x : ℕ) (p : Settling f g tree t 
         let r = settle-falls in
         record {
           running =
-              record {
-                filled = r .filled;
-                some = r .some;
-                wide = r .wide;
-                high = r .high;
-                size = r .size;
-                bytes = r .bytes;
-                climbs = r .climbs;
-                oracle = r .oracle;
-                leaves = w .size;
-                winner = w .winner;
-                awake =
-                    λ y b l.
-                    inl
-                    (⊎-elim
-                    (λ e. w .stay y b e)
-                    (λ v.
-                    let (j, i, e) = around .every y b (v .near) in
-                    subst
-                    (λ (z : ℕ). s < getD lowered-to z 0 → getD lowered-to z 0 ≤ getD g x 0 → getD t₁ (places f + z) 0 ≡ z)
-                    e (w .woken j i) (v .above) (v .most))
-                    (r .awake y b l));
-              };
+              running-with r (w .size) (w .winner)
+              (λ y b l.
+              inl
+              (⊎-elim
+              (λ e. w .stay y b e)
+              (λ v.
+              let (j, i, e) = around .every y b (v .near) in
+              subst
+              (λ (z : ℕ). s < getD lowered-to z 0 → getD lowered-to z 0 ≤ getD g x 0 → getD t₁ (places f + z) 0 ≡ z)
+              e (w .woken j i) (v .above) (v .most))
+              (r .awake y b l)));
           water = fall-same-water;
           less = inl fall-total;
         }

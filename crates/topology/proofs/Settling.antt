@@ -1,22 +1,21 @@
 -- After the last height each father's entry, a pixel, gives way to the node of the pixel.
 use mathlib.Core.Path.{_≡_, refl, sym, ap, subst, _∙_}
-use mathlib.Core.Logic.{_⊎_, inl, inr, ⊎-elim, by-cases, _≢_}
+use mathlib.Core.Logic.{inl, by-cases, _≢_}
 use mathlib.Core.List.{List}
-use Prim.Native.Nat.{ℕ, suc, _+_, _-_, _*_, _≤_, _<_}
+use Prim.Native.Nat.{ℕ, suc, _+_, _*_, _≤_, _<_}
 use native.Mathlib.Numerals.{add-one}
-use native.Mathlib.Decide.{ℕ-discrete, decLt}
+use native.Mathlib.Decide.{ℕ-discrete}
 use native.Mathlib.Omega.{arith}
 use lib.ListN.{length, getD, set, length-set}
 use lib.Seq.{getD-set-same, getD-set-other}
-use Rattle.picture.specs.Pictures.{Picture, places, valueAt}
+use Rattle.picture.specs.Pictures.{Picture, places}
 use Rattle.picture.specs.Trees.{nodes, nodeAt, fatherOf, mapOf}
 use Rattle.topology.proofs.Accepted.{Accepted, byte-at, places-bound}
 use Rattle.topology.proofs.Nodes.{nodes-few}
-use Rattle.topology.proofs.Levels.{Father}
-use Rattle.topology.proofs.Counts.{soFar, so-all}
+use Rattle.topology.proofs.Counts.{so-all}
 use Rattle.topology.proofs.LastFathers.{LastFather, missing, pixel, last-father}
 use Rattle.topology.proofs.Chains.{fathersIn, mapIn}
-use Rattle.topology.proofs.Listing.{firstsIn, NodesIn}
+use Rattle.topology.proofs.Listing.{NodesIn}
 use Rattle.topology.proofs.Mapped.{Between}
 
 -- the fathers of the first i nodes are settled

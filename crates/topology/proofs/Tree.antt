@@ -2,14 +2,14 @@
 use mathlib.Core.Path.{_≡_, refl, sym, ap, subst, _∙_}
 use mathlib.Core.Bool.{Bool, true, false, _&&_, not}
 use mathlib.Core.Logic.{_⊎_, inl, inr, ⊎-elim, by-cases, _≢_}
-use Prim.Native.Nat.{ℕ, zero, suc, _≤_, _<_}
+use Prim.Native.Nat.{ℕ, suc, _≤_, _<_}
 use native.Mathlib.Decide.{decLt}
 use native.Mathlib.Omega.{arith}
 use lib.ListN.{length}
 use Rattle.picture.specs.Pictures.{Picture, places, valueAt}
 use Rattle.picture.specs.Lists.{any, range, isIn}
 use Rattle.picture.specs.Components.{inSection, componentAt}
-use Rattle.picture.specs.Trees.{isBranch, nodes, nodeAt, numberOf, fatherOf, mapOf}
+use Rattle.picture.specs.Trees.{isBranch, nodes, nodeAt, numberOf, mapOf}
 use Rattle.topology.proofs.Accepted.{Accepted, byte-at}
 use Rattle.topology.proofs.Tests.{and-left, and-right, and-both, not-of-false, on-test, clash}
 use Rattle.topology.proofs.Lists.{any-mem, mem-any, range-mem, mem-range}
@@ -20,7 +20,7 @@ use Rattle.topology.proofs.Nodes.{node, node-is, node-equal, number-fou
 use Rattle.topology.proofs.Adjacency.{At, Joined, section-at, at-section}
 use Rattle.topology.proofs.Fathers.{number-small}
 use Rattle.topology.proofs.Descent.{under, Under, under-is, under-same, under-fork, under-joined, under-up, map-under}
-use Rattle.topology.proofs.Climb.{father, father-higher, father-greater, father-of, last-root, root-is}
+use Rattle.topology.proofs.Climb.{father, father-higher, father-greater, father-of, last-root}
 
 module _ (p : Picture) (ok : Accepted p) where
   -- a father is higher than its son, and has a greater number

@@ -6,7 +6,7 @@ use native.Mathlib.Omega.{arith}
 use lib.ListN.{length, getD, length-map}
 use Rattle.picture.specs.Lists.{range}
 use Rattle.picture.specs.Pictures.{Picture, places}
-use Rattle.picture.specs.Trees.{Node, nodes, nodeAt, fatherOf, mapOf, treeOf}
+use Rattle.picture.specs.Trees.{nodes, nodeAt, fatherOf, mapOf, treeOf}
 use Rattle.topology.proofs.Lists.{length-range, getD-map-range}
 
 -- an entry of a mapped list

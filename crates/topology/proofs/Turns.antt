@@ -1,9 +1,9 @@
 -- The turns of the run: it starts with every place a candidate, a turn takes the winner away and settles it, and it ends at the watershed.
-use mathlib.Core.Path.{_≡_, refl, sym, ap, subst, _∙_}
-use mathlib.Core.Bool.{Bool, true, false}
-use mathlib.Core.Logic.{_⊎_, inl, inr, ⊎-elim, _≢_, by-cases}
+use mathlib.Core.Path.{_≡_, sym, ap, subst, _∙_}
+use mathlib.Core.Bool.{true}
+use mathlib.Core.Logic.{_⊎_, inl, inr, ⊎-elim, by-cases}
 use mathlib.Core.List.{List, [], _∷_}
-use Prim.Native.Nat.{ℕ, zero, suc, _+_, _-_, _*_, _≤_, _<_}
+use Prim.Native.Nat.{ℕ, suc, _+_, _*_, _≤_, _<_}
 use native.Mathlib.Nat.{mul-le-mul}
 use native.Mathlib.Decide.{ℕ-discrete}
 use native.Mathlib.Omega.{arith}
@@ -18,13 +18,12 @@ use Rattle.topology.proofs.Nodes.{nodes-few}
 use Rattle.topology.proofs.Fathers.{map-found}
 use Rattle.topology.proofs.Climb.{father-of, father-greater}
 use Rattle.topology.proofs.Water.{Leads, less, ties}
-use Rattle.topology.proofs.Oracle.{Oracle, Drops}
-use Rattle.topology.proofs.TreeOracle.{MeetsAt, tree-oracle}
+use Rattle.topology.proofs.Oracle.{Drops}
+use Rattle.topology.proofs.TreeOracle.{tree-oracle}
 use Rattle.topology.proofs.Falls.{First, watershed-end}
-use Rattle.topology.proofs.WinnerTree.{Beats, last, less as beats-less, ties as beats-ties, Winner, winner-beats, winner-place, candidates, candidates-most, candidates-fewer}
+use Rattle.topology.proofs.WinnerTree.{Beats, last, less as beats-less, ties as beats-ties, winner-beats, winner-place, candidates, candidates-most, candidates-fewer}
 use Rattle.topology.proofs.WinnerSteps.{Assigned, Building}
-use Rattle.topology.proofs.Stopping.{Climbs, Meets}
-use Rattle.topology.proofs.Running.{Running, Nobody, nobody, Settling, Settled, Turning, Turned, measure, places-most, total-less}
+use Rattle.topology.proofs.Running.{Running, Nobody, nobody, Settling, Settled, Turning, Turned, measure, places-most, total-less, running-with}
 
 -- the cells hold heights, fathers and map of the tree of p
 pub record Holds (p : Picture) (tree : List ℕ) : Type 0 where
@@ -129,23 +128,11 @@ module _ (f : Picture) (g tree t : List ℕ) where
     turn-settling t₁ a =
         record {
           running =
-              record {
-                filled = run₁ .filled;
-                some = run₁ .some;
-                wide = run₁ .wide;
-                high = run₁ .high;
-                size = run₁ .size;
-                bytes = run₁ .bytes;
-                climbs = run₁ .climbs;
-                oracle = run₁ .oracle;
-                leaves = a .size;
-                winner = a .winner;
-                awake =
-                    λ y b l.
-                    by-cases (ℕ-discrete y x)
-                    (λ q. inr q)
-                    (λ q. ⊎-elim (λ e. inl (a .other y b q ∙ e)) (λ (n : Nobody y). nobody n) (run₁ .awake y b l));
-              };
+              running-with run₁ (a .size) (a .winner)
+              (λ y b l.
+              by-cases (ℕ-discrete y x)
+              (λ q. inr q)
+              (λ q. ⊎-elim (λ e. inl (a .other y b q ∙ e)) (λ (n : Nobody y). nobody n) (run₁ .awake y b l)));
           within = turn-place;
           unset = a .own;
           first = leads;

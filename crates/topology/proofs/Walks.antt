@@ -1,7 +1,7 @@
 -- The walk along the chain of one height: each of its pixels joins the classes.
 use mathlib.Core.Path.{_≡_, refl, sym, ap, subst, _∙_}
-use mathlib.Core.Logic.{_⊎_, inl, inr, ⊎-elim, _≢_}
-use mathlib.Core.List.{List, _++_}
+use mathlib.Core.Logic.{_⊎_, inl, inr, ⊎-elim}
+use mathlib.Core.List.{List}
 use Prim.Native.Nat.{ℕ, suc, _+_, _*_, _≤_, _<_}
 use native.Mathlib.Numerals.{add-one}
 use native.Mathlib.Omega.{arith}
@@ -11,8 +11,8 @@ use Rattle.picture.specs.Geometry.{neighboursIn, neighboursOf, Placed, Listed}
 use Rattle.topology.proofs.Accepted.{Accepted}
 use Rattle.topology.proofs.Levels.{Upto}
 use Rattle.topology.proofs.Forests.{Found, Block, block-same, block-then, Parents, forest-parents}
-use Rattle.topology.proofs.Absorbing.{Classes, Near, Edge, near-start, near-end}
-use Rattle.topology.proofs.Chains.{fathersIn, mapIn, Next, After, Threads, classes-skip, EdgeReady, EdgeDone}
+use Rattle.topology.proofs.Absorbing.{Classes, Near, near-start, near-end}
+use Rattle.topology.proofs.Chains.{fathersIn, mapIn, Next, Threads, classes-skip, EdgeReady, EdgeDone}
 
 -- the pixels of height k before x have joined the classes; x is the next one, or beyond the picture
 pub record Ready (p : Picture) (k x : ℕ) (l w : List ℕ) : Type 0 where

@@ -1,7 +1,7 @@
 -- The watershed: its fuel suffices, it keeps parts, is nowhere above the picture, and nothing in it is lowerable.
 use mathlib.Core.Path.{_≡_, refl, sym, ap, subst, _∙_}
-use mathlib.Core.Bool.{Bool, true, false, _&&_, _||_}
-use mathlib.Core.Logic.{_⊎_, inl, inr, ⊎-elim, _≢_, by-cases}
+use mathlib.Core.Bool.{true, false, _&&_, _||_}
+use mathlib.Core.Logic.{_⊎_, ⊎-elim, by-cases}
 use mathlib.Core.List.{List, [], _∷_}
 use Prim.Native.Nat.{ℕ, zero, suc, _+_, _-_, _≤_, _<_}
 use native.Mathlib.Decide.{ℕ-discrete}
@@ -9,11 +9,11 @@ use native.Mathlib.Omega.{arith}
 use lib.Dec.{eqb, ltb}
 use lib.ListN.{length, getD, set, length-set}
 use lib.Seq.{getD-set-same, getD-set-other}
-use borrow.Author.Tests.{ltb-true, ltb-false, eqb-true, eq-eqb, lt-ltb}
+use borrow.Author.Tests.{ltb-true, ltb-false, eqb-true, eq-eqb}
 use Rattle.picture.specs.Lists.{pick, range, total}
 use Rattle.picture.specs.Pictures.{Picture, places, valueAt, withPixels}
 use Rattle.picture.specs.Watersheds.{lowerable, bestFrom, best, lowered, waterFrom, watershed}
-use Rattle.topology.proofs.Tests.{and-left, and-right, and-both, or-cases, or-left, or-right, on-test, on-pick, on-elim, clash}
+use Rattle.topology.proofs.Tests.{and-left, and-right, and-both, or-cases, or-right, on-test, on-pick, on-elim, clash}
 use Rattle.topology.proofs.Keeping.{Keeps, Lowers, Fallen, keeps-refl, keeps-compose, lowering-keeps}
 use Rattle.topology.proofs.Adjacency.{Adj, adj-sym}
 use Rattle.topology.proofs.Bridge.{lowerable-above, lowerable-lowers}

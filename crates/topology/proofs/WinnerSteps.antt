@@ -2,7 +2,7 @@
 use mathlib.Core.Path.{_≡_, refl, sym, ap, subst, _∙_}
 use mathlib.Core.Logic.{_⊎_, inl, inr, ⊎-elim, _≢_, by-cases}
 use mathlib.Core.List.{List}
-use Prim.Native.Nat.{ℕ, zero, suc, _+_, _-_, _*_, _/_, _≤_, _<_}
+use Prim.Native.Nat.{ℕ, suc, _+_, _-_, _*_, _/_, _≤_, _<_}
 use native.Mathlib.Decide.{ℕ-discrete}
 use native.Mathlib.Omega.{arith}
 use lib.ListN.{length, getD, set, length-set}
@@ -192,14 +192,6 @@ module _ (n : ℕ) (g : List ℕ) where
       build-down t (k - 1) after r (subst (Building n g t) e p) (omega arith) (omega arith) q
 
   module _ (before : List ℕ) (s k y : ℕ) where
-    -- a place whose value lies outside stays as it is
-    pub woken-outside :
-        length before ≡ 2 * n → Winner n g before 1 0 → (s < getD g y 0 → getD g y 0 ≤ k → ⊥) → Woken n g before s k y before
-    woken-outside e w d = record { size = e; winner = w; stay = λ z h q. q; woken = λ p q. absurd (d p q) }
-
-    pub woken-already : length before ≡ 2 * n → Winner n g before 1 0 → getD before (n + y) 0 ≡ y → Woken n g before s k y before
-    woken-already e w q = record { size = e; winner = w; stay = λ z h p. p; woken = λ p r. q }
-
     pub woken-now : (t : List ℕ) → Assigned n g before y y t → Woken n g before s k y t
     woken-now t a =
         record {

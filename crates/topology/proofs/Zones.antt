@@ -1,10 +1,9 @@
 -- Flat zones: a flood over places of one value, its stack linked in the cells, and the minima that a scan of the zones counts.
 use mathlib.Core.Path.{_≡_, refl, sym, ap, subst, _∙_}
 use mathlib.Core.Bool.{Bool, true, false, false≢true}
-use mathlib.Core.Logic.{_⊎_, inl, inr, ⊎-elim, _≢_, by-cases}
+use mathlib.Core.Logic.{_⊎_, inl, inr, ⊎-elim, _≢_}
 use mathlib.Core.List.{List, [], _∷_, List·Memᴰ, List·Memᴰ·not-nil, List·Memᴰ·cases-cons}
 use Prim.Native.Nat.{ℕ, zero, suc, _≤_, _<_}
-use native.Mathlib.Decide.{ℕ-discrete}
 use native.Mathlib.Omega.{arith}
 use lib.ListN.{length, getD, set}
 use lib.Seq.{getD-set-same, getD-set-other}
@@ -13,6 +12,7 @@ use Rattle.topology.proofs.Tests.{test-false}
 use Rattle.topology.proofs.Connected.{Conn, start, step, conn-source, conn-target, conn-mono, conn-closed}
 use Rattle.topology.proofs.Adjacency.{Adj, At, Joined}
 use Rattle.topology.proofs.Leaves.{leafAt, leaf-sound, leaf-complete}
+pub use Rattle.topology.proofs.Lists.{set-cases}
 
 -- y is a place of value k
 pub record Flat (p : Picture) (k y : ℕ) : Type 0 where
@@ -104,13 +104,6 @@ pub record Flooded (p : Picture) (k s : ℕ) (before cells : List ℕ) (low : Bo
   pub only : (y : ℕ) → getD cells y 0 ≢ 65535 → Zone p k s y ⊎ (getD before y 0 ≢ 65535)
   pub lower : low ≡ true → Lower p k s
   pub high : low ≡ false → (y z : ℕ) → Zone p k s y → Adj p y z → z < places p → k ≤ valueAt p z
-
--- an entry after a store: the value stored, or the entry from before
-pub set-cases : (l : List ℕ) (x v y : ℕ) → x < length l → ((y ≡ x) × (getD (set l x v) y 0 ≡ v)) ⊎ ((y ≢ x) × (getD (set l x v) y 0 ≡ getD l y 0))
-set-cases l x v y h =
-    by-cases (ℕ-discrete y x)
-    (λ e. inl (e, ap (λ (z : ℕ). getD (set l x v) z 0) e ∙ getD-set-same l x v 0 h))
-    (λ e. inr (e, getD-set-other l x y v 0 e))
 
 -- a store at a place that is not on the stack
 stacked-set :

@@ -1,15 +1,15 @@
 -- The tree in its cells: after the last step, and in a longer slice.
-use mathlib.Core.Path.{_≡_, refl, sym, ap, subst, _∙_}
+use mathlib.Core.Path.{_≡_, ap, _∙_}
 use mathlib.Core.List.{List, _++_}
-use Prim.Native.Nat.{ℕ, _+_, _*_, _≤_, _<_}
+use Prim.Native.Nat.{ℕ, _+_, _*_, _≤_}
 use native.Mathlib.Omega.{arith}
 use lib.ListN.{length, getD, take, drop, length-append, length-drop, List·getD-append}
 use lib.Seq.{length-take-le, drop-at}
 use Rattle.picture.specs.Pictures.{Picture, places}
-use Rattle.picture.specs.Trees.{nodes, nodeAt, fatherOf, mapOf}
+use Rattle.picture.specs.Trees.{nodes}
 use Rattle.topology.proofs.Nodes.{nodes-few}
 use Rattle.topology.proofs.Settling.{Settling}
-use Rattle.tree.specs.Arrays.{row, TreeIn}
+use Rattle.tree.specs.Arrays.{TreeIn}
 use Rattle.tree.specs.Built.{Built}
 
 pub tree-settled : (p : Picture) (w : List ℕ) → Settling p (length (nodes p)) w → TreeIn p w

@@ -4,13 +4,13 @@ use crate::list::list_level;
 use crate::union_find::find;
 use cells::wide;
 ghost use mathlib.Core.Path.{_≡_};
-ghost use Prim.Native.Nat.{ℕ, suc, _<_, _≤_, _+_, _*_};
-ghost use lib.ListN.{length, getD};
-ghost use Rattle.picture.specs.Pictures.{Picture, places, pictureOf};
+ghost use Prim.Native.Nat.{_<_, _+_, _*_};
+ghost use lib.ListN.{length};
+ghost use Rattle.picture.specs.Pictures.{pictureOf};
 ghost use Rattle.topology.proofs.Forests.{Parents};
 ghost use Rattle.topology.proofs.Chains.{Next};
 ghost use Rattle.topology.proofs.Buckets.{Heads};
-ghost use Rattle.topology.proofs.Mapped.{Between, NameReady, NameBounds, NamedOne, NameWalk, MapReady, MappedOne, MapWalk, MapWhole};
+ghost use Rattle.topology.proofs.Mapped.{Between, NameReady, NameBounds, NamedOne, NameWalk, MapReady, MappedOne, MapWhole};
 
 // The node i gets its height and no father, and its root the number.
 fn number_one(work: &mut [u16], cells: &mut [u16], k: usize, i: usize)

@@ -97,41 +97,6 @@ fn check_levels(
     c
 }
 
-// The lent lists are the tree of an accepted picture of n places; exactly n cells serve the union-find.
-fn is_tree_exactly(
-    a: u32,
-    w: u32,
-    h: u32,
-    pixels: &[u8],
-    count: usize,
-    heights: &[u8],
-    fathers: &[u16],
-    firsts: &[u16],
-    map: &[u16],
-    cells: &mut [u16],
-) -> bool
-    requires { ⌜ isPicture (pictureOf a w h (now pixels)) ≡ true ⌝ }
-    requires { ⌜ (length (now cells) ≡ w * h) × (w * h ≤ length (now heights)) × (w * h ≤ length (now fathers)) × (w * h ≤ length (now firsts)) × (w * h ≤ length (now map)) ⌝ }
-    ensures { λ r. ⌜ Says (pictureOf a w h (now (pixels .entry))) count (now (heights .entry)) (now (fathers .entry)) (now (firsts .entry)) (now (map .entry)) r ⌝ }
-{
-    if count == 0 {
-        return false;
-    }
-    if cells.len() < count {
-        return false;
-    }
-    fresh(cells);
-    let c = check_levels(a, w, h, pixels, count, heights, fathers, firsts, map, cells);
-    if c != count {
-        return false;
-    }
-    let last = fathers[count - 1];
-    if last != 65535 {
-        return false;
-    }
-    true
-}
-
 // The lent lists are the tree of an accepted picture of n places: the count, the lists' entries below it and the map's first n entries.
 // The first n cells serve the union-find.
 pub fn is_tree(
@@ -152,16 +117,21 @@ pub fn is_tree(
     ensures { λ _. ⌜ drop (w * h) (now (cells .exit)) ≡ drop (w * h) (now (cells .entry)) ⌝ }
 {
     let n = w as usize * h as usize;
-    is_tree_exactly(
-        a,
-        w,
-        h,
-        pixels,
-        count,
-        heights,
-        fathers,
-        firsts,
-        map,
-        &mut cells[..n],
-    )
+    if count == 0 {
+        return false;
+    }
+    if n < count {
+        return false;
+    }
+    let part = &mut cells[..n];
+    fresh(part);
+    let c = check_levels(a, w, h, pixels, count, heights, fathers, firsts, map, part);
+    if c != count {
+        return false;
+    }
+    let last = fathers[count - 1];
+    if last != 65535 {
+        return false;
+    }
+    true
 }

@@ -6,26 +6,21 @@ use borrow.Author.Needs.{needs}
 use Rattle.edges.proofs.print_sides.Statement.{statement}
 use Rattle.edges.proofs.print_sides.Tie as tie
 
-slice-aggregate-print-name : tie.Need-slice-aggregate-print-name
-slice-aggregate-print-name c = search needs
+slice-aggregate-print-file : tie.Need-slice-aggregate-print-file
+slice-aggregate-print-file c = search needs
 
-slice-aggregate-print-name-2 : tie.Need-slice-aggregate-print-name-2
-slice-aggregate-print-name-2 c = search needs
-
-print-name-requires : tie.Need-print-name-requires
-print-name-requires c κs =
-    let s = c .before .before in
-    let l = two-length (s .args .w) (s .args .h) (omega (arith, s .pre .0)) (omega (arith, s .pre .1)) in
-    (search needs, omega arith)
+slice-aggregate-print-file-2 : tie.Need-slice-aggregate-print-file-2
+slice-aggregate-print-file-2 c = search needs
 
 mul-print-file : tie.Need-mul-print-file
-mul-print-file c = let s = c .before .before .before in omega (arith, mul-le-mul (s .pre .0) (s .pre .1))
+mul-print-file c = let s = c .before .before in omega (arith, mul-le-mul (s .pre .0) (s .pre .1))
 
 print-file-requires : tie.Need-print-file-requires
 print-file-requires c κs =
-    let s = c .before .before .before in
+    let s = c .before .before in
+    let l = two-length (s .args .w) (s .args .h) (omega (arith, s .pre .0)) (omega (arith, s .pre .1)) in
     let m = mul-le-mul (s .pre .0) (s .pre .1) in
-    (omega (arith, s .pre .0), omega (arith, s .pre .1), search needs, omega arith, search needs)
+    ((search needs, omega arith), (omega (arith, s .pre .0), omega (arith, s .pre .1), search needs, omega arith, search needs))
 
 returns : tie.Need-returns
 returns c = search needs
@@ -34,9 +29,8 @@ pub print-sides-spec : {M : Type 1} → statement M
 print-sides-spec =
     tie.close
     (tie.spec
-    slice-aggregate-print-name
-    slice-aggregate-print-name-2
-    print-name-requires
+    slice-aggregate-print-file
+    slice-aggregate-print-file-2
     mul-print-file
     print-file-requires
     returns)

@@ -1,5 +1,5 @@
 -- `text::put_bytes` meets its contract. The loop's invariant: the first i bytes are written.
-use mathlib.Core.Path.{_≡_, subst}
+use mathlib.Core.Path.{subst}
 use mathlib.Core.List.{List, []}
 use Prim.Native.Nat.{ℕ, _+_, _-_, _≤_}
 use native.Mathlib.Omega.{arith}

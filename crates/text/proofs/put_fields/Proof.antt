@@ -1,5 +1,6 @@
 -- `text::put_fields` meets its contract. The loop's invariant: the numbers before i are written, each with a space.
-use Prim.Native.Nat.{_+_, _-_, _<_}
+use mathlib.Core.Path.{refl}
+use Prim.Native.Nat.{_-_, _<_}
 use native.Mathlib.Omega.{arith}
 use borrow.Author.Needs.{needs}
 use lib.ListN.{length, take}
@@ -68,7 +69,7 @@ returns c =
     let r = s .pre .1 in
     let h = l .inv .0 in
     fields-done (s .args .ns .now) (s .args .out .now) (l .out) (c .before .before .put-field2 .last .0) (s .args .at) (l .to)
-    (c .before .before .put-field2 .result) (l .i) (omega arith) (omega arith) (l .inv .1) (c .before .before .put-field2 .ensures)
+    (c .before .before .put-field2 .result) (l .i) (omega arith) (omega arith) (l .inv .1) (c .before .before .put-field2 .ensures) refl
 
 same-length : tie.Need-same-length Inv-loop μ-loop
 same-length c =

@@ -1,8 +1,11 @@
--- `edges::print_text` is safe: the text lies within the memory.
+-- `edges::print_case` is safe: the text lies within the memory.
 use Rattle.hold_lines.proofs.Lengths.{text-within}
 use borrow.Author.Needs.{needs}
-use Rattle.edges.proofs.print_text.Statement.{statement}
-use Rattle.edges.proofs.print_text.Tie as tie
+use Rattle.edges.proofs.print_case.Statement.{statement}
+use Rattle.edges.proofs.print_case.Tie as tie
+
+write-all-requires : tie.Need-write-all-requires
+write-all-requires c κs = search needs
 
 slice-aggregate-put-text : tie.Need-slice-aggregate-put-text
 slice-aggregate-put-text c = search needs
@@ -16,19 +19,20 @@ array-share-prefix-out c = text-within (c .before .put-text .ensures) .0
 slice-aggregate-write-all : tie.Need-slice-aggregate-write-all
 slice-aggregate-write-all c = text-within (c .before .before .put-text .ensures) .1
 
-write-all-requires : tie.Need-write-all-requires
-write-all-requires c κs = search needs
+write-all-requires-2 : tie.Need-write-all-requires-2
+write-all-requires-2 c κs = search needs
 
 returns : tie.Need-returns
 returns c = search needs
 
-pub print-text-spec : {M : Type 1} → statement M
-print-text-spec =
+pub print-case-spec : {M : Type 1} → statement M
+print-case-spec =
     tie.close
     (tie.spec
+    write-all-requires
     slice-aggregate-put-text
     put-text-requires
     array-share-prefix-out
     slice-aggregate-write-all
-    write-all-requires
+    write-all-requires-2
     returns)
