@@ -1,4 +1,4 @@
--- Laws of reading: the record of a refusal, and the pixels of a file. Assumes nothing.
+-- Laws of reading: the record of a refusal, and the pixels of a file.
 use mathlib.Core.Path.{_≡_, sym, ap, _∙_}
 use mathlib.Core.List.{List, []}
 use Prim.Native.Nat.{ℕ}

@@ -1,2 +1,3 @@
+-- Laws of the calls for C, and demand 3 of the bytes that they leave.
 pub mod ForC
 pub mod Demands

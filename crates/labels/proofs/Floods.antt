@@ -8,10 +8,10 @@ use native.Mathlib.Omega.{arith}
 use mathlib.Core.Bool.{false}
 use lib.Dec.{leb}
 use borrow.Author.Tests.{leb-false}
-use lib.ListN.{length, getD, set, drop, length-set, List·getD-append}
+use lib.ListN.{length, getD, set, drop, length-set}
 use lib.Seq.{drop-cons, drop-length, drop-set-lt, set-set, set-getD}
 use Rattle.picture.specs.Pictures.{Picture, places}
-use Rattle.picture.specs.Geometry.{neighboursIn, Listed}
+use Rattle.picture.specs.Geometry.{neighboursIn}
 use Rattle.picture.proofs.Neighbours.{neighbour-at, neighbours-touch}
 use Rattle.topology.proofs.Lists.{in-mem}
 use Rattle.topology.proofs.Connected.{start, conn-target}
@@ -131,12 +131,6 @@ pub visit-outside :
     (pixels : List ℕ) (k y c : ℕ) (l stack : List ℕ) (t : ℕ) → leb (getD pixels y 0) k ≡ false →
     Visited pixels k y c l stack t l stack t
 visit-outside pixels k y c l stack t e = let h = leb-false (getD pixels y 0) k e in passed refl refl refl (λ g. absurd (omega arith))
-
--- what stands at an index in front of the cells
-pub listed-at : (ns cells : List ℕ) (r : ℕ) (after : List ℕ) → Listed ns cells r after → (i : ℕ) → i < r → getD after i 0 ≡ getD ns i 0
-listed-at ns cells r after e i h =
-    let n = e .count in
-    ap (λ l. getD l i 0) (e .whole) ∙ List·getD-append ns (drop r cells) 0 i (omega arith)
 
 -- the loop of a flood over the labels before, with a stack of height r whose cells began as stack
 pub record Flowing (p : Picture) (k x c : ℕ) (before stack m after : List ℕ) (r : ℕ) : Type 0 where

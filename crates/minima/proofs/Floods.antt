@@ -7,11 +7,11 @@ use Prim.Native.Nat.{ℕ, zero, suc, _+_, _-_, _≤_, _<_}
 use native.Mathlib.Numerals.{add-one}
 use native.Mathlib.Omega.{arith}
 use lib.Dec.{eqb}
-use lib.ListN.{length, getD, set, drop, length-set, List·getD-append}
+use lib.ListN.{length, getD, set, drop, length-set}
 use lib.Seq.{drop-cons, drop-nil, set-set, set-getD}
 use Rattle.picture.specs.Lists.{range}
 use Rattle.picture.specs.Pictures.{Picture, places, valueAt, isPicture}
-use Rattle.picture.specs.Geometry.{neighboursIn, Listed, Placed}
+use Rattle.picture.specs.Geometry.{neighboursIn, Placed}
 use Rattle.picture.specs.Patches.{patches}
 use Rattle.picture.proofs.Neighbours.{neighbour-at, neighbours-touch}
 use Rattle.topology.proofs.Lists.{in-mem, tally-length, length-range}
@@ -77,12 +77,6 @@ module _ (pixels : List ℕ) (k y : ℕ) (cells : List ℕ) (s : Stack) (room : 
             subst (λ (t : ℕ). Flooding p k x before (set cells y (s .top)) y t (s .low) q zs) (sym (add-one (s .height)))
             (flood-visit p k x before cells (s .top) (s .height) (s .low) q y zs f r i (value-in p e ∙ h) m c d);
       }
-
--- what stands in front of the cells
-pub listed-at : (ns cells after : List ℕ) (r : ℕ) → Listed ns cells r after → (i : ℕ) → i < r → getD after i 0 ≡ getD ns i 0
-listed-at ns cells after r l i h =
-    let n = l .count in
-    ap (λ (m : List ℕ). getD m i 0) (l .whole) ∙ List·getD-append ns (drop r cells) 0 i (omega arith)
 
 -- nothing is left past the end
 drop-all : (i : ℕ) (l : List ℕ) → length l ≤ i → drop i l ≡ []

@@ -1,4 +1,4 @@
--- An accepted file is exactly a file of the shape, and the answer is the shape's header. Assumes nothing.
+-- An accepted file is exactly a file of the shape, and the answer is the shape's header.
 use mathlib.Core.Path.{_≡_, refl, sym, ap, subst, _∙_}
 use mathlib.Core.Bool.{true, _&&_}
 use mathlib.Core.Logic.{_↔_}
@@ -13,14 +13,14 @@ use Rattle.p5.specs.declared.file.Outcome.{Outcome}
 use Rattle.p5.specs.declared.file.Outcome.the-variants.{Accepted, NotP5, Malformed, SideOutside, LargestOutside, CountDiffers, PixelAbove}
 use Rattle.p5.specs.Files.{atMost, onHeader, onWalk, readFile, numberOf, headerOf}
 use Rattle.p5.specs.Shapes.{Inside, Accepts}
-use Rattle.p5.proofs.Tests.{and-both, and-first, and-second}
+use Rattle.p5.proofs.Tests.{and-both, and-left, and-right}
 use Rattle.p5.proofs.Leading.{leading-below, leading-full}
 use Rattle.p5.proofs.Answers.{pixels-fit, count-same, read-p5}
 use Rattle.p5.proofs.Shape.{headed-begins, headed-walk, headed-rest}
 use Rattle.p5.proofs.Verdicts.{Verdict, verdict, fits}
 
 pub inside : (low high x : ℕ) → leb low x && leb x high ≡ true → Inside low high x
-inside low high x e = (leb-true low x (and-first (leb low x) _ e), leb-true x high (and-second (leb low x) _ e))
+inside low high x e = (leb-true low x (and-left (leb low x) _ e), leb-true x high (and-right (leb low x) _ e))
 
 pub fits-inside : {low high x : ℕ} → Inside low high x → leb low x && leb x high ≡ true
 fits-inside i = and-both (le-leb _ _ (i .0)) (le-leb _ _ (i .1))
@@ -30,8 +30,8 @@ accepts-of f h (fits {s = s} k sides large count all) =
     record {
       pixels = s;
       headed = k;
-      width = inside 1 40 (h .width) (and-first (sideFits (h .width)) _ sides);
-      height = inside 1 40 (h .height) (and-second (sideFits (h .width)) _ sides);
+      width = inside 1 40 (h .width) (and-left (sideFits (h .width)) _ sides);
+      height = inside 1 40 (h .height) (and-right (sideFits (h .width)) _ sides);
       largest = inside 1 255 (h .largest) large;
       count = count;
       most = λ i l. leb-true _ _ (leading-below (atMost (h .largest)) s i (rw all l));

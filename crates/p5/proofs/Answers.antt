@@ -1,4 +1,4 @@
--- Laws of the answer for a walked header, its pixels and a whole file. Assumes nothing.
+-- Laws of the answer for a walked header, its pixels and a whole file.
 use mathlib.Core.Path.{_≡_, refl}
 use mathlib.Core.Bool.{true, false, _&&_}
 use mathlib.Core.List.{List}
@@ -17,14 +17,14 @@ use Rattle.p5.specs.declared.file.Outcome.{Outcome}
 use Rattle.p5.specs.declared.file.Outcome.the-variants.{Accepted, NotP5, Malformed, SideOutside, LargestOutside, CountDiffers, PixelAbove}
 use Rattle.p5.specs.Headers.{beginsP5, leading, walk}
 use Rattle.p5.specs.Files.{largestFits, atMost, onPixels, onHeader, onWalk, readFile, numberOf, headerOf, noHeader}
-use Rattle.p5.proofs.Tests.{on-pick, and-first, and-second}
+use Rattle.p5.proofs.Tests.{on-pick, and-left, and-right}
 use Rattle.p5.proofs.Walking.{offset-within}
 
 -- sides in range leave at most 1,600 places
 pub area : (w h : ℕ) → sideFits w && sideFits h ≡ true → w * h ≤ 1600
 area w h e =
-    mul-le-mul (leb-true w 40 (and-second (leb 1 w) _ (and-first (sideFits w) _ e)))
-    (leb-true h 40 (and-second (leb 1 h) _ (and-second (sideFits w) _ e)))
+    mul-le-mul (leb-true w 40 (and-right (leb 1 w) _ (and-left (sideFits w) _ e)))
+    (leb-true h 40 (and-right (leb 1 h) _ (and-right (sideFits w) _ e)))
 
 -- the part of a list from a position on, as a slice of it is made
 pub rest-is : (p : ℕ) (f : List ℕ) → take (length f - p) (drop p f) ≡ drop p f

@@ -1,4 +1,4 @@
--- Bytes that begin a header: a walk that stopped has read some, and more bytes would complete it. Assumes nothing.
+-- Bytes that begin a header: a walk that stopped has read some, and more bytes would complete it.
 use mathlib.Core.Path.{_≡_, refl, sym, ap, subst, _∙_}
 use mathlib.Core.Bool.{true}
 use mathlib.Core.List.{List, [], _∷_, _++_, append-assoc, append-nil}

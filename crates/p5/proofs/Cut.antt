@@ -1,4 +1,4 @@
--- What is answered depends on no byte after the place where the answer is found. Assumes nothing.
+-- What is answered depends on no byte after the place where the answer is found.
 use mathlib.Core.Path.{_≡_, sym, ap, ap₂, subst, _∙_}
 use mathlib.Core.List.{List, _++_}
 use Prim.Native.Nat.{ℕ, _+_, _≤_, _<_}

@@ -1,4 +1,4 @@
--- Digits that have been read from a position on: what the loop of `digits_at` keeps. Assumes nothing.
+-- Digits that have been read from a position on: what the loop of `digits_at` keeps.
 use mathlib.Core.Path.{_≡_, refl, sym, ap, _∙_}
 use mathlib.Core.Bool.{Bool, true}
 use mathlib.Core.List.{List, [], _∷_, _++_, append-assoc}
@@ -15,7 +15,7 @@ use Rattle.picture.specs.Lists.{pick, all}
 use Rattle.p5.specs.declared.field.Field.{Field}
 use Rattle.p5.specs.declared.field.Field.the-variants.{Number, Unfit}
 use Rattle.p5.specs.Headers.{leading, isDigit, decimalFrom, decimalValue, digitsAt}
-use Rattle.p5.proofs.Tests.{on-pick, and-both, and-first, and-second}
+use Rattle.p5.proofs.Tests.{on-pick, and-both, and-left, and-right}
 use Rattle.p5.proofs.Leading.{leading-append, leading-pass}
 
 -- `digits` stand from `at` up to `i` and have the value `value`
@@ -55,7 +55,7 @@ decimal-snoc v (a ∷ s) b = decimal-snoc _ s b
 
 all-snoc : (t : ℕ → Bool) (s : List ℕ) (b : ℕ) → all t s ≡ true → t b ≡ true → all t (s ++ b ∷ []) ≡ true
 all-snoc t [] b h e = and-both e refl
-all-snoc t (a ∷ s) b h e = and-both (and-first (t a) _ h) (all-snoc t s b (and-second (t a) _ h) e)
+all-snoc t (a ∷ s) b h e = and-both (and-left (t a) _ h) (all-snoc t s b (and-right (t a) _ h) e)
 
 module _ (f : List ℕ) (at value i : ℕ) (d : Digits f at value i) where
   -- one more digit
@@ -63,7 +63,7 @@ module _ (f : List ℕ) (at value i : ℕ) (d : Digits f at value i) where
   digits-turn h e n =
       let b = getD f i 0 in
       let len : length (d .digits ++ b ∷ []) ≡ length (d .digits) + 1 = length-append (d .digits) (b ∷ []) in
-      let small : b ≤ 57 = leb-true b 57 (and-second (leb 48 b) _ e) in
+      let small : b ≤ 57 = leb-true b 57 (and-right (leb 48 b) _ e) in
       record {
         digits = d .digits ++ b ∷ [];
         stand = d .stand ∙ rw (append-assoc, add-one, drop-cons f i 0);

@@ -1,4 +1,4 @@
--- Small files and their answers, by computation. Assumes nothing.
+-- Small files and their answers, by computation.
 use mathlib.Core.Path.{_≡_, refl}
 use mathlib.Core.List.{List, [], _∷_}
 use Prim.Native.Nat.{ℕ}

@@ -1,4 +1,4 @@
--- A header number and the bytes that it stands on: a gap and digits. Assumes nothing.
+-- A header number and the bytes that it stands on: a gap and digits.
 use mathlib.Core.Path.{_≡_, refl, sym, ap, ap₂, subst, _∙_}
 use mathlib.Core.List.{List, [], _∷_, _++_, append-assoc}
 use Prim.Native.Nat.{ℕ, _+_, _≤_, _<_}
@@ -11,7 +11,7 @@ use Rattle.p5.specs.declared.field.Field.{Field}
 use Rattle.p5.specs.declared.field.Field.the-variants.{Number, Unfit}
 use Rattle.p5.specs.Headers.{isDigit, leading, decimalValue, gapEnd, digitsAt, numberAt}
 use Rattle.p5.specs.Shapes.{Gap, Numeral}
-use Rattle.p5.proofs.Tests.{on-pick, and-first}
+use Rattle.p5.proofs.Tests.{on-pick, and-left}
 use Rattle.p5.proofs.Leading.{leading-le, leading-all, leading-append}
 use Rattle.p5.proofs.Gap.{gap-split, gap-join, number-some}
 use Rattle.p5.proofs.Digits.{digitCount, digits-few}
@@ -74,7 +74,7 @@ module _ (f : List ℕ) (p : ℕ) (g s : List ℕ) where
   stands-number (b ∷ t) k n e z =
       let d : List ℕ = b ∷ t in
       let q = p + length g in
-      let end : gapEnd f p ≡ q = gap-join f p b (t ++ s) k e (and-first (isDigit b) _ (n .digits)) in
+      let end : gapEnd f p ≡ q = gap-join f p b (t ++ s) k e (and-left (isDigit b) _ (n .digits)) in
       let rest : drop q f ≡ d ++ s = sym (drop-drop (length g) p f) ∙ ap (drop (length g)) e ∙ drop-at g _ _ refl in
       let many : leading isDigit (drop q f) ≡ length d = ap (leading isDigit) rest ∙ leading-append isDigit d s (n .digits) ∙ omega arith in
       let taken : take (leading isDigit (drop q f)) (drop q f) ≡ d = rw (many, rest) (take-at d s (length d) refl) in

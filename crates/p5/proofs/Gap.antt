@@ -1,4 +1,4 @@
--- Laws of the gap before a number, by the byte at its first position. Assumes nothing.
+-- Laws of the gap before a number, by the byte at its first position.
 use mathlib.Core.Path.{_≡_, refl, sym, ap, _∙_}
 use mathlib.Core.Bool.{Bool, true, false}
 use mathlib.Core.List.{List, _∷_, _++_}

@@ -1,4 +1,4 @@
--- Laws of `leading`, the number of bytes at the front that pass a test. Assumes nothing.
+-- Laws of `leading`, the number of bytes at the front that pass a test.
 use mathlib.Core.Path.{_≡_, refl, sym, ap, _∙_}
 use mathlib.Core.Bool.{Bool, true, false}
 use mathlib.Core.Logic.{⊎-elim}
@@ -11,7 +11,7 @@ use lib.ListN.{length, getD, take, drop, length-drop, drop-of-length-le}
 use lib.Seq.{drop-cons, drop-append-le}
 use Rattle.picture.specs.Lists.{all}
 use Rattle.p5.specs.Headers.{leading}
-use Rattle.p5.proofs.Tests.{on-pick, and-both, and-first, and-second, clash}
+use Rattle.p5.proofs.Tests.{on-pick, and-both, and-left, and-right, clash}
 
 module _ (t : ℕ → Bool) where
   pub leading-le : (s : List ℕ) → leading t s ≤ length s
@@ -53,7 +53,7 @@ module _ (t : ℕ → Bool) where
   pub leading-append : (u s : List ℕ) → all t u ≡ true → leading t (u ++ s) ≡ length u + leading t s
   leading-append [] s h = sym (zero-add _)
   leading-append (b ∷ u) s h =
-      rw (and-first (t b) _ h) (ap suc (leading-append u s (and-second (t b) _ h)) ∙ sym (suc-add _ _))
+      rw (and-left (t b) _ h) (ap suc (leading-append u s (and-right (t b) _ h)) ∙ sym (suc-add _ _))
 
   -- the count depends on no byte after the first that does not pass
   cut : (x y u : List ℕ) → leading t (x ++ y) < length x → leading t (x ++ u) ≡ leading t (x ++ y)

@@ -1,4 +1,4 @@
--- The place of a refusal: the first unfit byte or the file's length, and the first place above the largest sample. Assumes nothing.
+-- The place of a refusal: the first unfit byte or the file's length, and the first place above the largest sample.
 use mathlib.Core.Path.{_≡_, refl, sym, ap, subst, _∙_}
 use mathlib.Core.Logic.{_↔_, inl, inr, ⊎-elim}
 use mathlib.Core.List.{List, _++_, append-assoc}

@@ -1,4 +1,4 @@
--- Each refusal number is answered if and only if its cause holds and no earlier one does. Assumes nothing.
+-- Each refusal number is answered if and only if its cause holds and no earlier one does.
 use mathlib.Core.Path.{_≡_, sym, ap, subst, _∙_}
 use mathlib.Core.Bool.{true, false, _&&_}
 use mathlib.Core.Logic.{_↔_, _⊎_, inl, inr, ⊎-elim}
@@ -15,7 +15,7 @@ use Rattle.p5.specs.declared.file.Outcome.{Outcome}
 use Rattle.p5.specs.Headers.{beginsP5}
 use Rattle.p5.specs.Files.{largestFits, atMost, readFile, numberOf}
 use Rattle.p5.specs.Shapes.{Headed, Inside, Outside, Above, Cause, other, unheaded, side, largest, count, above}
-use Rattle.p5.proofs.Tests.{and-first, and-second, and-fails, clash}
+use Rattle.p5.proofs.Tests.{and-left, and-right, and-fails, clash}
 use Rattle.p5.proofs.Shape.{p5-bytes, headed-begins, headed-walk, headed-rest}
 use Rattle.p5.proofs.Accepted.{inside}
 use Rattle.p5.proofs.Leading.{leading-below}
@@ -76,8 +76,8 @@ module _ (f : List ℕ) where
       where
         no : Cause f 3 → ⊥
         no (side h′ s′ k′ o) =
-            ⊎-elim (inside-outside (inside 1 40 (h .width) (and-first (sideFits (h .width)) _ e)))
-            (inside-outside (inside 1 40 (h .height) (and-second (sideFits (h .width)) _ e)))
+            ⊎-elim (inside-outside (inside 1 40 (h .width) (and-left (sideFits (h .width)) _ e)))
+            (inside-outside (inside 1 40 (h .height) (and-right (sideFits (h .width)) _ e)))
             (only (λ x y. Outside 1 40 (x .width) ⊎ Outside 1 40 (x .height)) k′ o)
 
     below₅ : sidesFit h → largestFits (h .largest) ≡ true → NoneBelow f 5

@@ -1,4 +1,4 @@
--- A walked header and the shape of the bytes that it stands on. Assumes nothing.
+-- A walked header and the shape of the bytes that it stands on.
 use mathlib.Core.Path.{_≡_, sym, ap, ap₂, subst, _∙_}
 use mathlib.Core.Bool.{true, false}
 use mathlib.Core.List.{List, [], _∷_, _++_}
@@ -14,15 +14,15 @@ use Rattle.p5.specs.declared.header.Header.{Header}
 use Rattle.p5.specs.declared.header.Walk.the-variants.{Walked}
 use Rattle.p5.specs.Headers.{beginsP5, isWhite, isDigit, leading, walk}
 use Rattle.p5.specs.Shapes.{Gap, Headed}
-use Rattle.p5.proofs.Tests.{and-first, and-second, clash}
+use Rattle.p5.proofs.Tests.{and-left, and-right, clash}
 use Rattle.p5.proofs.Gap.{white-digit}
 use Rattle.p5.proofs.Fields.{number-stands, drop-field, stands-number}
 use Rattle.p5.proofs.Walking.{Walking, walking, whole, end-white, white-within, walk-end}
 
 pub p5-bytes : (f : List ℕ) → beginsP5 f ≡ true → f ≡ 80 ∷ 53 ∷ drop 2 f
 p5-bytes [] e = absurd (clash e)
-p5-bytes (a ∷ []) e = absurd (clash (and-second (eqb a 80) false e))
-p5-bytes (a ∷ b ∷ s) e = ap₂ (λ (x y : ℕ). x ∷ y ∷ s) (eqb-true a 80 (and-first (eqb a 80) _ e)) (eqb-true b 53 (and-second (eqb a 80) _ e))
+p5-bytes (a ∷ []) e = absurd (clash (and-right (eqb a 80) false e))
+p5-bytes (a ∷ b ∷ s) e = ap₂ (λ (x y : ℕ). x ∷ y ∷ s) (eqb-true a 80 (and-left (eqb a 80) _ e)) (eqb-true b 53 (and-right (eqb a 80) _ e))
 
 -- a walked header has the shape
 headed-of : (f : List ℕ) (h : Header) → beginsP5 f ≡ true → Walking f (Walked h) → Headed f h (drop (h .offset) f)
@@ -56,7 +56,7 @@ walk-headed f {h} begins e = headed-of f h begins (subst (Walking f) e (walking 
 -- after a number a gap begins, so no digit follows
 gap-digit : (g s : List ℕ) → Gap g → leading isDigit (g ++ s) ≡ 0
 gap-digit [] s k = absurd (omega (arith, k .some))
-gap-digit (b ∷ g) s k = rw (white-digit b (and-first (isWhite b) _ (k .white)))
+gap-digit (b ∷ g) s k = rw (white-digit b (and-left (isWhite b) _ (k .white)))
 
 -- and the shape is walked
 module _ (f : List ℕ) (h : Header) (s : List ℕ) (k : Headed f h s) where

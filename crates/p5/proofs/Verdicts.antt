@@ -1,4 +1,4 @@
--- How an answer comes about, with the tests that led to it. Assumes nothing.
+-- How an answer comes about, with the tests that led to it.
 use mathlib.Core.Path.{_≡_, refl}
 use mathlib.Core.Bool.{true, false, _&&_}
 use mathlib.Core.Logic.{⊎-elim}

@@ -1,4 +1,4 @@
--- Laws of the walk over the header. Assumes nothing.
+-- Laws of the walk over the header.
 use mathlib.Core.Path.{_≡_, refl, sym, ap, subst, _∙_}
 use mathlib.Core.Bool.{Bool, true, false}
 use mathlib.Core.List.{List}

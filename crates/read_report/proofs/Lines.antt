@@ -1,4 +1,4 @@
--- The line of a file is that of what reading answers, and a line of six numbers has room in 66 bytes. Assumes nothing.
+-- The line of a file is that of what reading answers, and a line of six numbers has room in 66 bytes.
 use mathlib.Core.Path.{_≡_}
 use mathlib.Core.List.{List, [], _∷_}
 use Prim.Native.Nat.{ℕ, _^_, _≤_, _<_}

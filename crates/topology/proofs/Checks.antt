@@ -8,7 +8,6 @@ use native.Mathlib.Decide.{ℕ-discrete}
 use native.Mathlib.Omega.{arith}
 use lib.ListN.{length, getD, set, length-set}
 use Rattle.picture.specs.Pictures.{Picture, places}
-use Rattle.picture.specs.Geometry.{neighboursIn, Placed}
 use Rattle.picture.specs.Trees.{nodes, nodeAt, fatherOf, mapOf}
 use Rattle.topology.proofs.Tests.{clash}
 use Rattle.topology.proofs.Accepted.{Accepted}

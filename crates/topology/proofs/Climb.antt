@@ -1,6 +1,6 @@
 -- The climb from two nodes to their nearest common ancestor, whose height decides at which heights two places are joined.
 use mathlib.Core.Path.{_≡_, sym, ap, subst, _∙_}
-use mathlib.Core.Logic.{_⊎_, ⊎-elim, by-cases, _↔_}
+use mathlib.Core.Logic.{⊎-elim, by-cases, _↔_}
 use Prim.Native.Nat.{ℕ, zero, suc, _+_, _-_, _≤_, _<_, max}
 use native.Mathlib.Decide.{decLe, decLt}
 use native.Mathlib.Omega.{arith}

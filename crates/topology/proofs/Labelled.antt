@@ -1,7 +1,7 @@
 -- The scan of a labelling: the places whose component begins before x have its number, the others none.
 use mathlib.Core.Path.{_≡_, refl, sym, ap, subst, _∙_}
 use mathlib.Core.Bool.{true, false}
-use mathlib.Core.Logic.{_⊎_, ⊎-elim, _≢_, by-cases}
+use mathlib.Core.Logic.{⊎-elim, _≢_, by-cases}
 use mathlib.Core.List.{List}
 use Prim.Native.Nat.{ℕ, suc, _+_, _≤_, _<_}
 use native.Mathlib.Decide.{decLt}

@@ -1,6 +1,6 @@
 -- What a link writes: the state of the joined class, and the pixel as the entry of the fathers of the nodes that met.
 use mathlib.Core.Path.{_≡_, refl, sym, ap, subst, _∙_}
-use mathlib.Core.Logic.{_⊎_, ⊎-elim, by-cases, _≢_}
+use mathlib.Core.Logic.{⊎-elim, by-cases, _≢_}
 use mathlib.Core.List.{List}
 use Prim.Native.Nat.{ℕ, _+_, _-_, _*_, _≤_, _<_}
 use native.Mathlib.Decide.{ℕ-discrete}

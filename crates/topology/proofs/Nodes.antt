@@ -10,7 +10,7 @@ use lib.ListN.{length, getD}
 use borrow.Author.Tests.{eqb-true, eq-eqb}
 use Rattle.picture.specs.Lists.{select, range}
 use Rattle.picture.specs.Pictures.{Picture, places, valueAt}
-use Rattle.picture.specs.Components.{componentAt, components}
+use Rattle.picture.specs.Components.{componentAt}
 use Rattle.picture.specs.Trees.{Node, headOf, isBranch, nodesAt, nodesFrom, nodes, nodeAt, componentOf, numberFrom, numberOf}
 use Rattle.topology.proofs.Tests.{and-left, and-right, and-both, on-test, on-elim, not-of-false, clash}
 use Rattle.topology.proofs.Lists.{select-map, select-select, select-mem, mem-select, range-mem, mem-range}

@@ -1,7 +1,7 @@
 -- The number of patches and the patch of a place, by the first places of minima; a leaf is nobody's father.
 use mathlib.Core.Path.{_≡_, refl, sym, ap, subst, _∙_}
 use mathlib.Core.Bool.{true, false}
-use mathlib.Core.Logic.{_⊎_, ⊎-elim}
+use mathlib.Core.Logic.{⊎-elim}
 use mathlib.Core.List.{List, map, Memᴰ·of-map}
 use Prim.Native.Nat.{ℕ, zero, suc, _+_, _-_, _≤_, _<_}
 use native.Mathlib.Omega.{arith}
@@ -20,7 +20,7 @@ use Rattle.topology.proofs.Keeping.{sec-mono}
 use Rattle.topology.proofs.Adjacency.{At, Joined, joined-sym}
 use Rattle.topology.proofs.Accepted.{Accepted}
 use Rattle.topology.proofs.Reached.{firstAt, mem-joined, joined-mem, in-joined, joined-in, first-joined, first-same, first-at}
-use Rattle.topology.proofs.Nodes.{node, IsNode, node-is, number-found}
+use Rattle.topology.proofs.Nodes.{IsNode, node-is, number-found}
 use Rattle.topology.proofs.Fathers.{Above, top, fork, father-is, number-small}
 use Rattle.topology.proofs.Descent.{under, under-same, under-is, under-up}
 use Rattle.topology.proofs.Climb.{father, under-node}

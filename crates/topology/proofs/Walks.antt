@@ -7,7 +7,7 @@ use native.Mathlib.Numerals.{add-one}
 use native.Mathlib.Omega.{arith}
 use lib.ListN.{length, getD, drop, List·getD-append}
 use Rattle.picture.specs.Pictures.{Picture, places, valueAt}
-use Rattle.picture.specs.Geometry.{neighboursIn, neighboursOf, Placed, Listed}
+use Rattle.picture.specs.Geometry.{neighboursIn, Placed, Listed}
 use Rattle.topology.proofs.Accepted.{Accepted}
 use Rattle.topology.proofs.Levels.{Upto}
 use Rattle.topology.proofs.Forests.{Found, Block, block-same, block-then, Parents, forest-parents}

@@ -5,7 +5,7 @@ use cells::wide;
 ghost use mathlib.Core.Path.{_≡_};
 ghost use mathlib.Core.Bool.{true};
 ghost use Prim.Native.Nat.{_<_, _≤_, _+_, _*_};
-ghost use lib.ListN.{length, getD, drop};
+ghost use lib.ListN.{length};
 ghost use Rattle.picture.specs.Pictures.{isPicture, pictureOf};
 ghost use Rattle.picture.specs.Trees.{nodes};
 ghost use Rattle.topology.proofs.Settling.{SettledOne, SettleBounds, SettleReady, SettleWalk};

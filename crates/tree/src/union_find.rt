@@ -1,9 +1,8 @@
 // Union-find in cells: a cell below 2048 is a parent, a smaller place; a greater one marks a root with its state.
 use cells::wide;
-ghost use mathlib.Core.Path.{_≡_};
 ghost use Prim.Native.Nat.{_<_, _≤_, _+_, _*_};
-ghost use lib.ListN.{length, getD, set};
-ghost use Rattle.topology.proofs.Forests.{Parents, Split, Found, Block};
+ghost use lib.ListN.{length, getD};
+ghost use Rattle.topology.proofs.Forests.{Parents, Split, Found};
 ghost use Rattle.topology.proofs.Marks.{Marked, Names, MergedIn, LinkedIn};
 
 // The parent of a place; its cell gets the grandparent.

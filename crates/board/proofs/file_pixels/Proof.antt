@@ -1,4 +1,4 @@
--- `board::file_pixels` meets its contract. Assumes nothing.
+-- `board::file_pixels` meets its contract.
 use mathlib.Core.Path.{_≡_, refl, sym, _∙_}
 use native.Mathlib.Omega.{arith}
 use native.Mathlib.Nat.{add-zero}

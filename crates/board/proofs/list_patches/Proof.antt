@@ -1,6 +1,6 @@
 -- `board::list_patches` meets its contract: a walk of its MIR, by hand. Work is lent to `gather` as `&mut` and to `write_records` as `&`, each for a lifetime of the call (`Lending.antt`), and given up to `clear_accepted`; the list is given up to `write_records`.
 -- All that the proof knows of the three callees is that they meet their contracts; `listed` (`PatchLists.antt`) makes the call's promise of theirs.
--- Assumes nothing.
+--
 use mathlib.Core.Path.{_≡_, refl, sym, ap, subst, _∙_}
 use mathlib.Core.List.{List, [], _∷_, _++_}
 use Prim.Native.Nat.{ℕ, _*_, _^_, _≤_, _<_}

@@ -1,4 +1,4 @@
--- `board::read_file` meets its contract. Assumes nothing.
+-- `board::read_file` meets its contract.
 use borrow.Author.Needs.{needs}
 use Rattle.board.proofs.read_file.Statement.{statement}
 use Rattle.board.proofs.read_file.Tie as tie

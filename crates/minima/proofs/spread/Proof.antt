@@ -8,7 +8,8 @@ use Rattle.picture.specs.Geometry.{neighboursOf, Placed}
 use Rattle.picture.proofs.Neighbours.{neighbour-at}
 use Rattle.picture.specs.Pictures.{pictureOf}
 use Rattle.minima.specs.Minima.{Spread}
-use Rattle.minima.proofs.Floods.{listed-at, spread-none, spread-next, spread-room, spread-turn}
+use Rattle.picture.proofs.Neighbours.{listed-at}
+use Rattle.minima.proofs.Floods.{spread-none, spread-next, spread-room, spread-turn}
 use Rattle.minima.proofs.spread.Statement.{statement}
 use Rattle.minima.proofs.spread.Tie as tie
 

@@ -1,4 +1,4 @@
--- `read_report::put_report` meets its contract. Assumes nothing.
+-- `read_report::put_report` meets its contract.
 use native.Mathlib.Omega.{arith}
 use borrow.Author.Needs.{needs}
 use denote.Ref.{now}

@@ -1,4 +1,4 @@
--- `board::reading::answer` meets its contract. Assumes nothing.
+-- `board::reading::answer` meets its contract.
 use mathlib.Core.Path.{refl}
 use borrow.Author.Needs.{needs}
 use Rattle.board.proofs.Files.{refused-read}

@@ -1,5 +1,5 @@
-use borrow.Author.Needs.{needs}
 -- `labels::flood::flood` meets its contract. The invariant is Flowing; twice the unmarked places with the stack's height fall.
+use borrow.Author.Needs.{needs}
 use mathlib.Core.Path.{_≡_, _∙_}
 use Prim.Native.Nat.{suc, _+_, _*_, _-_, _≤_}
 use native.Mathlib.Omega.{arith}

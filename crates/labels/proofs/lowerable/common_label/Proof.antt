@@ -1,5 +1,5 @@
-use borrow.Author.Needs.{needs}
 -- `labels::lowerable::common_label` meets its contract. The invariant: the label common to the first i neighbours.
+use borrow.Author.Needs.{needs}
 use mathlib.Core.Path.{_≡_, sym, ap, subst, _∙_}
 use mathlib.Core.List.{[]}
 use Prim.Native.Nat.{ℕ, _-_, _*_, _≤_, _<_}
@@ -9,7 +9,7 @@ use Rattle.picture.specs.Geometry.{neighboursOf}
 use Rattle.picture.proofs.Neighbours.{neighbour-at}
 use Rattle.topology.proofs.Agreeing.{Common, common-start, common-turn}
 use Rattle.picture.specs.Pictures.{pictureOf}
-use Rattle.labels.proofs.Floods.{listed-at}
+use Rattle.picture.proofs.Neighbours.{listed-at}
 use Rattle.labels.proofs.lowerable.common_label.Statement.{statement}
 use Rattle.labels.proofs.lowerable.common_label.Tie as tie
 

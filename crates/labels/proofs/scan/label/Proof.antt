@@ -1,5 +1,5 @@
-use borrow.Author.Needs.{needs}
 -- `labels::scan::label` meets its contract. The invariant: the scan has come to the place x.
+use borrow.Author.Needs.{needs}
 use mathlib.Core.Path.{_≡_, _∙_}
 use Prim.Native.Nat.{_-_, _≤_}
 use native.Mathlib.Omega.{arith}

@@ -1,4 +1,4 @@
--- `p5::characters::is_digit` meets its contract. Assumes nothing.
+-- `p5::characters::is_digit` meets its contract.
 use mathlib.Core.Path.{_∙_}
 use borrow.Author.Needs.{needs}
 use Rattle.p5.proofs.characters.is_digit.Statement.{statement}

@@ -1,4 +1,4 @@
--- `p5::characters::is_white` meets its contract. Assumes nothing.
+-- `p5::characters::is_white` meets its contract.
 use borrow.Author.Tests.{ne-eqb}
 use Rattle.p5.proofs.characters.is_white.Statement.{statement}
 use Rattle.p5.proofs.characters.is_white.Tie as tie

@@ -1,4 +1,4 @@
--- `p5::field::digits_end` meets its contract. Assumes nothing.
+-- `p5::field::digits_end` meets its contract.
 use borrow.Author.Tests.{eq-eqb, ne-eqb}
 use Rattle.p5.proofs.field.digits_end.Statement.{statement}
 use Rattle.p5.proofs.field.digits_end.Tie as tie

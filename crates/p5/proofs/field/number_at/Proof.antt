@@ -1,4 +1,4 @@
--- `p5::field::number_at` meets its contract. Assumes nothing.
+-- `p5::field::number_at` meets its contract.
 use mathlib.Core.Path.{sym, _∙_}
 use borrow.Author.Needs.{needs}
 use Rattle.p5.proofs.Gap.{number-none, number-some}

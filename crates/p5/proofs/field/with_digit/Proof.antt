@@ -1,12 +1,12 @@
--- `p5::field::with_digit` meets its contract. Assumes nothing.
+-- `p5::field::with_digit` meets its contract.
 use borrow.Author.Tests.{leb-true}
 use borrow.Author.Needs.{needs}
-use Rattle.p5.proofs.Tests.{and-first}
+use Rattle.p5.proofs.Tests.{and-left}
 use Rattle.p5.proofs.field.with_digit.Statement.{statement}
 use Rattle.p5.proofs.field.with_digit.Tie as tie
 
 sub-digit : tie.Need-sub-digit
-sub-digit c = leb-true 48 (c .args .byte) (and-first _ _ (c .pre .1))
+sub-digit c = leb-true 48 (c .args .byte) (and-left _ _ (c .pre .1))
 
 mul-result : tie.Need-mul-result
 mul-result c = search needs

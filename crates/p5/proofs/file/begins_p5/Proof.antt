@@ -1,4 +1,4 @@
--- `p5::file::begins_p5` meets its contract. Assumes nothing.
+-- `p5::file::begins_p5` meets its contract.
 use mathlib.Core.Bool.{and-false}
 use mathlib.Core.Path.{sym}
 use native.Mathlib.Omega.{arith}

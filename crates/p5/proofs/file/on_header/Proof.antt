@@ -1,4 +1,4 @@
--- `p5::file::on_header` meets its contract. Assumes nothing.
+-- `p5::file::on_header` meets its contract.
 use mathlib.Core.Bool.{true, _&&_}
 use mathlib.Core.Path.{_≡_, _∙_}
 use borrow.Author.Needs.{needs}

@@ -1,4 +1,4 @@
--- `p5::file::on_pixels` meets its contract. Assumes nothing.
+-- `p5::file::on_pixels` meets its contract.
 use mathlib.Core.Path.{sym, _∙_}
 use borrow.Author.Needs.{needs}
 use Rattle.p5.proofs.Answers.{pixels-fit, pixels-exceed}

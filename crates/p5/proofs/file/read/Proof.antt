@@ -1,6 +1,6 @@
--- `p5::file::read` meets its contract. Assumes nothing.
+-- `p5::file::read` meets its contract.
 use Rattle.p5.proofs.Tests.{was-true, was-false}
--- `p5::file::read` meets its contract. Assumes nothing.
+-- `p5::file::read` meets its contract.
 use mathlib.Core.Path.{sym, ap, _∙_}
 use borrow.Author.Needs.{needs}
 use denote.Ref.{now}

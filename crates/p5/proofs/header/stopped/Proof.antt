@@ -1,4 +1,4 @@
--- `p5::header::stopped` meets its contract. Assumes nothing.
+-- `p5::header::stopped` meets its contract.
 use mathlib.Core.Path.{sym, ap}
 use borrow.Author.Needs.{needs}
 use Rattle.p5.specs.Headers.{stoppedAt}

@@ -1,4 +1,4 @@
--- `p5::ranges::between` meets its contract. Assumes nothing.
+-- `p5::ranges::between` meets its contract.
 use borrow.Author.Tests.{le-leb, lt-leb}
 use Rattle.p5.proofs.ranges.between.Statement.{statement}
 use Rattle.p5.proofs.ranges.between.Tie as tie

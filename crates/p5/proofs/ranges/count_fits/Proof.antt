@@ -1,4 +1,4 @@
--- `p5::ranges::count_fits` meets its contract. Assumes nothing.
+-- `p5::ranges::count_fits` meets its contract.
 use native.Mathlib.Omega.{arith}
 use borrow.Author.Needs.{needs}
 use Rattle.p5.proofs.Answers.{area}

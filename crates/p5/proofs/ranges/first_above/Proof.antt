@@ -1,4 +1,4 @@
--- `p5::ranges::first_above` meets its contract. Assumes nothing.
+-- `p5::ranges::first_above` meets its contract.
 use mathlib.Core.Path.{_≡_, _∙_}
 use Prim.Native.Nat.{_+_, _-_}
 use native.Mathlib.Nat.{zero-add}

@@ -1,6 +1,6 @@
--- `p5::ranges::sides_fit` meets its contract. Assumes nothing.
+-- `p5::ranges::sides_fit` meets its contract.
 use Rattle.p5.proofs.Tests.{was-true, was-false}
--- `p5::ranges::sides_fit` meets its contract. Assumes nothing.
+-- `p5::ranges::sides_fit` meets its contract.
 use mathlib.Core.Path.{_∙_}
 use borrow.Author.Needs.{needs}
 use Rattle.p5.proofs.ranges.sides_fit.Statement.{statement}

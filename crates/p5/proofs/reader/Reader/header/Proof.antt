@@ -1,7 +1,7 @@
 -- `p5::reader::Reader::header` meets its contract: a walk of its MIR, by hand. Three times the reader's copy is passed to `number`, the answer is taken apart by a `let .. else`, and the position moves on.
 -- The struct is Copy: what it owns as it was passed is kept for the exit, and at each call it is had twice, the second time with the present position in the place of the first.
 -- An answer that is no number is passed to `stopped`, whose answer is returned. What a local holds is forgotten once it is dead, so that all returns leave alike (`leaves`).
--- Assumes nothing.
+--
 use mathlib.Core.Path.{_≡_, refl, ap, _∙_}
 use Prim.Native.Nat.{ℕ, _<_, _^_}
 use mathlib.Core.List.{List, [], _∷_}
