@@ -1,7 +1,7 @@
--- The laws of the sums in three blocks, and of all figures together.
-use mathlib.Core.Path.{_≡_, refl, sym, ap, subst, _∙_}
+-- The laws of all figures together.
+use mathlib.Core.Path.{_≡_, refl, sym, ap, _∙_}
 use mathlib.Core.Bool.{true}
-use mathlib.Core.Logic.{inl, inr, ⊎-elim}
+use mathlib.Core.Logic.{inr}
 use mathlib.Core.List.{List}
 use Prim.Native.Nat.{ℕ, _+_, _*_, _≤_, _<_}
 use native.Mathlib.Nat.{mul-le-mul-left}
@@ -12,78 +12,19 @@ use lib.ListN.{length, getD}
 use Rattle.picture.specs.Lists.{range, highest}
 use Rattle.picture.specs.Pictures.{Picture, places, isPicture}
 use Rattle.picture.specs.Patches.{patches, patchAt, lineCount}
-use Rattle.tree.specs.Arrays.{row, TreeIn}
+use Rattle.tree.specs.Arrays.{TreeIn}
 use Rattle.tree.specs.Built.{Built}
 use Rattle.topology.proofs.Lists.{tally-same, range-mem}
 use Rattle.topology.proofs.Accepted.{Accepted, accepted-is}
 use Rattle.topology.proofs.Nodes.{nodes-few}
 use Rattle.topology.proofs.PatchFigures.{patches-count}
 use Rattle.topology.proofs.PatchSums.{count-few, patch-most, patch-number, patch-size, patch-columns, patch-rows}
-use Rattle.cells.specs.Blocks.{UntouchedOutside, Filled}
+use Rattle.cells.specs.Blocks.{UntouchedOutside}
 use Rattle.patches.specs.Numbers.{Sizes, Mapped, Leaves, patchIn}
-use Rattle.patches.specs.declared.sums.Figure.the-variants.{Size, Columns, Rows}
-use Rattle.patches.specs.Sums.{figureOf, Summing, Summed}
-use Rattle.patches.specs.Figures.{Tree, noPatch, Charted, Patched, Frame, Sums, Figures, PatchMap}
+use Rattle.patches.specs.Sums.{sizes, columns, rows, Frame, Sums}
+use Rattle.patches.specs.Figures.{Tree, noPatch, Charted, Patched, Figures, PatchMap}
 use Rattle.patches.proofs.Numbering.{kept-row, onLine}
 use Rattle.patches.proofs.Charting.{arrays, map-in, leaves-patch}
-
-module _ (w n : ℕ) (numbers work : List ℕ) (f : Frame w n numbers work) where
-  ready : (l : List ℕ) (b : ℕ) → length l ≡ length work → b + n ≤ 3 * n → ((i : ℕ) → i < n → row l b i ≡ 0) → Summing w n numbers l b
-  ready l b e h z =
-      let blocks = f .blocks in
-      let high = f .high in
-      let wide = f .wide in
-      record {
-        some = f .some;
-        wide = f .wide;
-        high = f .high;
-        size = f .size;
-        most = f .most;
-        few = omega arith;
-        block = omega arith;
-        zero = z;
-      }
-
-  module _ (a : List ℕ) (z : Filled 0 (3 * n) 0 work a) where
-    empty : (j : ℕ) → j < 3 * n → getD a j 0 ≡ 0
-    empty j h = let e : 0 + j ≡ j = omega arith in subst (λ (i : ℕ). getD a i 0 ≡ 0) e (z .inside j h)
-
-    pub first-ready : Summing w n numbers a 0
-    first-ready = ready a 0 (z .kept .size) (omega arith) (λ i h. z .inside i (omega arith))
-
-    module _ (b : List ℕ) (s : Summed (figureOf Size w) n numbers 0 n a b) where
-      pub second-ready : Summing w n numbers b n
-      second-ready =
-          ready b n (s .kept .size ∙ z .kept .size) (omega arith)
-          (λ i h. s .kept .outside (n + i) (inr (omega arith)) ∙ empty (n + i) (omega arith))
-
-      module _ (c : List ℕ) (t : Summed (figureOf Columns w) n numbers n n b c) where
-        pub third-ready : Summing w n numbers c (2 * n)
-        third-ready =
-            ready c (2 * n) (t .kept .size ∙ (s .kept .size ∙ z .kept .size)) (omega arith)
-            (λ i h.
-            t .kept .outside (2 * n + i) (inr (omega arith)) ∙
-            (s .kept .outside (2 * n + i) (inr (omega arith)) ∙ empty (2 * n + i) (omega arith)))
-
-        pub sums-end : (d : List ℕ) → Summed (figureOf Rows w) n numbers (2 * n) n c d → Sums w n numbers work d
-        sums-end d u =
-            record {
-              kept =
-                  record {
-                    size = u .kept .size ∙ (t .kept .size ∙ (s .kept .size ∙ z .kept .size));
-                    outside =
-                        λ j h.
-                        let far : 3 * n ≤ j = ⊎-elim (λ q. omega arith) (λ q. omega arith) h in
-                        u .kept .outside j (inr (omega arith)) ∙
-                        (t .kept .outside j (inr (omega arith)) ∙
-                        (s .kept .outside j (inr (omega arith)) ∙ z .kept .outside j h));
-                  };
-              sizes =
-                  λ i h.
-                  u .kept .outside (0 + i) (inl (omega arith)) ∙ (t .kept .outside (0 + i) (inl (omega arith)) ∙ s .sum i h);
-              columns = λ i h. u .kept .outside (n + i) (inl (omega arith)) ∙ t .sum i h;
-              rows = u .sum;
-            }
 
 -- the tree is not touched by changes from the fifth block on
 pub tree-kept : (p : Picture) (l m : List ℕ) → UntouchedOutside (4 * places p) (places p) l m → TreeIn p l → TreeIn p m
@@ -130,20 +71,19 @@ module _ (p : Picture) (count : ℕ) (work : List ℕ) (t : Tree p count work) w
       charted most e =
           record { accepted = t .accepted; size = refl; same = refl; tree = numbered-tree; patch = same; largest = e }
 
-      pub patched-frame : (b : List ℕ) → length b ≡ 5 * places p → Frame (p .width) (places p) cells b
-      patched-frame b e =
+      pub patched-frame : Frame (p .width) (places p) cells
+      patched-frame =
           record {
             some = ok .wide;
             wide = ok .narrow;
             high = mul-le-mul-left (p .width) (ok .short);
             size = long;
             most = λ x h. let q = same x h in let u = patch-most p ok x h in omega arith;
-            blocks = e;
           }
 
       pub figures-all :
           (most q : ℕ) (b c : List ℕ) → most ≡ highest (p .pixels) →
-          Patched (places p) (p .pixels) cells most (places p) a q b → Sums (p .width) (places p) cells b c → Figures p q c cells
+          Patched (places p) (p .pixels) cells most (places p) a q b → Sums (p .width) (places p) (places p) cells b c → Figures p q c cells
       figures-all most q b c e f s =
           let g = f .begun p (charted most e) in
           let n : q ≡ length (patches p) = g .count ∙ sym (patches-count p ok) in
@@ -151,9 +91,9 @@ module _ (p : Picture) (count : ℕ) (work : List ℕ) (t : Tree p count work) w
           record {
             count = n;
             number = λ i h. add-one i ∙ sym (patch-number p ok i noPatch (omega arith));
-            size = λ i h. s .sizes i (omega arith) ∙ sym (patch-size p ok i noPatch (omega arith) cells same);
-            columns = λ i h. s .columns i (omega arith) ∙ sym (patch-columns p ok i noPatch (omega arith) cells same);
-            rows = λ i h. s .rows i (omega arith) ∙ sym (patch-rows p ok i noPatch (omega arith) cells same);
+            size = λ i h. s .sum sizes i (omega arith) ∙ sym (patch-size p ok i noPatch (omega arith) cells same);
+            columns = λ i h. s .sum columns i (omega arith) ∙ sym (patch-columns p ok i noPatch (omega arith) cells same);
+            rows = λ i h. s .sum rows i (omega arith) ∙ sym (patch-rows p ok i noPatch (omega arith) cells same);
             depth = λ i h. s .kept .outside (3 * places p + i) (inr (omega arith)) ∙ g .depth i h;
             height = λ i h. s .kept .outside (4 * places p + i) (inr (omega arith)) ∙ g .height i h;
             map = same;

@@ -3,7 +3,7 @@ use mathlib.Core.Path.{_≡_}
 use mathlib.Core.Bool.{true}
 use mathlib.Core.Logic.{_≢_}
 use mathlib.Core.List.{List}
-use Prim.Native.Nat.{ℕ, suc, _+_, _-_, _*_, _≤_, _<_}
+use Prim.Native.Nat.{ℕ, _+_, _-_, _*_, _≤_, _<_}
 use lib.Dec.{ltb}
 use lib.ListN.{length, getD, set}
 use Rattle.picture.specs.Lists.{pick, tally, range, highest}
@@ -12,10 +12,7 @@ use Rattle.picture.specs.Trees.{nodes}
 use Rattle.picture.specs.Patches.{Patch, patches, patchAt}
 use Rattle.tree.specs.Arrays.{row, TreeIn}
 use Rattle.topology.proofs.Leaves.{bottom}
-use Rattle.topology.proofs.PatchSums.{sumAt}
-use Rattle.patches.specs.declared.sums.Figure.the-variants.{Size, Columns, Rows}
 use Rattle.cells.specs.Blocks.{UntouchedOutside}
-use Rattle.patches.specs.Sums.{figureOf}
 
 -- the cells hold the tree of an accepted picture, of count nodes
 pub record Tree (p : Picture) (count : ℕ) (work : List ℕ) : Type 0 where
@@ -59,22 +56,6 @@ pub record Patched (n : ℕ) (pixels numbers : List ℕ) (most x : ℕ) (work : 
   pub kept : UntouchedOutside (3 * n) (2 * n) work after
   pub few : r ≤ x
   pub begun : (p : Picture) → Charted p n pixels numbers most work → Begun p n x r after
-
--- the numbers of n places, each at most n, and five blocks
-pub record Frame (w n : ℕ) (numbers work : List ℕ) : Type 0 where
-  pub some : 1 ≤ w
-  pub wide : w ≤ 40
-  pub high : n ≤ w * 40
-  pub size : length numbers ≡ n
-  pub most : (x : ℕ) → x < n → getD numbers x 0 ≤ n
-  pub blocks : length work ≡ 5 * n
-
--- the first three blocks hold the sizes, the sums of columns and the sums of rows by number, from 1 on
-pub record Sums (w n : ℕ) (numbers work after : List ℕ) : Type 0 where
-  pub kept : UntouchedOutside 0 (3 * n) work after
-  pub sizes : (i : ℕ) → i < n → row after 0 i ≡ sumAt (figureOf Size w) numbers (suc i) n
-  pub columns : (i : ℕ) → i < n → row after n i ≡ sumAt (figureOf Columns w) numbers (suc i) n
-  pub rows : (i : ℕ) → i < n → row after (2 * n) i ≡ sumAt (figureOf Rows w) numbers (suc i) n
 
 -- r patches; patch i + 1 has its size in the first block at i, its column sum in the second, its row sum in the third, its depth in the fourth, its height in the fifth; the cells hold the patch of each place
 pub record Figures (p : Picture) (r : ℕ) (work cells : List ℕ) : Type 0 where

@@ -1,50 +1,64 @@
--- Sums by patch number in a block of cells.
+-- Sums by patch number in blocks of cells.
 use mathlib.Core.Path.{_≡_}
 use mathlib.Core.List.{List}
-use Prim.Native.Nat.{ℕ, zero, suc, _+_, _*_, _/_, _%_, _≤_, _<_}
+use Prim.Native.Nat.{ℕ, suc, _+_, _*_, _/_, _%_, _≤_, _<_}
+use lib.Dec.{eqb}
 use lib.ListN.{length, getD, set}
+use Rattle.picture.specs.Lists.{pick}
 use Rattle.tree.specs.Arrays.{row}
 use Rattle.topology.proofs.PatchSums.{sumAt}
-use Rattle.patches.specs.declared.sums.Figure.{Figure}
-use Rattle.patches.specs.declared.sums.Figure.the-variants.{Size, Columns, Rows}
 use Rattle.cells.specs.Blocks.{UntouchedOutside}
 
--- what a place adds to a figure, by the width
-abbrev pub figureOf : Figure → ℕ → ℕ → ℕ
-figureOf Size w x = 1
-figureOf Columns w x = x % w
-figureOf Rows w x = x / w
+-- the figures that are sums over the places of a patch
+pub data Figure : Type 0 where
+  sizes : Figure
+  columns : Figure
+  rows : Figure
 
--- the width is 1 to 40, and the place lies in one of 40 rows
-pub record Framed (w x : ℕ) : Type 0 where
-  pub some : 1 ≤ w
-  pub wide : w ≤ 40
-  pub high : x < w * 40
+-- what a place adds, by its column and its row
+abbrev pub term : ℕ → ℕ → Figure → ℕ
+term u v sizes = 1
+term u v columns = u
+term u v rows = v
 
--- the place x has a number, whose entry in the block from b on is there and has room
-pub record Ready (x : ℕ) (numbers work : List ℕ) (b : ℕ) : Type 0 where
-  pub place : x < length numbers
-  pub few : length work ≤ 8000
-  pub entry : (i : ℕ) → getD numbers x 0 ≡ suc i → b + i < length work
-  pub room : (i : ℕ) → getD numbers x 0 ≡ suc i → row work b i ≤ 65000
+-- where the block of a figure begins
+abbrev pub base : ℕ → Figure → ℕ
+base n sizes = 0
+base n columns = n
+base n rows = 2 * n
 
--- g is added to the entry of the number c, if that is not 0
-pub data Added (g c : ℕ) (work : List ℕ) (b : ℕ) (after : List ℕ) : Type 0 where
-  none : c ≡ 0 → after ≡ work → Added g c work b after
-  some : (i : ℕ) → c ≡ suc i → after ≡ set work (b + i) (row work b i + g) → Added g c work b after
+-- v is added to the entry i
+abbrev pub raised : List ℕ → ℕ → ℕ → List ℕ
+raised l i v = set l i (getD l i 0 + v)
 
--- a number of at most n for each of n places, and n cells from b on that are 0
-pub record Summing (w n : ℕ) (numbers work : List ℕ) (b : ℕ) : Type 0 where
+-- the entry i is there and has room for one term more
+pub record Raisable (l : List ℕ) (i : ℕ) : Type 0 where
+  pub inside : i < length l
+  pub few : length l ≤ 8000
+  pub room : getD l i 0 ≤ 65000
+
+-- c is 0 or a number whose sums have room for one term more
+pub record Room (n c : ℕ) (work : List ℕ) : Type 0 where
+  pub few : n ≤ 1600
+  pub blocks : length work ≡ 5 * n
+  pub number : c ≤ n
+  pub room : (k : Figure) (i : ℕ) → c ≡ suc i → row work (base n k) i ≤ 65000
+
+-- each sum of the number c is more by its term
+pub record Added (n c : ℕ) (t : Figure → ℕ) (work after : List ℕ) : Type 0 where
+  pub kept : UntouchedOutside 0 (3 * n) work after
+  pub sum : (k : Figure) (i : ℕ) → i < n → row after (base n k) i ≡ row work (base n k) i + pick (eqb c (suc i)) (t k) 0
+
+-- the numbers of n places, each at most n, in at most 40 rows of w
+pub record Frame (w n : ℕ) (numbers : List ℕ) : Type 0 where
   pub some : 1 ≤ w
   pub wide : w ≤ 40
   pub high : n ≤ w * 40
   pub size : length numbers ≡ n
   pub most : (x : ℕ) → x < n → getD numbers x 0 ≤ n
-  pub few : length work ≤ 8000
-  pub block : b + n ≤ length work
-  pub zero : (i : ℕ) → i < n → row work b i ≡ 0
 
--- the n cells from b on hold the sums of g over the first x places by number, from 1 on
-pub record Summed (g : ℕ → ℕ) (n : ℕ) (numbers : List ℕ) (b x : ℕ) (work after : List ℕ) : Type 0 where
-  pub kept : UntouchedOutside b n work after
-  pub sum : (i : ℕ) → i < n → row after b i ≡ sumAt g numbers (suc i) x
+-- the first three blocks hold the sizes, the sums of columns and the sums of rows over the first x places by number, from 1 on
+pub record Sums (w n x : ℕ) (numbers work after : List ℕ) : Type 0 where
+  pub kept : UntouchedOutside 0 (3 * n) work after
+  pub blocks : length after ≡ 5 * n
+  pub sum : (k : Figure) (i : ℕ) → i < n → row after (base n k) i ≡ sumAt (λ y. term (y % w) (y / w) k) numbers (suc i) x

@@ -1,9 +1,7 @@
 // The figures of the patches, each in a block of cells by number: sizes, columns, rows, depths, heights.
 use crate::numbers::map_patches;
 use crate::numbers::number;
-use crate::sums::Figure;
-use crate::sums::sum_block;
-use cells::fill;
+use crate::sums::put_sums;
 use cells::level;
 use cells::wide;
 ghost use mathlib.Core.Path.{_≡_};
@@ -14,7 +12,7 @@ ghost use Rattle.picture.specs.Lists.{pick, highest};
 ghost use Rattle.picture.specs.Patches.{centre};
 ghost use Rattle.picture.specs.Pictures.{pictureOf};
 ghost use Rattle.patches.specs.Numbers.{Sizes, Mapped};
-ghost use Rattle.patches.specs.Figures.{Tree, depthIn, Put, Patched, Frame, Sums, Figures};
+ghost use Rattle.patches.specs.Figures.{Tree, depthIn, Put, Patched, Figures};
 
 // The larger of a pixel and the largest so far.
 fn larger(pixel: u8, most: u8) -> u8
@@ -97,17 +95,6 @@ fn put_patches(n: usize, pixels: &[u8], map: &[u16], most: u16, work: &mut [u16]
     r
 }
 
-// Puts the sizes, the sums of columns and the sums of rows into the first three blocks.
-fn put_sums(w: usize, n: usize, map: &[u16], work: &mut [u16])
-    requires { ⌜ Frame w n (now map) (now work) ⌝ }
-    ensures { λ _. ⌜ Sums w n (now (map .entry)) (now (work .entry)) (now (work .exit)) ⌝ }
-{
-    fill(work, 0, 3 * n, 0);
-    sum_block(Figure::Size, w, n, map, work, 0);
-    sum_block(Figure::Columns, w, n, map, work, n);
-    sum_block(Figure::Rows, w, n, map, work, 2 * n);
-}
-
 // The figures of the patches of a picture whose tree of count nodes is in work, and in the cells the patch of each place.
 pub fn figures(
     a: u32,
@@ -122,12 +109,13 @@ pub fn figures(
     ensures { λ r. ⌜ Figures (pictureOf a w h (now (pixels .entry))) r (now (work .exit)) (now (cells .exit)) ⌝ }
 {
     let width = w as usize;
-    let n = width * h as usize;
+    let height = h as usize;
+    let n = width * height;
     number(n, count, work, cells);
     map_patches(n, pixels, work, cells);
     let most = level(largest(pixels));
     let r = put_patches(n, pixels, cells, most, work);
-    put_sums(width, n, cells, work);
+    put_sums(width, height, n, cells, work);
     r
 }
 

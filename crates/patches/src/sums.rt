@@ -1,49 +1,60 @@
 // Sums over the places of each patch: sizes, columns, rows.
+use cells::fill;
 use cells::wide;
 ghost use mathlib.Core.Path.{_≡_};
-ghost use lib.ListN.{getD};
-ghost use Rattle.patches.specs.Sums.{figureOf, Framed, Ready, Added, Summing, Summed};
+ghost use Prim.Native.Nat.{_+_, _*_, _≤_};
+ghost use lib.ListN.{length};
+ghost use Rattle.patches.specs.Sums.{term, raised, Raisable, Room, Added, Frame, Sums};
 
-// A figure that is a sum over the places of a patch.
-pub enum Figure {
-    Size,
-    Columns,
-    Rows,
+// Adds v to the cell i.
+fn add_to(cells: &mut [u16], i: usize, v: u16)
+    requires { ⌜ Raisable (now cells) i × (v ≤ 39) ⌝ }
+    ensures { λ _. ⌜ now (cells .exit) ≡ raised (now (cells .entry)) i v ⌝ }
+{
+    cells[i] = cells[i] + v;
 }
 
-// The term of a place in a sum.
-fn term(kind: Figure, w: usize, x: usize) -> u16
-    requires { ⌜ Framed w x ⌝ }
-    ensures { λ r. ⌜ r ≡ figureOf kind w x ⌝ }
+// Adds a place of the patch c to its three sums, none for 0.
+fn add_place(n: usize, c: usize, column: u16, row: u16, work: &mut [u16])
+    requires { ⌜ Room n c (now work) × (column ≤ 39) × (row ≤ 39) ⌝ }
+    ensures { λ _. ⌜ Added n c (term column row) (now (work .entry)) (now (work .exit)) ⌝ }
 {
-    match kind {
-        Figure::Size => 1,
-        Figure::Columns => (x % w) as u16,
-        Figure::Rows => (x / w) as u16,
-    }
-}
-
-// Adds what the place x adds to the entry of its patch in the block that begins at b.
-fn add_place(kind: Figure, w: usize, x: usize, map: &[u16], work: &mut [u16], b: usize)
-    requires { ⌜ Framed w x × Ready x (now map) (now work) b ⌝ }
-    ensures { λ _. ⌜ Added (figureOf kind w x) (getD (now (map .entry)) x 0) (now (work .entry)) b (now (work .exit)) ⌝ }
-{
-    let c = wide(map[x]);
     if c == 0 {
         return;
     }
-    let i = b + (c - 1);
-    work[i] = work[i] + term(kind, w, x);
+    let i = c - 1;
+    add_to(work, i, 1);
+    add_to(work, n + i, column);
+    add_to(work, 2 * n + i, row);
 }
 
-// Sums a figure by patch number over all places, into the n cells from b on, which are 0.
-pub fn sum_block(kind: Figure, w: usize, n: usize, map: &[u16], work: &mut [u16], b: usize)
-    requires { ⌜ Summing w n (now map) (now work) b ⌝ }
-    ensures { λ _. ⌜ Summed (figureOf kind w) n (now (map .entry)) b n (now (work .entry)) (now (work .exit)) ⌝ }
+// Adds the places of a row to the sums over the rows before it.
+fn sum_row(w: usize, n: usize, row: usize, map: &[u16], work: &mut [u16])
+    requires { ⌜ Frame w n (now map) × (row * w + w ≤ n) × Sums w n (row * w) (now map) (now work) (now work) ⌝ }
+    ensures { λ _. ⌜ Sums w n (row * w + w) (now (map .entry)) (now (work .entry)) (now (work .exit)) ⌝ }
 {
-    let mut x = 0;
-    while x < n {
-        add_place(kind, w, x, map, work, b);
-        x += 1;
+    let mut column = 0;
+    while column < w {
+        add_place(
+            n,
+            wide(map[row * w + column]),
+            column as u16,
+            row as u16,
+            work,
+        );
+        column += 1;
+    }
+}
+
+// Puts the sizes, the sums of columns and the sums of rows into the first three blocks.
+pub fn put_sums(w: usize, h: usize, n: usize, map: &[u16], work: &mut [u16])
+    requires { ⌜ Frame w n (now map) × (n ≡ w * h) × (length (now work) ≡ 5 * n) ⌝ }
+    ensures { λ _. ⌜ Sums w n n (now (map .entry)) (now (work .entry)) (now (work .exit)) ⌝ }
+{
+    fill(work, 0, 3 * n, 0);
+    let mut row = 0;
+    while row < h {
+        sum_row(w, n, row, map, work);
+        row += 1;
     }
 }

@@ -1,5 +1,5 @@
 -- `patches::figures::figures` meets its contract: the numbers, the patch of each place, the depths and heights, the sums.
-use mathlib.Core.Path.{_∙_}
+use mathlib.Core.Path.{refl, _∙_}
 use borrow.Author.Needs.{needs}
 use Rattle.picture.specs.Pictures.{pictureOf}
 use Rattle.patches.proofs.Figuring.{tree-mapped, tree-few, tree-pixels, numbered-mapped, numbered-size, patched-frame, figures-all}
@@ -53,9 +53,11 @@ put-sums-requires : tie.Need-put-sums-requires
 put-sums-requires c κs =
     let s = c .before .before .before .before .before .before .before .before .before .before .before .before .before .before .before .before .before .before .before .before .before .before .before .before in
     let p = pictureOf (s .args .a) (s .args .w) (s .args .h) (s .args .pixels .now) in
-    let l = c .before .before .before .before .before .before .before .before .before .before .before .before .before .before .before .before .before .before .number .ensures in
-    patched-frame p _ _ (s .pre .0) _ _ l _ (let z = s .pre .1 .beside in search needs) (c .before .before .before .before .before .before .before .before .before .before .before .map-patches .ensures) _
-    (c .before .before .before .before .put-patches .ensures .kept .size ∙ (numbered-size p _ _ (s .pre .0) _ _ l ∙ s .pre .1 .blocks))
+    let l = c .before .before .before .before .before .before .before .before .before .before .before .before .before .before .before .before .before .before .number .ensures in (
+      patched-frame p _ _ (s .pre .0) _ _ l _ (let z = s .pre .1 .beside in search needs) (c .before .before .before .before .before .before .before .before .before .before .before .map-patches .ensures),
+      refl,
+      c .before .before .before .before .put-patches .ensures .kept .size ∙ (numbered-size p _ _ (s .pre .0) _ _ l ∙ s .pre .1 .blocks),
+    )
 
 same-length : tie.Need-same-length
 same-length c = search needs
