@@ -20,7 +20,7 @@ pub fn value(pixel: u8) -> usize
 }
 
 // A pixel's value as a cell.
-pub fn level(x: u8) -> u16
+pub fn cell_of(x: u8) -> u16
     ensures { λ r. ⌜ r ≡ x ⌝ }
 {
     x as u16

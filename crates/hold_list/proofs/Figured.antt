@@ -15,7 +15,7 @@ use Rattle.topology.proofs.Lists.{tally-length, length-range}
 use Rattle.topology.proofs.Accepted.{Accepted, places-bound}
 use Rattle.topology.proofs.PatchFigures.{bottom-number}
 use Rattle.topology.proofs.PatchSums.{sumAt, sum-in, sum-out, patch-begins, count-few, patch-size}
-use Rattle.tree.specs.Arrays.{row}
+use Rattle.tree.specs.Arrays.{blockEntry}
 use Rattle.p5.proofs.Answers.{rest-is}
 use Rattle.patches.specs.Figures.{noPatch, Figures}
 use Rattle.hold_lines.specs.Figures.{flat, lineAt, Lists}
@@ -53,7 +53,7 @@ sum-least g numbers c z (suc m) b e =
 abbrev pub from : ℕ → List ℕ → List ℕ
 from b l = take (length l - b) (drop b l)
 
-from-at : (b i : ℕ) (l : List ℕ) → getD (from b l) i 0 ≡ row l b i
+from-at : (b i : ℕ) (l : List ℕ) → getD (from b l) i 0 ≡ blockEntry l b i
 from-at b i l = ap (λ (m : List ℕ). getD m i 0) (rest-is b l) ∙ getD-drop b l i 0
 
 from-length : (b : ℕ) (l : List ℕ) → length (from b l) ≡ length l - b
@@ -84,8 +84,8 @@ module _ (p : Picture) (r n : ℕ) (work cells : List ℕ) (ok : Accepted p) (si
       omega arith
 
   -- the entry of a block
-  at : (k b i : ℕ) → b ≡ k → (q : ℕ) → row work k i ≡ q → getD (from b work) i 0 ≡ q
-  at k b i e q h = from-at b i work ∙ (ap (λ (m : ℕ). row work m i) e ∙ h)
+  at : (k b i : ℕ) → b ≡ k → (q : ℕ) → blockEntry work k i ≡ q → getD (from b work) i 0 ≡ q
+  at k b i e q h = from-at b i work ∙ (ap (λ (m : ℕ). blockEntry work m i) e ∙ h)
 
   first : (i : ℕ) → i < r → getD (take n work) i 0 ≡ getD (patches p) i noPatch .size
   first i h =

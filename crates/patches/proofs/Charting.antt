@@ -12,7 +12,7 @@ use Rattle.picture.specs.Lists.{pick, tally, range, highest}
 use Rattle.picture.specs.Pictures.{Picture, places, valueAt}
 use Rattle.picture.specs.Trees.{Node, nodes, nodeAt, fatherOf, mapOf}
 use Rattle.picture.specs.Patches.{patchAt, depthOf}
-use Rattle.tree.specs.Arrays.{row, TreeIn}
+use Rattle.tree.specs.Arrays.{blockEntry, TreeIn}
 use Rattle.topology.proofs.Tests.{on-test, same-test, clash}
 use Rattle.topology.proofs.Lists.{tally-same, range-mem}
 use Rattle.topology.proofs.Accepted.{Accepted, places-bound}
@@ -29,9 +29,9 @@ use Rattle.patches.proofs.Numbering.{kept-row, starts-true, starts-is, 
 -- the arrays of the tree of p in blocks of n
 pub record Arrays (p : Picture) (n : ℕ) (work : List ℕ) : Type 0 where
   pub heights : (i : ℕ) → i < length (nodes p) → getD work i 0 ≡ nodeAt p i .height
-  pub fathers : (i : ℕ) → i < length (nodes p) → row work n i ≡ fatherOf p (nodeAt p i)
-  pub map : (x : ℕ) → x < n → row work (2 * n) x ≡ mapOf p x
-  pub firsts : (i : ℕ) → i < length (nodes p) → row work (3 * n) i ≡ nodeAt p i .first
+  pub fathers : (i : ℕ) → i < length (nodes p) → blockEntry work n i ≡ fatherOf p (nodeAt p i)
+  pub map : (x : ℕ) → x < n → blockEntry work (2 * n) x ≡ mapOf p x
+  pub firsts : (i : ℕ) → i < length (nodes p) → blockEntry work (3 * n) i ≡ nodeAt p i .first
 
 pub arrays : (p : Picture) (n : ℕ) (work : List ℕ) → n ≡ places p → TreeIn p work → Arrays p n work
 arrays p n work e t =
@@ -44,22 +44,22 @@ arrays p n work e t =
     })
 
 -- depths by the arrays
-module _ (n : ℕ) (work : List ℕ) (most m f : ℕ) (e : f ≡ row work n m) where
+module _ (n : ℕ) (work : List ℕ) (most m f : ℕ) (e : f ≡ blockEntry work n m) where
   pub depth-below : f < n → getD work f 0 - getD work m 0 ≡ depthIn n work most m
   unfolding depthIn
   depth-below h =
       sym
-      (ap (λ (b : Bool). pick b (getD work (row work n m) 0) most - getD work m 0) (lt-ltb (row work n m) n (omega arith)) ∙
+      (ap (λ (b : Bool). pick b (getD work (blockEntry work n m) 0) most - getD work m 0) (lt-ltb (blockEntry work n m) n (omega arith)) ∙
       ap (λ (i : ℕ). getD work i 0 - getD work m 0) (sym e))
 
   pub depth-top : n ≤ f → most - getD work m 0 ≡ depthIn n work most m
   unfolding depthIn
   depth-top h =
-      sym (ap (λ (b : Bool). pick b (getD work (row work n m) 0) most - getD work m 0) (le-ltb (row work n m) n (omega arith)))
+      sym (ap (λ (b : Bool). pick b (getD work (blockEntry work n m) 0) most - getD work m 0) (le-ltb (blockEntry work n m) n (omega arith)))
 
 pub depth-kept : (n most m : ℕ) (work l : List ℕ) → UntouchedOutside (3 * n) (2 * n) work l → m < n → depthIn n l most m ≡ depthIn n work most m
 depth-kept n most m work l k h =
-    let f = row work n m in
+    let f = blockEntry work n m in
     let e = kept-row (3 * n) (2 * n) n m k (omega arith) in
     let own : getD l m 0 ≡ getD work m 0 = k .outside m (inl (omega arith)) in
     by-cases (decLt f n)
@@ -74,7 +74,7 @@ depth-kept n most m work l k h =
     omega arith)
 
 module _ (p : Picture) (ok : Accepted p) (n : ℕ) (e : n ≡ places p) (work : List ℕ) (t : Arrays p n work) where
-  pub map-in : (x : ℕ) → x < n → row work (2 * n) x < n
+  pub map-in : (x : ℕ) → x < n → blockEntry work (2 * n) x < n
   map-in x h =
       let a = t .map x h in
       let b = map-found p ok x (omega arith) in
@@ -119,10 +119,10 @@ module _ (p : Picture) (ok : Accepted p) (n : ℕ) (e : n ≡ places p) (work : 
         let i : s .son < length (nodes p) = omega arith in
         absurd (clash h (father-leaf p ok m (s .son) b i (sym (t .fathers (s .son) i) ∙ s .father))))
 
-    same-map : (x : ℕ) → x < n → row (l .cleared) (2 * n) x ≡ mapOf p x
+    same-map : (x : ℕ) → x < n → blockEntry (l .cleared) (2 * n) x ≡ mapOf p x
     same-map x h = kept-row (4 * n) n (2 * n) x (l .kept) (omega arith) ∙ t .map x h
 
-    same-first : (m : ℕ) → m < length (nodes p) → row (l .cleared) (3 * n) m ≡ nodeAt p m .first
+    same-first : (m : ℕ) → m < length (nodes p) → blockEntry (l .cleared) (3 * n) m ≡ nodeAt p m .first
     same-first m h = let few = nodes-few p in kept-row (4 * n) n (3 * n) m (l .kept) (omega arith) ∙ t .firsts m h
 
     -- the places that start a leaf are the first places of minima
@@ -136,11 +136,11 @@ module _ (p : Picture) (ok : Accepted p) (n : ℕ) (e : n ≡ places p) (work : 
         (λ s.
         let q = starts-is n (l .cleared) (l .marks) x s in
         map-bottom p ok x b
-        (sym (same-first m i) ∙ (ap (row (l .cleared) (3 * n)) (sym e) ∙ q .0))
+        (sym (same-first m i) ∙ (ap (blockEntry (l .cleared) (3 * n)) (sym e) ∙ q .0))
         (free-leaf m i (ap (λ (j : ℕ). getD (l .marks) j 0) (sym e) ∙ q .1)))
         (λ s.
         starts-true n (l .cleared) (l .marks) x
-        (ap (row (l .cleared) (3 * n)) e ∙ (same-first m i ∙ ap (λ (k : Node). k .first) (bottom-map p ok x b s)))
+        (ap (blockEntry (l .cleared) (3 * n)) e ∙ (same-first m i ∙ ap (λ (k : Node). k .first) (bottom-map p ok x b s)))
         (ap (λ (j : ℕ). getD (l .marks) j 0) e ∙ leaf-free m i (bottom-leaf p ok x b s)))
 
     same-tally : (x : ℕ) → x ≤ n → tally (starts n (l .cleared) (l .marks)) (range 0 x) ≡ tally (bottom p) (range 0 x)
@@ -149,17 +149,17 @@ module _ (p : Picture) (ok : Accepted p) (n : ℕ) (e : n ≡ places p) (work : 
         (λ y m. let b = range-mem 0 x m in starts-bottom y (omega arith))
 
     -- the number of a leaf is that of the patch that begins there
-    leaf-number : (m : ℕ) → m < length (nodes p) → leafNode p m ≡ true → row after (4 * n) m ≡ patchAt p (nodeAt p m .first)
+    leaf-number : (m : ℕ) → m < length (nodes p) → leafNode p m ≡ true → blockEntry after (4 * n) m ≡ patchAt p (nodeAt p m .first)
     leaf-number m b h =
         let z = nodeAt p m .first in
         let (k, q) = leaf-bottom p ok m b h in
         let zb = node-is p m b .place .within in
         let zn : z < n = omega arith in
         let s = starts-bottom z zn ∙ q in
-        ap (row after (4 * n)) (sym (same-map z zn ∙ leaf-mapped p ok m b h)) ∙
+        ap (blockEntry after (4 * n)) (sym (same-map z zn ∙ leaf-mapped p ok m b h)) ∙
         (l .numbers .number z zn s ∙ (ap suc (same-tally z (omega arith)) ∙ sym (bottom-number p ok z zb q)))
 
-    fork-number : (m : ℕ) → m < length (nodes p) → leafNode p m ≡ false → row after (4 * n) m ≡ 0
+    fork-number : (m : ℕ) → m < length (nodes p) → leafNode p m ≡ false → blockEntry after (4 * n) m ≡ 0
     fork-number m b h =
         let few = nodes-few p in
         l .numbers .other m (omega arith)
@@ -175,7 +175,7 @@ module _ (p : Picture) (ok : Accepted p) (n : ℕ) (e : n ≡ places p) (work : 
         let m = mapOf p x in
         let i = map-found p ok x b in
         let few = nodes-few p in
-        let mapped : m ≡ row after (2 * n) x =
+        let mapped : m ≡ blockEntry after (2 * n) x =
         sym (kept-row (4 * n) n (2 * n) x (l .numbers .kept) (omega arith) ∙ same-map x h)
         in
         let own : getD after m 0 ≡ nodeAt p m .height =

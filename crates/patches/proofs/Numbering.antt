@@ -12,7 +12,7 @@ use lib.ListN.{length, getD, set, length-set}
 use lib.Seq.{getD-set-same, getD-set-other}
 use borrow.Author.Tests.{eqb-true, eq-eqb, ne-eqb}
 use Rattle.picture.specs.Lists.{pick, tally, range}
-use Rattle.tree.specs.Arrays.{row}
+use Rattle.tree.specs.Arrays.{blockEntry}
 use Rattle.topology.proofs.Tests.{and-left, and-right, and-both, clash}
 use Rattle.topology.proofs.Lists.{tally-length, length-range}
 use Rattle.topology.proofs.Positions.{tally-next-in, tally-next-out}
@@ -22,7 +22,7 @@ use Rattle.patches.specs.Numbers.{Mapped, Cleared, Mark, beyond, marked,
 use Rattle.cells.proofs.Blocks.{kept-refl, kept-set}
 
 -- an entry before the block that may have changed
-pub kept-row : (b n o i : ℕ) {l m : List ℕ} → UntouchedOutside b n l m → o + i < b → row m o i ≡ row l o i
+pub kept-row : (b n o i : ℕ) {l m : List ℕ} → UntouchedOutside b n l m → o + i < b → blockEntry m o i ≡ blockEntry l o i
 kept-row b n o i k h = k .outside (o + i) (inl h)
 
 pub cleared-mapped : (n : ℕ) (l m : List ℕ) → UntouchedOutside (4 * n) n l m → Mapped n l → Mapped n m
@@ -41,7 +41,7 @@ module _ (n : ℕ) (work : List ℕ) where
       }
 
   -- the father of one node more
-  pub marks-more : (j f : ℕ) (l m : List ℕ) → f ≡ row work n j → Marks n j work l → Mark f l m → Marks n (j + 1) work m
+  pub marks-more : (j f : ℕ) (l m : List ℕ) → f ≡ blockEntry work n j → Marks n j work l → Mark f l m → Marks n (j + 1) work m
   marks-more j f l m e k (beyond h q) =
       let size = k .size in
       subst (Marks n (j + 1) work) (sym q)
@@ -50,7 +50,7 @@ module _ (n : ℕ) (work : List ℕ) where
         free =
             λ i b z a c.
             by-cases (ℕ-discrete a j)
-            (λ d w. let u = ap (row work n) d in absurd (omega arith))
+            (λ d w. let u = ap (blockEntry work n) d in absurd (omega arith))
             (λ d. k .free i b z a (omega arith));
         taken = λ i b d. later (k .taken i b d);
       })
@@ -67,7 +67,7 @@ module _ (n : ℕ) (work : List ℕ) where
             (λ w. let v = w .1 in absurd (omega arith))
             (λ w a c.
             by-cases (ℕ-discrete a j)
-            (λ d g. w .0 (sym (e ∙ (ap (row work n) (sym d) ∙ g))))
+            (λ d g. w .0 (sym (e ∙ (ap (blockEntry work n) (sym d) ∙ g))))
             (λ d. k .free i b (sym (w .1) ∙ z) a (omega arith)))
             (set-cases l f 1 i h);
         taken =
@@ -85,31 +85,31 @@ module _ (n : ℕ) (work : List ℕ) where
   marks-end count j l a b k = let e : j ≡ count = omega arith in subst (λ (i : ℕ). Marks n i work l) e k
 
 module _ (n : ℕ) (work marks : List ℕ) where
-  pub starts-true : (x : ℕ) → row work (3 * n) (row work (2 * n) x) ≡ x → getD marks (row work (2 * n) x) 0 ≡ 0 → starts n work marks x ≡ true
+  pub starts-true : (x : ℕ) → blockEntry work (3 * n) (blockEntry work (2 * n) x) ≡ x → getD marks (blockEntry work (2 * n) x) 0 ≡ 0 → starts n work marks x ≡ true
   unfolding starts
   starts-true x e z =
-      and-both (eqb (row work (3 * n) (row work (2 * n) x)) x) _ (eq-eqb _ _ e) (eq-eqb _ _ z)
+      and-both (eqb (blockEntry work (3 * n) (blockEntry work (2 * n) x)) x) _ (eq-eqb _ _ e) (eq-eqb _ _ z)
 
-  starts-other : (x : ℕ) → row work (3 * n) (row work (2 * n) x) ≢ x → starts n work marks x ≡ false
+  starts-other : (x : ℕ) → blockEntry work (3 * n) (blockEntry work (2 * n) x) ≢ x → starts n work marks x ≡ false
   unfolding starts
-  starts-other x d = ap (λ (b : Bool). b && eqb (getD marks (row work (2 * n) x) 0) 0) (ne-eqb _ _ d)
+  starts-other x d = ap (λ (b : Bool). b && eqb (getD marks (blockEntry work (2 * n) x) 0) 0) (ne-eqb _ _ d)
 
-  starts-marked : (x : ℕ) → row work (3 * n) (row work (2 * n) x) ≡ x → getD marks (row work (2 * n) x) 0 ≢ 0 → starts n work marks x ≡ false
+  starts-marked : (x : ℕ) → blockEntry work (3 * n) (blockEntry work (2 * n) x) ≡ x → getD marks (blockEntry work (2 * n) x) 0 ≢ 0 → starts n work marks x ≡ false
   unfolding starts
   starts-marked x e d =
-      ap (λ (b : Bool). b && eqb (getD marks (row work (2 * n) x) 0) 0) (eq-eqb _ _ e) ∙ ne-eqb _ _ d
+      ap (λ (b : Bool). b && eqb (getD marks (blockEntry work (2 * n) x) 0) 0) (eq-eqb _ _ e) ∙ ne-eqb _ _ d
 
-  pub starts-is : (x : ℕ) → starts n work marks x ≡ true → (row work (3 * n) (row work (2 * n) x) ≡ x) × (getD marks (row work (2 * n) x) 0 ≡ 0)
+  pub starts-is : (x : ℕ) → starts n work marks x ≡ true → (blockEntry work (3 * n) (blockEntry work (2 * n) x) ≡ x) × (getD marks (blockEntry work (2 * n) x) 0 ≡ 0)
   unfolding starts
   starts-is x h = (
-    eqb-true _ _ (and-left (eqb (row work (3 * n) (row work (2 * n) x)) x) (eqb (getD marks (row work (2 * n) x) 0) 0) h),
-    eqb-true _ _ (and-right (eqb (row work (3 * n) (row work (2 * n) x)) x) (eqb (getD marks (row work (2 * n) x) 0) 0) h),
+    eqb-true _ _ (and-left (eqb (blockEntry work (3 * n) (blockEntry work (2 * n) x)) x) (eqb (getD marks (blockEntry work (2 * n) x) 0) 0) h),
+    eqb-true _ _ (and-right (eqb (blockEntry work (3 * n) (blockEntry work (2 * n) x)) x) (eqb (getD marks (blockEntry work (2 * n) x) 0) 0) h),
   )
 
   -- the three cases of a place, its node m and the node's first place f
-  module _ (x r m f : ℕ) (e : m ≡ row work (2 * n) x) (g : f ≡ row work (3 * n) m) where
-    first-is : row work (3 * n) (row work (2 * n) x) ≡ f
-    first-is = ap (row work (3 * n)) (sym e) ∙ sym g
+  module _ (x r m f : ℕ) (e : m ≡ blockEntry work (2 * n) x) (g : f ≡ blockEntry work (3 * n) m) where
+    first-is : blockEntry work (3 * n) (blockEntry work (2 * n) x) ≡ f
+    first-is = ap (blockEntry work (3 * n)) (sym e) ∙ sym g
 
     pub number-other : f ≢ x → Number n x work marks r work r
     number-other d = passed (starts-other x (λ q. d (sym first-is ∙ q))) refl refl
@@ -139,22 +139,22 @@ module _ (n : ℕ) (work marks : List ℕ) where
         let c = length-range 0 x in
         omega arith
 
-    same-map : (z : ℕ) → z < n → row l (2 * n) z ≡ row work (2 * n) z
+    same-map : (z : ℕ) → z < n → blockEntry l (2 * n) z ≡ blockEntry work (2 * n) z
     same-map z h = kept-row (4 * n) n (2 * n) z (k .kept) (omega arith)
 
     pub numbers-mapped : Mapped n l
     numbers-mapped = record { map = λ z h. let e = same-map z h in let q = maps .map z h in omega arith }
 
-    same-first : row l (3 * n) (row l (2 * n) x) ≡ row work (3 * n) (row work (2 * n) x)
+    same-first : blockEntry l (3 * n) (blockEntry l (2 * n) x) ≡ blockEntry work (3 * n) (blockEntry work (2 * n) x)
     same-first =
         let q = maps .map x b in
-        ap (row l (3 * n)) (same-map x b) ∙ kept-row (4 * n) n (3 * n) (row work (2 * n) x) (k .kept) (omega arith)
+        ap (blockEntry l (3 * n)) (same-map x b) ∙ kept-row (4 * n) n (3 * n) (blockEntry work (2 * n) x) (k .kept) (omega arith)
 
     same-starts : starts n l marks x ≡ starts n work marks x
     unfolding starts
     same-starts =
-        ap (λ (v : ℕ). eqb v x && eqb (getD marks (row l (2 * n) x) 0) 0) same-first ∙
-        ap (λ (m : ℕ). eqb (row work (3 * n) (row work (2 * n) x)) x && eqb (getD marks m 0) 0) (same-map x b)
+        ap (λ (v : ℕ). eqb v x && eqb (getD marks (blockEntry l (2 * n) x) 0) 0) same-first ∙
+        ap (λ (m : ℕ). eqb (blockEntry work (3 * n) (blockEntry work (2 * n) x)) x && eqb (getD marks m 0) 0) (same-map x b)
 
     -- one place more
     pub numbers-more : (m : List ℕ) (q : ℕ) → 5 * n ≤ length work → Number n x l marks r m q → Numbers n work marks (x + 1) q m
@@ -190,14 +190,14 @@ module _ (n : ℕ) (work marks : List ℕ) where
               λ z h t.
               by-cases (ℕ-discrete z x)
               (λ d.
-              ap (λ (y : ℕ). row stored (4 * n) (row work (2 * n) y)) d ∙
+              ap (λ (y : ℕ). blockEntry stored (4 * n) (blockEntry work (2 * n) y)) d ∙
               (getD-set-same l (4 * n + node) (r + 1) 0 inside ∙
               (add-one r ∙ ap suc (c ∙ ap (λ (y : ℕ). tally (starts n work marks) (range 0 y)) (sym d)))))
               (λ d.
-              let other : 4 * n + row work (2 * n) z ≢ 4 * n + node =
-              λ i. d (sym (starts-is z t .0) ∙ (ap (row work (3 * n)) (apart i) ∙ starts-is x f .0))
+              let other : 4 * n + blockEntry work (2 * n) z ≢ 4 * n + node =
+              λ i. d (sym (starts-is z t .0) ∙ (ap (blockEntry work (3 * n)) (apart i) ∙ starts-is x f .0))
               in
-              getD-set-other l (4 * n + node) (4 * n + row work (2 * n) z) (r + 1) 0 other ∙ k .number z (omega arith) t);
+              getD-set-other l (4 * n + node) (4 * n + blockEntry work (2 * n) z) (r + 1) 0 other ∙ k .number z (omega arith) t);
           other =
               λ i h d.
               let ne : 4 * n + i ≢ 4 * n + node = λ v. d x (omega arith) f (sym (apart v)) in
@@ -205,7 +205,7 @@ module _ (n : ℕ) (work marks : List ℕ) where
         })
       where
         node : ℕ
-        node = row work (2 * n) x
+        node = blockEntry work (2 * n) x
 
         stored : List ℕ
         stored = set l (4 * n + node) (r + 1)
@@ -220,20 +220,20 @@ module _ (n : ℕ) (work marks : List ℕ) where
   numbers-end x r l a b k = let e : x ≡ n = omega arith in subst (λ (y : ℕ). Numbers n work marks y r l) e k
 
 -- the two cases of a place with the value v and the node m
-module _ (n : ℕ) (pixels work : List ℕ) (x m v : ℕ) (e : m ≡ row work (2 * n) x) (g : v ≡ getD pixels x 0) where
+module _ (n : ℕ) (pixels work : List ℕ) (x m v : ℕ) (e : m ≡ blockEntry work (2 * n) x) (g : v ≡ getD pixels x 0) where
   pub patch-other : v ≢ getD work m 0 → 0 ≡ patchIn n pixels work x
   unfolding patchIn
   patch-other d =
       sym
-      (ap (λ (b : Bool). pick b (row work (4 * n) (row work (2 * n) x)) 0)
+      (ap (λ (b : Bool). pick b (blockEntry work (4 * n) (blockEntry work (2 * n) x)) 0)
       (ne-eqb _ _ (λ q. d (g ∙ (q ∙ ap (λ (i : ℕ). getD work i 0) (sym e))))))
 
-  pub patch-node : v ≡ getD work m 0 → patchIn n pixels work x ≡ row work (4 * n) m
+  pub patch-node : v ≡ getD work m 0 → patchIn n pixels work x ≡ blockEntry work (4 * n) m
   unfolding patchIn
   patch-node q =
-      ap (λ (b : Bool). pick b (row work (4 * n) (row work (2 * n) x)) 0)
+      ap (λ (b : Bool). pick b (blockEntry work (4 * n) (blockEntry work (2 * n) x)) 0)
       (eq-eqb _ _ (sym g ∙ (q ∙ ap (λ (i : ℕ). getD work i 0) e))) ∙
-      ap (row work (4 * n)) (sym e)
+      ap (blockEntry work (4 * n)) (sym e)
 
 -- how many of the first x places have the number 0
 abbrev pub onLine : List ℕ → ℕ → ℕ

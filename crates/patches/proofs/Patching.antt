@@ -14,7 +14,7 @@ use Rattle.picture.specs.Lists.{pick, tally, range, highest}
 use Rattle.picture.specs.Pictures.{Picture, places}
 use Rattle.picture.specs.Trees.{mapOf}
 use Rattle.picture.specs.Patches.{patches}
-use Rattle.tree.specs.Arrays.{row}
+use Rattle.tree.specs.Arrays.{blockEntry}
 use Rattle.topology.proofs.Tests.{test-false}
 use Rattle.topology.proofs.Accepted.{Accepted, accepted-is}
 use Rattle.topology.proofs.Fathers.{map-found}
@@ -107,7 +107,7 @@ module _ (n : ℕ) (pixels numbers : List ℕ) (most : ℕ) (work : List ℕ) wh
 
       module _ (e : getD numbers x 0 ≡ r + 1) (long : 5 * n ≤ length work) where
         value : ℕ
-        value = depthIn n l most (row l (2 * n) x)
+        value = depthIn n l most (blockEntry l (2 * n) x)
 
         after : List ℕ
         after = set (set l (3 * n + r) value) (4 * n + r) (getD pixels x 0)
@@ -127,7 +127,7 @@ module _ (n : ℕ) (pixels numbers : List ℕ) (most : ℕ) (work : List ℕ) wh
             let few = nodes-few p in
             let big = c .size in
             let mb : m < n = omega arith in
-            let at : row l (2 * n) x ≡ m = kept-row (3 * n) (2 * n) (2 * n) x (f .kept) (omega arith) ∙ t .map x h in
+            let at : blockEntry l (2 * n) x ≡ m = kept-row (3 * n) (2 * n) (2 * n) x (f .kept) (omega arith) ∙ t .map x h in
             ap (depthIn n l most) at ∙
             (depth-kept n most m work l (f .kept) mb ∙
             (depth-is p ok n (c .size) work t most m i (c .largest ∙ ap highest (sym (c .same))) ∙
@@ -187,9 +187,9 @@ module _ (n : ℕ) (pixels numbers : List ℕ) (most : ℕ) (work : List ℕ) wh
         rw (e, g)
         (record {
           kept =
-              kept-store (3 * n) (2 * n) (4 * n + r) (getD pixels x 0) work (set l (3 * n + r) (depthIn n l most (row l (2 * n) x)))
+              kept-store (3 * n) (2 * n) (4 * n + r) (getD pixels x 0) work (set l (3 * n + r) (depthIn n l most (blockEntry l (2 * n) x)))
               (omega arith) (omega arith)
-              (kept-store (3 * n) (2 * n) (3 * n + r) (depthIn n l most (row l (2 * n) x)) work l (omega arith) (omega arith) (f .kept));
+              (kept-store (3 * n) (2 * n) (3 * n + r) (depthIn n l most (blockEntry l (2 * n) x)) work l (omega arith) (omega arith) (f .kept));
           few = omega arith;
           begun = λ p c. begun-next p c d long;
         })

@@ -14,7 +14,7 @@ use lib.ListN.{length, getD}
 use lib.Seq.{getD-set-same, getD-set-other}
 use borrow.Author.Tests.{eq-eqb, ne-eqb}
 use Rattle.picture.specs.Lists.{pick}
-use Rattle.tree.specs.Arrays.{row}
+use Rattle.tree.specs.Arrays.{blockEntry}
 use Rattle.topology.proofs.PatchSums.{sumAt, sum-none, sum-in, sum-out, sum-most}
 use Rattle.cells.specs.Blocks.{UntouchedOutside, Filled}
 use Rattle.patches.specs.Sums.{Figure, sizes, columns, rows, term, base, raised, Raisable, Room, Added, Frame, Sums}
@@ -47,7 +47,7 @@ raised-apart l m i j v q e = ap (λ (k : List ℕ). getD k j 0) q ∙ getD-set-o
 -- and from the block that begins at b, by the number c of the entry
 raised-own :
     (c i : ℕ) → c ≡ suc i → (l m : List ℕ) (o b j v : ℕ) → o ≡ b + i → m ≡ raised l o v → o < length l →
-    row m b j ≡ row l b j + pick (eqb c (suc j)) v 0
+    blockEntry m b j ≡ blockEntry l b j + pick (eqb c (suc j)) v 0
 raised-own c i n l m o b j v p q h =
     by-cases (ℕ-discrete i j)
     (λ e.
@@ -110,7 +110,7 @@ module _ (n c : ℕ) (l : List ℕ) (i : ℕ) (e : c ≡ suc i) (r : Room n c l)
           record { kept = raised-kept (3 * n) (2 * n + i) v l b d ed (omega arith) second; sum = more }
         where
           -- a block sees its own store and not the other two
-          more : (k : Figure) (j : ℕ) → j < n → row d (base n k) j ≡ row l (base n k) j + pick (eqb c (suc j)) (term u v k) 0
+          more : (k : Figure) (j : ℕ) → j < n → blockEntry d (base n k) j ≡ blockEntry l (base n k) j + pick (eqb c (suc j)) (term u v k) 0
           more sizes j h =
               let m = r .number in
               let x = raised-own c i e l a i 0 j 1 (omega arith) ea (room-sizes .inside) in
@@ -139,10 +139,10 @@ sums-start w n numbers work l e f =
       sum = λ k i h. empty k i h ∙ sym (sum-none (λ y. term (y % w) (y / w) k) numbers (suc i));
     }
   where
-    at : (b i : ℕ) → b + i < 3 * n → row l b i ≡ 0
+    at : (b i : ℕ) → b + i < 3 * n → blockEntry l b i ≡ 0
     at b i h = let z : 0 + (b + i) ≡ b + i = omega arith in subst (λ (j : ℕ). getD l j 0 ≡ 0) z (f .inside (b + i) h)
 
-    empty : (k : Figure) (i : ℕ) → i < n → row l (base n k) i ≡ 0
+    empty : (k : Figure) (i : ℕ) → i < n → blockEntry l (base n k) i ≡ 0
     empty sizes i h = at 0 i (omega arith)
     empty columns i h = at n i (omega arith)
     empty rows i h = at (2 * n) i (omega arith)

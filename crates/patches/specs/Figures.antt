@@ -10,7 +10,7 @@ use Rattle.picture.specs.Lists.{pick, tally, range, highest}
 use Rattle.picture.specs.Pictures.{Picture, places, isPicture}
 use Rattle.picture.specs.Trees.{nodes}
 use Rattle.picture.specs.Patches.{Patch, patches, patchAt}
-use Rattle.tree.specs.Arrays.{row, TreeIn}
+use Rattle.tree.specs.Arrays.{blockEntry, TreeIn}
 use Rattle.topology.proofs.Leaves.{bottom}
 use Rattle.cells.specs.Blocks.{UntouchedOutside}
 
@@ -22,14 +22,14 @@ pub record Tree (p : Picture) (count : ℕ) (work : List ℕ) : Type 0 where
 
 -- the depth of the node m by the arrays: its father's height, or if it has none the largest pixel, less its own
 unfoldable pub depthIn : ℕ → List ℕ → ℕ → ℕ → ℕ
-depthIn n work most m = pick (ltb (row work n m) n) (getD work (row work n m) 0) most - getD work m 0
+depthIn n work most m = pick (ltb (blockEntry work n m) n) (getD work (blockEntry work n m) 0) most - getD work m 0
 
 -- the patch that begins at x, the next after r, gets its depth and its height
 pub data Put (n : ℕ) (pixels numbers : List ℕ) (most x : ℕ) (work : List ℕ) (r : ℕ) (after : List ℕ) (q : ℕ) : Type 0 where
   passed : getD numbers x 0 ≢ r + 1 → after ≡ work → q ≡ r → Put n pixels numbers most x work r after q
   begun :
       getD numbers x 0 ≡ r + 1 →
-      after ≡ set (set work (3 * n + r) (depthIn n work most (row work (2 * n) x))) (4 * n + r) (getD pixels x 0) → q ≡ r + 1 →
+      after ≡ set (set work (3 * n + r) (depthIn n work most (blockEntry work (2 * n) x))) (4 * n + r) (getD pixels x 0) → q ≡ r + 1 →
       Put n pixels numbers most x work r after q
 
 -- no patch, for an index past the end
@@ -39,8 +39,8 @@ noPatch = record { number = 0; size = 0; height = 0; depth = 0; columns = 0; row
 -- the r patches that begin before x have their depths in the fourth block and their heights in the fifth
 pub record Begun (p : Picture) (n x r : ℕ) (after : List ℕ) : Type 0 where
   pub count : r ≡ tally (bottom p) (range 0 x)
-  pub depth : (i : ℕ) → i < r → row after (3 * n) i ≡ getD (patches p) i noPatch .depth
-  pub height : (i : ℕ) → i < r → row after (4 * n) i ≡ getD (patches p) i noPatch .height
+  pub depth : (i : ℕ) → i < r → blockEntry after (3 * n) i ≡ getD (patches p) i noPatch .depth
+  pub height : (i : ℕ) → i < r → blockEntry after (4 * n) i ≡ getD (patches p) i noPatch .height
 
 -- the work holds the tree of p, and the numbers are those of its patches
 pub record Charted (p : Picture) (n : ℕ) (pixels numbers : List ℕ) (most : ℕ) (work : List ℕ) : Type 0 where
@@ -61,11 +61,11 @@ pub record Patched (n : ℕ) (pixels numbers : List ℕ) (most x : ℕ) (work : 
 pub record Figures (p : Picture) (r : ℕ) (work cells : List ℕ) : Type 0 where
   pub count : r ≡ length (patches p)
   pub number : (i : ℕ) → i < r → i + 1 ≡ getD (patches p) i noPatch .number
-  pub size : (i : ℕ) → i < r → row work 0 i ≡ getD (patches p) i noPatch .size
-  pub columns : (i : ℕ) → i < r → row work (places p) i ≡ getD (patches p) i noPatch .columns
-  pub rows : (i : ℕ) → i < r → row work (2 * places p) i ≡ getD (patches p) i noPatch .rows
-  pub depth : (i : ℕ) → i < r → row work (3 * places p) i ≡ getD (patches p) i noPatch .depth
-  pub height : (i : ℕ) → i < r → row work (4 * places p) i ≡ getD (patches p) i noPatch .height
+  pub size : (i : ℕ) → i < r → blockEntry work 0 i ≡ getD (patches p) i noPatch .size
+  pub columns : (i : ℕ) → i < r → blockEntry work (places p) i ≡ getD (patches p) i noPatch .columns
+  pub rows : (i : ℕ) → i < r → blockEntry work (2 * places p) i ≡ getD (patches p) i noPatch .rows
+  pub depth : (i : ℕ) → i < r → blockEntry work (3 * places p) i ≡ getD (patches p) i noPatch .depth
+  pub height : (i : ℕ) → i < r → blockEntry work (4 * places p) i ≡ getD (patches p) i noPatch .height
   pub map : (x : ℕ) → x < places p → getD cells x 0 ≡ patchAt p x
 
 -- the cells hold the patch of each place

@@ -5,7 +5,7 @@ use Prim.Native.Nat.{ℕ, suc, _+_, _*_, _/_, _%_, _≤_, _<_}
 use lib.Dec.{eqb}
 use lib.ListN.{length, getD, set}
 use Rattle.picture.specs.Lists.{pick}
-use Rattle.tree.specs.Arrays.{row}
+use Rattle.tree.specs.Arrays.{blockEntry}
 use Rattle.topology.proofs.PatchSums.{sumAt}
 use Rattle.cells.specs.Blocks.{UntouchedOutside}
 
@@ -42,12 +42,12 @@ pub record Room (n c : ℕ) (work : List ℕ) : Type 0 where
   pub few : n ≤ 1600
   pub blocks : length work ≡ 5 * n
   pub number : c ≤ n
-  pub room : (k : Figure) (i : ℕ) → c ≡ suc i → row work (base n k) i ≤ 65000
+  pub room : (k : Figure) (i : ℕ) → c ≡ suc i → blockEntry work (base n k) i ≤ 65000
 
 -- each sum of the number c is more by its term
 pub record Added (n c : ℕ) (t : Figure → ℕ) (work after : List ℕ) : Type 0 where
   pub kept : UntouchedOutside 0 (3 * n) work after
-  pub sum : (k : Figure) (i : ℕ) → i < n → row after (base n k) i ≡ row work (base n k) i + pick (eqb c (suc i)) (t k) 0
+  pub sum : (k : Figure) (i : ℕ) → i < n → blockEntry after (base n k) i ≡ blockEntry work (base n k) i + pick (eqb c (suc i)) (t k) 0
 
 -- the numbers of n places, each at most n, in at most 40 rows of w
 pub record Frame (w n : ℕ) (numbers : List ℕ) : Type 0 where
@@ -61,4 +61,4 @@ pub record Frame (w n : ℕ) (numbers : List ℕ) : Type 0 where
 pub record Sums (w n x : ℕ) (numbers work after : List ℕ) : Type 0 where
   pub kept : UntouchedOutside 0 (3 * n) work after
   pub blocks : length after ≡ 5 * n
-  pub sum : (k : Figure) (i : ℕ) → i < n → row after (base n k) i ≡ sumAt (λ y. term (y % w) (y / w) k) numbers (suc i) x
+  pub sum : (k : Figure) (i : ℕ) → i < n → blockEntry after (base n k) i ≡ sumAt (λ y. term (y % w) (y / w) k) numbers (suc i) x

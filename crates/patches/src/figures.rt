@@ -2,7 +2,7 @@
 use crate::numbers::map_patches;
 use crate::numbers::number;
 use crate::sums::put_sums;
-use cells::level;
+use cells::cell_of;
 use cells::wide;
 ghost use mathlib.Core.Path.{_≡_};
 ghost use Prim.Native.Nat.{_+_, _-_, _*_, _/_, _≤_, _<_};
@@ -77,7 +77,7 @@ fn put_patch(
     }
     let m = wide(work[2 * n + x]);
     work[3 * n + r] = depth(n, work, most, m);
-    work[4 * n + r] = level(pixels[x]);
+    work[4 * n + r] = cell_of(pixels[x]);
     r + 1
 }
 
@@ -113,7 +113,7 @@ pub fn figures(
     let n = width * height;
     number(n, count, work, cells);
     map_patches(n, pixels, work, cells);
-    let most = level(largest(pixels));
+    let most = cell_of(largest(pixels));
     let r = put_patches(n, pixels, cells, most, work);
     put_sums(width, height, n, cells, work);
     r

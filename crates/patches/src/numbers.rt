@@ -1,6 +1,6 @@
 // The patch of a place, from the tree: leaves are numbered by first place, and a pixel of its leaf's height is in its patch.
+use cells::cell_of;
 use cells::fill;
-use cells::level;
 use cells::wide;
 ghost use mathlib.Core.Path.{_≡_};
 ghost use Prim.Native.Nat.{ℕ, _+_, _*_, _≤_, _<_};
@@ -78,7 +78,7 @@ pub fn patch_at(n: usize, pixels: &[u8], work: &[u16], x: usize) -> u16
     ensures { λ r. ⌜ r ≡ patchIn n (now (pixels .entry)) (now (work .entry)) x ⌝ }
 {
     let m = wide(work[2 * n + x]);
-    if level(pixels[x]) != work[m] {
+    if cell_of(pixels[x]) != work[m] {
         return 0;
     }
     work[4 * n + m]

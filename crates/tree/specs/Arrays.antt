@@ -7,12 +7,12 @@ use Rattle.picture.specs.Pictures.{Picture, places}
 use Rattle.picture.specs.Trees.{nodes, nodeAt, fatherOf, mapOf}
 
 -- the entry i of the block that begins at b
-abbrev pub row : List ℕ → ℕ → ℕ → ℕ
-row l b i = getD l (b + i) 0
+abbrev pub blockEntry : List ℕ → ℕ → ℕ → ℕ
+blockEntry l b i = getD l (b + i) 0
 
 -- the cells hold the tree of p: heights at 0, fathers at n, the map at 2 n, first places at 3 n
 pub record TreeIn (p : Picture) (cells : List ℕ) : Type 0 where
-  pub heights : (i : ℕ) → i < length (nodes p) → row cells 0 i ≡ nodeAt p i .height
-  pub fathers : (i : ℕ) → i < length (nodes p) → row cells (places p) i ≡ fatherOf p (nodeAt p i)
-  pub map : (x : ℕ) → x < places p → row cells (2 * places p) x ≡ mapOf p x
-  pub firsts : (i : ℕ) → i < length (nodes p) → row cells (3 * places p) i ≡ nodeAt p i .first
+  pub heights : (i : ℕ) → i < length (nodes p) → blockEntry cells 0 i ≡ nodeAt p i .height
+  pub fathers : (i : ℕ) → i < length (nodes p) → blockEntry cells (places p) i ≡ fatherOf p (nodeAt p i)
+  pub map : (x : ℕ) → x < places p → blockEntry cells (2 * places p) x ≡ mapOf p x
+  pub firsts : (i : ℕ) → i < length (nodes p) → blockEntry cells (3 * places p) i ≡ nodeAt p i .first

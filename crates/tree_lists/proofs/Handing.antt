@@ -9,13 +9,13 @@ use Rattle.picture.specs.Trees.{nodes, nodeAt, treeOf}
 use Rattle.topology.proofs.Nodes.{nodes-few, node-is}
 use Rattle.topology.proofs.TreeLists.{length-heights, length-fathers, length-firsts, length-map-of, heights-at, fathers-at, firsts-at, map-at}
 use Rattle.topology.proofs.Copies.{Copied, copy-end}
-use Rattle.tree.specs.Arrays.{row}
+use Rattle.tree.specs.Arrays.{blockEntry}
 use Rattle.tree.specs.Built.{Built}
 use Rattle.tree_lists.specs.Lists.{Bytes, InFront, Handed}
 
 -- a copied block of the tree is its list in front of what was there
 pub handed-front :
-    (xs after old new : List ℕ) (b m : ℕ) → length xs ≡ m → m ≤ length old → ((i : ℕ) → i < m → row after b i ≡ getD xs i 0) →
+    (xs after old new : List ℕ) (b m : ℕ) → length xs ≡ m → m ≤ length old → ((i : ℕ) → i < m → blockEntry after b i ≡ getD xs i 0) →
     Copied after b m old new → InFront xs old new
 handed-front xs after old new b m e h g c =
     record { is = copy-end after b old new m xs e h g c ∙ ap (λ (k : ℕ). xs ++ drop k old) (sym e) }
@@ -52,13 +52,13 @@ module _ (p : Picture) (r : ℕ) (work after cells left : List ℕ) (built : Bui
     pub fathers-handed : (n : ℕ) → n ≡ places p → Copied after n r old new → InFront (treeOf p .fathers) old new
     fathers-handed n e c =
         handed-front (treeOf p .fathers) after old new n r (length-fathers p ∙ sym (built .count)) enough
-        (λ i h. ap (λ (k : ℕ). row after k i) e ∙ (built .tree .fathers i (below i h) ∙ sym (fathers-at p i (below i h))))
+        (λ i h. ap (λ (k : ℕ). blockEntry after k i) e ∙ (built .tree .fathers i (below i h) ∙ sym (fathers-at p i (below i h))))
         c
 
     pub firsts-handed : (n : ℕ) → n ≡ places p → Copied after (3 * n) r old new → InFront (treeOf p .firsts) old new
     firsts-handed n e c =
         handed-front (treeOf p .firsts) after old new (3 * n) r (length-firsts p ∙ sym (built .count)) enough
-        (λ i h. ap (λ (k : ℕ). row after (3 * k) i) e ∙ (built .tree .firsts i (below i h) ∙ sym (firsts-at p i (below i h))))
+        (λ i h. ap (λ (k : ℕ). blockEntry after (3 * k) i) e ∙ (built .tree .firsts i (below i h) ∙ sym (firsts-at p i (below i h))))
         c
 
   -- the map stands where the union-find had its cells
@@ -68,7 +68,7 @@ module _ (p : Picture) (r : ℕ) (work after cells left : List ℕ) (built : Bui
       let s = built .size in
       let f =
       handed-front (treeOf p .map) after left new (2 * n) n (length-map-of p ∙ sym e) (omega (arith, s, e, room))
-      (λ x h. let b : x < places p = omega (arith, e, h) in ap (λ (k : ℕ). row after (2 * k) x) e ∙ (built .tree .map x b ∙ sym (map-at p x b)))
+      (λ x h. let b : x < places p = omega (arith, e, h) in ap (λ (k : ℕ). blockEntry after (2 * k) x) e ∙ (built .tree .map x b ∙ sym (map-at p x b)))
       c
       in
       record {

@@ -32,8 +32,8 @@ map-patches-requires c κs =
 largest-requires : tie.Need-largest-requires
 largest-requires c κs = search needs
 
-level-requires : tie.Need-level-requires
-level-requires c κs = search needs
+cell-of-requires : tie.Need-cell-of-requires
+cell-of-requires c κs = search needs
 
 put-patches-requires : tie.Need-put-patches-requires
 put-patches-requires c κs =
@@ -71,7 +71,7 @@ returns c =
     let p = pictureOf (s .args .a) (s .args .w) (s .args .h) (s .args .pixels .now) in
     let l = c .before .before .before .before .before .before .before .before .before .before .before .before .before .before .before .before .before .before .before .before .before .number .ensures in
     figures-all p _ _ (s .pre .0) _ _ l _ (let z = s .pre .1 .beside in search needs) (c .before .before .before .before .before .before .before .before .before .before .before .before .before .before .map-patches .ensures) _ _ _ _
-    (c .before .before .before .before .before .before .before .before .before .before .level .ensures ∙ c .before .before .before .before .before .before .before .before .before .before .before .largest .ensures)
+    (c .before .before .before .before .before .before .before .before .before .before .cell-of .ensures ∙ c .before .before .before .before .before .before .before .before .before .before .before .largest .ensures)
     (c .before .before .before .before .before .before .before .put-patches .ensures)
     (c .before .before .put-sums .ensures)
 
@@ -83,7 +83,7 @@ figures-spec =
     number-requires
     map-patches-requires
     largest-requires
-    level-requires
+    cell-of-requires
     put-patches-requires
     put-sums-requires
     same-length

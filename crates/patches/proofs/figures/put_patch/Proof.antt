@@ -55,11 +55,11 @@ mul-work-2 c = search needs
 slice-write-work : tie.Need-slice-write-work
 slice-write-work c = search needs
 
-shared-slice-read-level : tie.Need-shared-slice-read-level
-shared-slice-read-level c = search needs
+shared-slice-read-cell-of : tie.Need-shared-slice-read-cell-of
+shared-slice-read-cell-of c = search needs
 
-level-requires : tie.Need-level-requires
-level-requires c κs = search needs
+cell-of-requires : tie.Need-cell-of-requires
+cell-of-requires c κs = search needs
 
 mul-work-3 : tie.Need-mul-work-3
 mul-work-3 c = search needs
@@ -88,7 +88,7 @@ returns-2 c =
     begun (sym (c .before .before .before .before .before .before .before .wide .ensures) ∙ c .before .before .before .before .before .before .if1 .left)
     (ap₂ (λ (d v : ℕ). set (set l (3 * n + r) d) (4 * n + r) v)
     (c .before .before .depth .ensures ∙ ap (depthIn n l (s .args .most)) (c .before .before .before .before .wide2 .ensures))
-    (c .level .ensures))
+    (c .cell-of .ensures))
     refl
 
 pub put-patch-spec : {M : Type 1} → statement M
@@ -110,8 +110,8 @@ put-patch-spec =
     add-work
     mul-work-2
     slice-write-work
-    shared-slice-read-level
-    level-requires
+    shared-slice-read-cell-of
+    cell-of-requires
     mul-work-3
     add-work-2
     mul-work-4

@@ -26,11 +26,11 @@ shared-slice-read-wide c = search needs
 wide-requires : tie.Need-wide-requires
 wide-requires c κs = search needs
 
-shared-slice-read-level : tie.Need-shared-slice-read-level
-shared-slice-read-level c = search needs
+shared-slice-read-cell-of : tie.Need-shared-slice-read-cell-of
+shared-slice-read-cell-of c = search needs
 
-level-requires : tie.Need-level-requires
-level-requires c κs = search needs
+cell-of-requires : tie.Need-cell-of-requires
+cell-of-requires c κs = search needs
 
 mul-if1 : tie.Need-mul-if1
 mul-if1 c = let f = c .before .before .before .before .before .before .pre .0 .few in omega (arith, node-in (c .before .before))
@@ -39,7 +39,7 @@ shared-slice-read-if1 : tie.Need-shared-slice-read-if1
 shared-slice-read-if1 c = let f = c .before .before .before .before .before .before .before .pre .0 .blocks in omega (arith, node-in (c .before .before .before))
 
 returns : tie.Need-returns
-returns c = patch-other _ _ _ _ _ _ (c .before .before .before .before .wide .ensures) (c .before .before .level .ensures) (c .if1 .taken)
+returns c = patch-other _ _ _ _ _ _ (c .before .before .before .before .wide .ensures) (c .before .before .cell-of .ensures) (c .if1 .taken)
 
 mul-result : tie.Need-mul-result
 mul-result c = search needs
@@ -54,7 +54,7 @@ shared-slice-read-result : tie.Need-shared-slice-read-result
 shared-slice-read-result c = let f = c .before .before .before .before .before .before .before .before .before .pre .0 .blocks in omega (arith, node-in (c .before .before .before .before .before))
 
 returns-2 : tie.Need-returns-2
-returns-2 c = sym (patch-node _ _ _ _ _ _ (c .before .before .before .before .before .wide .ensures) (c .before .before .before .level .ensures) (c .before .if1 .left))
+returns-2 c = sym (patch-node _ _ _ _ _ _ (c .before .before .before .before .before .wide .ensures) (c .before .before .before .cell-of .ensures) (c .before .if1 .left))
 
 pub patch-at-spec : {M : Type 1} → statement M
 patch-at-spec =
@@ -65,8 +65,8 @@ patch-at-spec =
     mul-wide-2
     shared-slice-read-wide
     wide-requires
-    shared-slice-read-level
-    level-requires
+    shared-slice-read-cell-of
+    cell-of-requires
     mul-if1
     shared-slice-read-if1
     returns
