@@ -1,5 +1,5 @@
 -- Laws of what the public calls promise.
-pub mod Files
+pub mod Pixels
 pub mod Queries
 pub mod LentTrees
 pub mod Demands

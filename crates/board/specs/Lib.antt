@@ -1,5 +1,5 @@
 -- What the public calls promise.
-pub mod Reads
+pub mod Pixels
 pub mod Calls
 pub mod Trees
 pub mod Answers

@@ -16,11 +16,11 @@ use patch_lists::gather;
 pub use patch_records::Patch;
 use patch_records::write_records;
 use patches::cores::query;
+pub use reading::Read;
 use tree_lists::build_lists;
 use trees::tree_fault;
 use watershed::whole::watershed_core;
 
-mod reading;
 mod trees;
 
 ghost use mathlib.Core.Path.{_≡_};
@@ -29,26 +29,17 @@ ghost use lib.ListN.{length};
 ghost use Rattle.picture.specs.Lists.{pick};
 ghost use Rattle.picture.specs.Pictures.{pictureOf};
 ghost use Rattle.answers.specs.Answers.{cleared};
-ghost use Rattle.board.specs.Reads.{ReadSays, PixelsSay};
+ghost use Rattle.reading.specs.Reads.{ReadSays};
+ghost use Rattle.board.specs.Pixels.{PixelsSay};
 ghost use Rattle.board.specs.Calls.{LabelsSay, LowerSays, WaterSays, groundOf, Admits, QueryIs, QuerySays};
 ghost use Rattle.board.specs.Trees.{TreeSays, CheckSays, PassSays};
 ghost use Rattle.picture.specs.Patches.{patchAt};
 ghost use Rattle.board.specs.PatchLists.{PatchesSay};
 
-// The number of a refusal, or 0, with the refusal's place; of an accepted file the sides, the largest sample and the offset of the pixels.
-pub struct Read {
-    pub number: u8,
-    pub place: usize,
-    pub width: u32,
-    pub height: u32,
-    pub largest: u32,
-    pub offset: usize,
-}
-
 pub fn read_file(file: &[u8]) -> Read
     ensures { λ r. ⌜ ReadSays (now (file .entry)) r ⌝ }
 {
-    reading::answer(p5::file::read(file))
+    reading::read(file)
 }
 
 // The pixels as a part of the file; empty on a refusal.

@@ -8,8 +8,8 @@ use mir.Syntax.{w8, w32, w64}
 use mir.Val.{Fits}
 use Rattle.p5.proofs.Answers.{answer-within}
 use Rattle.p5.proofs.Places.{place-within}
-use Rattle.board.specs.declared.Read.{Read}
-use Rattle.board.specs.Reads.{ReadSays}
+use Rattle.reading.specs.declared.Read.{Read}
+use Rattle.reading.specs.Reads.{ReadSays}
 use Rattle.read_report.specs.Reports.{report}
 use Rattle.text.specs.Decimal.{decimal, fields}
 use Rattle.text.proofs.Decimals.{tens, decimal-length}

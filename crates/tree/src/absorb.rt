@@ -1,39 +1,14 @@
 // The pixels of one height join the classes of the places below them.
-use crate::union_find::find;
-use crate::union_find::join;
 use cells::wide;
-ghost use mathlib.Core.Path.{_≡_};
+use union_find::comes_before;
+use union_find::find;
+use union_find::join;
 ghost use Prim.Native.Nat.{_<_, _+_, _*_};
-ghost use lib.ListN.{length, getD};
+ghost use lib.ListN.{length};
 ghost use Rattle.picture.specs.Pictures.{pictureOf};
 ghost use Rattle.topology.proofs.Forests.{Block};
-ghost use Rattle.topology.proofs.Chains.{Comes, EdgeReady, EdgeDone};
+ghost use Rattle.topology.proofs.Chains.{EdgeReady, EdgeDone};
 ghost use Rattle.topology.proofs.Walks.{Ready, Absorbed};
-
-// A pixel as a height.
-pub fn height(x: u8) -> usize
-    ensures { λ r. ⌜ r ≡ x ⌝ }
-{
-    x as usize
-}
-
-// The place y comes before the place x of value k: by value, then by place.
-pub fn comes_before(pixels: &[u8], k: usize, x: usize, y: usize) -> bool
-    requires { ⌜ y < length (now pixels) ⌝ }
-    ensures { λ r. ⌜ Comes k x y (getD (now (pixels .entry)) y 0) r ⌝ }
-{
-    let v = height(pixels[y]);
-    if v < k {
-        return true;
-    }
-    if k < v {
-        return false;
-    }
-    if y < x {
-        return true;
-    }
-    false
-}
 
 // Joins the place x, whose root is r, to its neighbour y if y comes before x, and answers the root then.
 fn absorb_edge(

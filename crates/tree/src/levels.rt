@@ -1,8 +1,8 @@
 // The heights one after the other: the pixels join, the new roots are listed and numbered, the pixels are mapped.
 use crate::absorb::absorb_level;
 use crate::list::list_level;
-use crate::union_find::find;
 use cells::wide;
+use union_find::find;
 ghost use mathlib.Core.Path.{_≡_};
 ghost use Prim.Native.Nat.{_<_, _+_, _*_};
 ghost use lib.ListN.{length};

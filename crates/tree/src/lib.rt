@@ -4,4 +4,3 @@ pub mod buckets;
 pub mod build;
 pub mod levels;
 pub mod list;
-pub mod union_find;

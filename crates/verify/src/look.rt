@@ -1,8 +1,8 @@
 // The pixels of one height join the classes; at each link the lent fathers are compared.
+use cells::value;
 use cells::wide;
-use tree::absorb::comes_before;
-use tree::absorb::height;
-use tree::union_find::find;
+use union_find::comes_before;
+use union_find::find;
 ghost use mathlib.Core.Path.{_≡_};
 ghost use Prim.Native.Nat.{_<_, _≤_, _+_, _*_};
 ghost use lib.ListN.{length, getD, set};
@@ -120,7 +120,7 @@ fn check_pixel(
     requires { ⌜ (length (now cells) ≤ length (now fathers)) × (length (now cells) ≤ length (now map)) ⌝ }
     ensures { λ r. ⌜ Passed (pictureOf a w h (now (pixels .entry))) k (x + 1) (now (cells .exit)) (now (fathers .entry)) (now (map .entry)) r ⌝ }
 {
-    if height(pixels[x]) != k {
+    if value(pixels[x]) != k {
         return true;
     }
     let mut near = [0u16; 8];

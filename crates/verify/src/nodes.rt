@@ -1,7 +1,7 @@
 // The lent nodes of one height against the new roots, and the lent map against their numbers.
+use cells::value;
 use cells::wide;
-use tree::absorb::height;
-use tree::union_find::find;
+use union_find::find;
 ghost use Prim.Native.Nat.{_<_, _≤_, _+_};
 ghost use lib.ListN.{length};
 ghost use Rattle.topology.proofs.Forests.{Parents};
@@ -14,7 +14,7 @@ pub fn run_end(heights: &[u8], k: usize, c: usize, count: usize) -> usize
 {
     let mut i = c;
     while i < count {
-        if height(heights[i]) != k {
+        if value(heights[i]) != k {
             return i;
         }
         i += 1;
@@ -31,7 +31,7 @@ fn node_fits(pixels: &[u8], firsts: &[u16], cells: &[u16], k: usize, c: usize, i
     if cells.len() <= f {
         return false;
     }
-    if k < height(pixels[f]) {
+    if k < value(pixels[f]) {
         return false;
     }
     if cells[f] < 65534 {
@@ -75,7 +75,7 @@ fn check_map_one(pixels: &[u8], map: &[u16], cells: &mut [u16], k: usize, x: usi
     requires { ⌜ Parents (now cells) × (x < length (now cells)) × (x < length (now pixels)) × (x < length (now map)) ⌝ }
     ensures { λ r. ⌜ MapChecked (now (pixels .entry)) k x (x + 1) (now (cells .entry)) (now (map .entry)) (now (cells .exit)) r ⌝ }
 {
-    let v = height(pixels[x]);
+    let v = value(pixels[x]);
     if v != k {
         return true;
     }

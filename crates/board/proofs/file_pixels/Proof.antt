@@ -6,7 +6,7 @@ use borrow.Author.Needs.{needs}
 use denote.Ref.{now}
 use Rattle.p5.proofs.Answers.{rest-is, answer-within, refused-header}
 use Rattle.p5.specs.Files.{numberOf, readFile}
-use Rattle.board.proofs.Files.{pixels-read, pixels-none}
+use Rattle.board.proofs.Pixels.{pixels-read, pixels-none}
 use Rattle.board.proofs.file_pixels.Statement.{statement}
 use Rattle.board.proofs.file_pixels.Tie as tie
 

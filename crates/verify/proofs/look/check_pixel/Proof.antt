@@ -15,14 +15,14 @@ Inv-loop a w h pixels fathers map cells₀ k x near count root₀ i₀ cells roo
 abbrev μ-loop : tie.MeasureT-loop
 μ-loop a w h pixels fathers map cells₀ k x near count root₀ i₀ cells root i = count - i
 
-shared-slice-read-height : tie.Need-shared-slice-read-height Inv-loop μ-loop
-shared-slice-read-height c = search needs
+shared-slice-read-value : tie.Need-shared-slice-read-value Inv-loop μ-loop
+shared-slice-read-value c = search needs
 
-height-requires : tie.Need-height-requires Inv-loop μ-loop
-height-requires c κs = search needs
+value-requires : tie.Need-value-requires Inv-loop μ-loop
+value-requires c κs = search needs
 
 returns : tie.Need-returns Inv-loop μ-loop
-returns c = passed-yes _ _ _ _ _ _ (look-pass _ _ _ _ _ _ (c .before .before .before .before .before .before .before .pre .0 .0) (λ e. c .if1 .taken (c .before .height .ensures ∙ e)))
+returns c = passed-yes _ _ _ _ _ _ (look-pass _ _ _ _ _ _ (c .before .before .before .before .before .before .before .pre .0 .0) (λ e. c .if1 .taken (c .before .value .ensures ∙ e)))
 
 slice-aggregate-neighbours : tie.Need-slice-aggregate-neighbours Inv-loop μ-loop
 slice-aggregate-neighbours c = search needs
@@ -34,7 +34,7 @@ find-requires : tie.Need-find-requires Inv-loop μ-loop
 find-requires c κs = (checking-parents _ _ _ _ _ _ (c .before .before .before .before .before .before .before .before .before .before .before .pre .0 .0), c .before .before .before .before .before .before .before .before .before .before .before .pre .0 .1)
 
 loop-holds : tie.Need-loop-holds Inv-loop μ-loop
-loop-holds c = look-start _ _ _ _ _ _ _ _ (c .before .before .before .before .before .before .before .before .before .before .before .before .before .before .pre .0 .0) (c .before .before .before .before .before .before .before .before .before .before .before .before .before .before .pre .0 .1) (sym (c .before .before .before .before .before .before .before .before .height .ensures) ∙ c .before .before .before .before .before .before .before .if1 .left) (c .before .before .find .ensures)
+loop-holds c = look-start _ _ _ _ _ _ _ _ (c .before .before .before .before .before .before .before .before .before .before .before .before .before .before .pre .0 .0) (c .before .before .before .before .before .before .before .before .before .before .before .before .before .before .pre .0 .1) (sym (c .before .before .before .before .before .before .before .before .value .ensures) ∙ c .before .before .before .before .before .before .before .if1 .left) (c .before .before .find .ensures)
 
 mul-wide : tie.Need-mul-wide Inv-loop μ-loop
 mul-wide c = search needs
@@ -91,8 +91,8 @@ check-pixel-spec =
     (tie.spec
     Inv-loop
     μ-loop
-    shared-slice-read-height
-    height-requires
+    shared-slice-read-value
+    value-requires
     returns
     slice-aggregate-neighbours
     neighbours-requires

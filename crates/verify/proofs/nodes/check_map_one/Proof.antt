@@ -5,14 +5,14 @@ use borrow.Author.Needs.{needs}
 use Rattle.verify.proofs.nodes.check_map_one.Statement.{statement}
 use Rattle.verify.proofs.nodes.check_map_one.Tie as tie
 
-shared-slice-read-height : tie.Need-shared-slice-read-height
-shared-slice-read-height c = search needs
+shared-slice-read-value : tie.Need-shared-slice-read-value
+shared-slice-read-value c = search needs
 
-height-requires : tie.Need-height-requires
-height-requires c κs = search needs
+value-requires : tie.Need-value-requires
+value-requires c κs = search needs
 
 returns : tie.Need-returns
-returns c = map-other _ _ _ _ _ _ (c .before .before .before .before .before .before .pre .1) (c .before .height .ensures) (c .if1 .taken)
+returns c = map-other _ _ _ _ _ _ (c .before .before .before .before .before .before .pre .1) (c .before .value .ensures) (c .if1 .taken)
 
 find-requires : tie.Need-find-requires
 find-requires c κs = search needs
@@ -27,7 +27,7 @@ same-length : tie.Need-same-length
 same-length c = search needs
 
 returns-2 : tie.Need-returns-2
-returns-2 c = map-free _ _ _ _ _ _ (c .before .before .before .before .before .before .before .before .before .before .before .before .pre .1) (c .before .before .before .before .before .before .before .height .ensures) _ _ (c .before .before .before .before .find .ensures) (c .before .before .before .before .before .before .if1 .left) (c .if2 .taken)
+returns-2 c = map-free _ _ _ _ _ _ (c .before .before .before .before .before .before .before .before .before .before .before .before .pre .1) (c .before .before .before .before .before .before .before .value .ensures) _ _ (c .before .before .before .before .find .ensures) (c .before .before .before .before .before .before .if1 .left) (c .if2 .taken)
 
 mul-wide : tie.Need-mul-wide
 mul-wide c = search needs
@@ -48,20 +48,20 @@ same-length-2 : tie.Need-same-length-2
 same-length-2 c = search needs
 
 returns-3 : tie.Need-returns-3
-returns-3 c = map-differs _ _ _ _ _ _ (c .before .before .before .before .before .before .before .before .before .before .before .before .before .before .before .before .pre .1) (c .before .before .before .before .before .before .before .before .before .before .before .height .ensures) _ _ (c .before .before .before .before .before .before .before .before .find .ensures) (c .before .before .before .before .before .before .before .before .before .before .if1 .left) _ _ (c .before .wide2 .ensures) (c .before .before .wide .ensures) (c .if3 .taken)
+returns-3 c = map-differs _ _ _ _ _ _ (c .before .before .before .before .before .before .before .before .before .before .before .before .before .before .before .before .pre .1) (c .before .before .before .before .before .before .before .before .before .before .before .value .ensures) _ _ (c .before .before .before .before .before .before .before .before .find .ensures) (c .before .before .before .before .before .before .before .before .before .before .if1 .left) _ _ (c .before .wide2 .ensures) (c .before .before .wide .ensures) (c .if3 .taken)
 
 same-length-3 : tie.Need-same-length-3
 same-length-3 c = search needs
 
 returns-4 : tie.Need-returns-4
-returns-4 c = map-yes _ _ _ _ _ _ (c .before .before .before .before .before .before .before .before .before .before .before .before .before .before .before .before .pre .1) (c .before .before .before .before .before .before .before .before .before .before .before .height .ensures) _ _ (c .before .before .before .before .before .before .before .before .find .ensures) (c .before .before .before .before .before .before .before .before .before .before .if1 .left) _ _ (c .before .wide2 .ensures) (c .before .before .wide .ensures) (c .if3 .left) (c .before .before .before .before .if2 .left)
+returns-4 c = map-yes _ _ _ _ _ _ (c .before .before .before .before .before .before .before .before .before .before .before .before .before .before .before .before .pre .1) (c .before .before .before .before .before .before .before .before .before .before .before .value .ensures) _ _ (c .before .before .before .before .before .before .before .before .find .ensures) (c .before .before .before .before .before .before .before .before .before .before .if1 .left) _ _ (c .before .wide2 .ensures) (c .before .before .wide .ensures) (c .if3 .left) (c .before .before .before .before .if2 .left)
 
 pub check-map-one-spec : {M : Type 1} → statement M
 check-map-one-spec =
     tie.close
     (tie.spec
-    shared-slice-read-height
-    height-requires
+    shared-slice-read-value
+    value-requires
     returns
     find-requires
     mul-state

@@ -17,14 +17,14 @@ wide-requires c κs = search needs
 returns : tie.Need-returns
 returns c = unfit-beyond _ _ _ _ _ _ _ (c .before .wide .ensures) (c .if1 .taken)
 
-shared-slice-read-height : tie.Need-shared-slice-read-height
-shared-slice-read-height c = omega (arith, c .before .if1 .left, c .before .before .before .before .before .before .before .pre .1)
+shared-slice-read-value : tie.Need-shared-slice-read-value
+shared-slice-read-value c = omega (arith, c .before .if1 .left, c .before .before .before .before .before .before .before .pre .1)
 
-height-requires : tie.Need-height-requires
-height-requires c κs = search needs
+value-requires : tie.Need-value-requires
+value-requires c κs = search needs
 
 returns-2 : tie.Need-returns-2
-returns-2 c = unfit-high _ _ _ _ _ _ _ (c .before .before .before .before .wide .ensures) _ (c .before .height .ensures) (c .if2 .taken)
+returns-2 c = unfit-high _ _ _ _ _ _ _ (c .before .before .before .before .wide .ensures) _ (c .before .value .ensures) (c .if2 .taken)
 
 mul-if3 : tie.Need-mul-if3
 mul-if3 c = search needs
@@ -36,7 +36,7 @@ returns-3 : tie.Need-returns-3
 returns-3 c = unfit-taken _ _ _ _ _ _ _ (c .before .before .before .before .before .before .wide .ensures) (c .if3 .taken)
 
 returns-4 : tie.Need-returns-4
-returns-4 c = fit-yes _ _ _ _ _ _ _ (c .before .before .before .before .before .before .before .wide .ensures) _ (c .before .before .before .before .before .before .if1 .left) (c .before .before .before .before .height .ensures) (c .before .before .before .if2 .left) (c .before .if3 .left)
+returns-4 c = fit-yes _ _ _ _ _ _ _ (c .before .before .before .before .before .before .before .wide .ensures) _ (c .before .before .before .before .before .before .if1 .left) (c .before .before .before .before .value .ensures) (c .before .before .before .if2 .left) (c .before .if3 .left)
     (λ h. let e = c .if4 .taken in absurd (omega arith))
 
 sub-wide : tie.Need-sub-wide
@@ -55,7 +55,7 @@ returns-5 : tie.Need-returns-5
 returns-5 c = unfit-order _ _ _ _ _ _ _ (c .before .before .before .before .before .before .before .before .before .before .wide .ensures) _ (c .before .wide2 .ensures) (c .before .before .before .if4 .left) (c .if5 .taken)
 
 returns-6 : tie.Need-returns-6
-returns-6 c = fit-yes _ _ _ _ _ _ _ (c .before .before .before .before .before .before .before .before .before .before .wide .ensures) _ (c .before .before .before .before .before .before .before .before .before .if1 .left) (c .before .before .before .before .before .before .before .height .ensures) (c .before .before .before .before .before .before .if2 .left) (c .before .before .before .before .if3 .left)
+returns-6 c = fit-yes _ _ _ _ _ _ _ (c .before .before .before .before .before .before .before .before .before .before .wide .ensures) _ (c .before .before .before .before .before .before .before .before .before .if1 .left) (c .before .before .before .before .before .before .before .value .ensures) (c .before .before .before .before .before .before .if2 .left) (c .before .before .before .before .if3 .left)
     (λ h. let e = c .if5 .left in let g = c .before .wide2 .ensures in omega arith)
 
 pub node-fits-spec : {M : Type 1} → statement M
@@ -66,8 +66,8 @@ node-fits-spec =
     shared-slice-read-wide
     wide-requires
     returns
-    shared-slice-read-height
-    height-requires
+    shared-slice-read-value
+    value-requires
     returns-2
     mul-if3
     shared-slice-read-if3

@@ -1,7 +1,16 @@
-// The record of an answer for a file.
-use crate::Read;
+// The answer for a file as one record.
 use p5::file::Outcome;
-ghost use Rattle.board.specs.Reads.{RefusedRead, ReadIs};
+ghost use Rattle.reading.specs.Reads.{RefusedRead, ReadIs, ReadSays};
+
+// The number of a refusal, or 0, with the refusal's place; of an accepted file the sides, the largest sample and the offset of the pixels.
+pub struct Read {
+    pub number: u8,
+    pub place: usize,
+    pub width: u32,
+    pub height: u32,
+    pub largest: u32,
+    pub offset: usize,
+}
 
 fn refused(number: u8, place: usize) -> Read
     ensures { λ r. ⌜ RefusedRead number place r ⌝ }
@@ -16,7 +25,7 @@ fn refused(number: u8, place: usize) -> Read
     }
 }
 
-pub fn answer(outcome: Outcome) -> Read
+fn answer(outcome: Outcome) -> Read
     ensures { λ r. ⌜ ReadIs outcome r ⌝ }
 {
     match outcome {
@@ -35,4 +44,11 @@ pub fn answer(outcome: Outcome) -> Read
         Outcome::CountDiffers => refused(5, 0),
         Outcome::PixelAbove(place) => refused(6, place),
     }
+}
+
+// The record of what a file is: its header, or its refusal.
+pub fn read(file: &[u8]) -> Read
+    ensures { λ r. ⌜ ReadSays (now (file .entry)) r ⌝ }
+{
+    answer(p5::file::read(file))
 }

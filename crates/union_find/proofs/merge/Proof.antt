@@ -1,8 +1,8 @@
--- `tree::union_find::merge` meets its contract.
+-- `union_find::merge` meets its contract.
 use Rattle.topology.proofs.Marks.{merge-left, merge-right, merge-both}
 use borrow.Author.Needs.{needs}
-use Rattle.tree.proofs.union_find.merge.Statement.{statement}
-use Rattle.tree.proofs.union_find.merge.Tie as tie
+use Rattle.union_find.proofs.merge.Statement.{statement}
+use Rattle.union_find.proofs.merge.Tie as tie
 
 returns : tie.Need-returns
 returns c = merge-left _ _ _ _ _ (c .before .before .pre .1) (c .if1 .taken)

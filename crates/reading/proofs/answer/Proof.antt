@@ -1,9 +1,9 @@
--- `board::reading::answer` meets its contract.
+-- `reading::answer` meets its contract.
 use mathlib.Core.Path.{refl}
 use borrow.Author.Needs.{needs}
-use Rattle.board.proofs.Files.{refused-read}
-use Rattle.board.proofs.reading.answer.Statement.{statement}
-use Rattle.board.proofs.reading.answer.Tie as tie
+use Rattle.reading.proofs.Files.{refused-read}
+use Rattle.reading.proofs.answer.Statement.{statement}
+use Rattle.reading.proofs.answer.Tie as tie
 
 enum-known-outcome : tie.Need-enum-known-outcome
 enum-known-outcome c = search needs

@@ -1,7 +1,10 @@
-// Union-find in cells: a cell below 2048 is a parent, a smaller place; a greater one marks a root with its state.
+// Union-find in cells: a cell below 2048 is a parent, a smaller place; a greater one marks a root with its state:
+// 65535 no lower place, 65534 several nodes beneath, 65533 listed, 2048 + i the node i.
+use cells::value;
 use cells::wide;
 ghost use Prim.Native.Nat.{_<_, _≤_, _+_, _*_};
 ghost use lib.ListN.{length, getD};
+ghost use Rattle.topology.proofs.Chains.{Comes};
 ghost use Rattle.topology.proofs.Forests.{Parents, Split, Found};
 ghost use Rattle.topology.proofs.Marks.{Marked, Names, MergedIn, LinkedIn};
 
@@ -68,4 +71,22 @@ pub fn join(work: &mut [u16], cells: &mut [u16], lo: usize, hi: usize, x: usize)
     let state = merge(work, n, cells[lo], cells[hi], x);
     cells[hi] = lo as u16;
     cells[lo] = state;
+}
+
+// The place y comes before the place x of value k: by value, then by place.
+pub fn comes_before(pixels: &[u8], k: usize, x: usize, y: usize) -> bool
+    requires { ⌜ y < length (now pixels) ⌝ }
+    ensures { λ r. ⌜ Comes k x y (getD (now (pixels .entry)) y 0) r ⌝ }
+{
+    let v = value(pixels[y]);
+    if v < k {
+        return true;
+    }
+    if k < v {
+        return false;
+    }
+    if y < x {
+        return true;
+    }
+    false
 }

@@ -1,9 +1,9 @@
--- `tree::union_find::mark` meets its contract.
+-- `union_find::mark` meets its contract.
 use Rattle.topology.proofs.Marks.{mark-none, mark-some}
 use native.Mathlib.Omega.{arith}
 use borrow.Author.Needs.{needs}
-use Rattle.tree.proofs.union_find.mark.Statement.{statement}
-use Rattle.tree.proofs.union_find.mark.Tie as tie
+use Rattle.union_find.proofs.mark.Statement.{statement}
+use Rattle.union_find.proofs.mark.Tie as tie
 
 cast-work : tie.Need-cast-work
 cast-work c = search needs

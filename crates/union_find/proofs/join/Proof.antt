@@ -1,10 +1,10 @@
--- `tree::union_find::join` meets its contract.
+-- `union_find::join` meets its contract.
 use Rattle.topology.proofs.Marks.{link-in}
 use lib.ListN.{length-set}
 use native.Mathlib.Omega.{arith}
 use borrow.Author.Needs.{needs}
-use Rattle.tree.proofs.union_find.join.Statement.{statement}
-use Rattle.tree.proofs.union_find.join.Tie as tie
+use Rattle.union_find.proofs.join.Statement.{statement}
+use Rattle.union_find.proofs.join.Tie as tie
 
 mul-merge : tie.Need-mul-merge
 mul-merge c = search needs

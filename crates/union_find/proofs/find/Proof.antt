@@ -1,8 +1,8 @@
--- `tree::union_find::find` meets its contract.
+-- `union_find::find` meets its contract.
 use Rattle.topology.proofs.Forests.{Walked, walk-start, walk-turn, walk-end}
 use borrow.Author.Needs.{needs}
-use Rattle.tree.proofs.union_find.find.Statement.{statement}
-use Rattle.tree.proofs.union_find.find.Tie as tie
+use Rattle.union_find.proofs.find.Statement.{statement}
+use Rattle.union_find.proofs.find.Tie as tie
 
 abbrev Inv-loop : tie.InvT-loop
 Inv-loop cells₀ x i₀ cells i = Walked cells₀ x i cells

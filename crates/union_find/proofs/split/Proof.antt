@@ -1,9 +1,9 @@
--- `tree::union_find::split` meets its contract.
+-- `union_find::split` meets its contract.
 use Rattle.topology.proofs.Forests.{split-end, split-up}
 use native.Mathlib.Omega.{arith}
 use borrow.Author.Needs.{needs}
-use Rattle.tree.proofs.union_find.split.Statement.{statement}
-use Rattle.tree.proofs.union_find.split.Tie as tie
+use Rattle.union_find.proofs.split.Statement.{statement}
+use Rattle.union_find.proofs.split.Tie as tie
 
 mul-wide : tie.Need-mul-wide
 mul-wide c = search needs

@@ -1,0 +1,2 @@
+-- The answer for a file.
+pub mod Reads
