@@ -1,5 +1,6 @@
 -- Laws of what the public calls promise.
 pub mod Pixels
+pub mod Outputs
 pub mod Queries
 pub mod LentTrees
 pub mod Demands

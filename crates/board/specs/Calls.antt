@@ -26,22 +26,24 @@ outputFaultOf p o q =
 abbrev pub placeFaultOf : Picture → List ℕ → ℕ → ℕ
 placeFaultOf p q x = placeFault (p .adjacency) (p .width) (p .height) (length (p .pixels)) (length q) x
 
--- the labels of the section at height k, and the number of its components
-pub record LabelsSay (p : Picture) (k : ℕ) (o o′ q q′ : List ℕ) (r : Answer) : Type 0 where
-  pub answer : Answered (outputFaultOf p o q) (length (components p k)) r
-  pub output : o′ ≡ afterCall (outputFaultOf p o q) (over (labels p k) o) o
+-- a call that lends output and work: the value, and the list new in front of what was in the output; all as it was after a refusal
+pub record OutputSays (p : Picture) (v : ℕ) (new o o′ q q′ : List ℕ) (r : Answer) : Type 0 where
+  pub answer : Answered (outputFaultOf p o q) v r
+  pub output : o′ ≡ afterCall (outputFaultOf p o q) (over new o) o
   pub work : q′ ≡ workAfter (outputFaultOf p o q) p q
+
+-- the labels of the section at height k, and the number of its components
+abbrev pub LabelsSay : Picture → ℕ → List ℕ → List ℕ → List ℕ → List ℕ → Answer → Type 0
+LabelsSay p k o o′ q q′ r = OutputSays p (length (components p k)) (labels p k) o o′ q q′ r
+
+-- the pixels of the watershed
+abbrev pub WaterSays : Picture → List ℕ → List ℕ → List ℕ → List ℕ → Answer → Type 0
+WaterSays p o o′ q q′ r = OutputSays p 0 (watershed p .pixels) o o′ q q′ r
 
 -- 1 if the pixel at the place x is lowerable, else 0
 pub record LowerSays (p : Picture) (x : ℕ) (q q′ : List ℕ) (r : Answer) : Type 0 where
   pub answer : Answered (placeFaultOf p q x) (pick (lowerable p x) 1 0) r
   pub work : q′ ≡ workAfter (placeFaultOf p q x) p q
-
--- the pixels of the watershed
-pub record WaterSays (p : Picture) (o o′ q q′ : List ℕ) (r : Answer) : Type 0 where
-  pub answer : Answered (outputFaultOf p o q) 0 r
-  pub output : o′ ≡ afterCall (outputFaultOf p o q) (over (watershed p .pixels) o) o
-  pub work : q′ ≡ workAfter (outputFaultOf p o q) p q
 
 -- where a place lies by its patch number: 0 is the line
 abbrev pub groundOf : ℕ → Ground

@@ -39,7 +39,7 @@ ghost use Rattle.board.specs.PatchLists.{PatchesSay};
 pub fn read_file(file: &[u8]) -> Read
     ensures { λ r. ⌜ ReadSays (now (file .entry)) r ⌝ }
 {
-    reading::read(file)
+    reading::read_file(file)
 }
 
 // The pixels as a part of the file; empty on a refusal.

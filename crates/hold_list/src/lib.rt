@@ -4,7 +4,7 @@ use hold_lines::put_lines;
 use hold_lines::put_refusal;
 use patches::cores::patch_figures;
 use patches::numbers::count_line;
-use reading::read;
+use reading::read_file;
 use watershed::whole::watershed_core;
 ghost use mathlib.Core.Path.{_≡_};
 ghost use mathlib.Core.Bool.{true};
@@ -110,7 +110,7 @@ pub fn put_text(file: &[u8], out: &mut [u8]) -> usize
     if 4096 < file.len() {
         return put_refusal(out, 12);
     }
-    let answer = read(file);
+    let answer = read_file(file);
     let number = answer.number;
     if number != 0 {
         return put_refusal(out, number as u32);

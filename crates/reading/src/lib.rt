@@ -47,7 +47,7 @@ fn answer(outcome: Outcome) -> Read
 }
 
 // The record of what a file is: its header, or its refusal.
-pub fn read(file: &[u8]) -> Read
+pub fn read_file(file: &[u8]) -> Read
     ensures { λ r. ⌜ ReadSays (now (file .entry)) r ⌝ }
 {
     answer(p5::file::read(file))

@@ -20,10 +20,10 @@ abbrev origin : tie.Else2 → tie.Start
 origin c = c .before .before .before .before .before
 
 none : (c : tie.Else2) → numberOf (readFile (origin c .args .file .now)) ≡ 0
-none c = sym (c .before .read .ensures .number) ∙ c .if2 .left
+none c = sym (c .before .read-file .ensures .number) ∙ c .if2 .left
 
 -- the picture that is lent is that of the file
-lent : (c : tie.Else2) → let r = c .before .read .result in pictureOf 4 (r .width) (r .height) (from (r .offset) (origin c .args .file .now)) ≡ pictureIn (origin c .args .file .now)
+lent : (c : tie.Else2) → let r = c .before .read-file .result in pictureOf 4 (r .width) (r .height) (from (r .offset) (origin c .args .file .now)) ≡ pictureIn (origin c .args .file .now)
 lent c =
     let r = c .before .read-file in
     read-picture (origin c .args .file .now) (r .result .width) (r .result .height) (r .result .offset) (r .ensures .width) (r .ensures .height) (r .ensures .offset)
@@ -40,8 +40,8 @@ returns c =
     let p = c .before .before .put-refusal in
     subst (λ (xs : List ℕ). Written 0 xs (s .args .out .now) (p .result) (p .last .0)) (sym (text-long (s .args .file .now) (omega arith))) (p .ensures .0)
 
-read-requires : tie.Need-read-requires
-read-requires c κs = search needs
+read-file-requires : tie.Need-read-file-requires
+read-file-requires c κs = search needs
 
 cast-put-refusal : tie.Need-cast-put-refusal
 cast-put-refusal c = search needs
@@ -56,16 +56,16 @@ returns-2 : tie.Need-returns-2
 returns-2 c =
     let s = c .before .before .before .before .before .before .before .before .before in
     let p = c .before .before .put-refusal2 in
-    let q = c .before .before .before .before .before .read .ensures .number in
+    let q = c .before .before .before .before .before .read-file .ensures .number in
     subst (λ (xs : List ℕ). Written 0 xs (s .args .out .now) (p .result) (p .last .0))
     (ap refusedLine q ∙ sym (text-refused (s .args .file .now) (omega arith) (λ z. c .before .before .before .before .if2 .taken (q ∙ z))))
     (p .ensures .0)
 
 sub-put-holds : tie.Need-sub-put-holds
-sub-put-holds c = omega (arith, c .before .read .ensures .offset, answer-within (origin c .args .file .now))
+sub-put-holds c = omega (arith, c .before .read-file .ensures .offset, answer-within (origin c .args .file .now))
 
 part-put-holds-start : tie.Need-part-put-holds-start
-part-put-holds-start c = omega (arith, c .before .read .ensures .offset, answer-within (origin c .args .file .now))
+part-put-holds-start c = omega (arith, c .before .read-file .ensures .offset, answer-within (origin c .args .file .now))
 
 part-put-holds-end : tie.Need-part-put-holds-end
 part-put-holds-end c = search needs
@@ -95,7 +95,7 @@ put-text-spec =
     put-refusal-requires
     same-length
     returns
-    read-requires
+    read-file-requires
     cast-put-refusal
     put-refusal-requires-2
     same-length-2

@@ -1,0 +1,51 @@
+-- The laws of a call that lends output and work: its refusal, what is known without one, and its end.
+use mathlib.Core.Path.{_≡_, sym, _∙_}
+use mathlib.Core.Bool.{true}
+use mathlib.Core.Logic.{_≢_}
+use mathlib.Core.List.{List, _++_}
+use Prim.Native.Nat.{ℕ, _*_, _≤_}
+use lib.ListN.{length, getD, drop}
+use Rattle.picture.specs.Pictures.{Picture, places, isPicture}
+use Rattle.faults.proofs.Laws.{output-enough, admitted}
+use Rattle.answers.specs.declared.Answer.{Answer}
+use Rattle.answers.specs.Answers.{Refused, Finished}
+use Rattle.answers.proofs.Shell.{refused-answer, refused-left, accepted-answer, written-over, cleared-left}
+use Rattle.board.specs.Calls.{outputFaultOf, OutputSays}
+
+-- an accepted picture, with an entry a place of output and five of work
+pub record OutputLent (p : Picture) (o q : List ℕ) : Type 0 where
+  pub picture : isPicture p ≡ true
+  pub size : length (p .pixels) ≡ places p
+  pub few : places p ≤ 1600
+  pub out : places p ≤ length o
+  pub room : 5 * length (p .pixels) ≤ length q
+
+-- g is the fault of the call
+module _ (p : Picture) (o q : List ℕ) (g : ℕ) (e : g ≡ outputFaultOf p o q) where
+  pub output-refused : g ≢ 0 → (v : ℕ) (new : List ℕ) (r : Answer) → Refused g r → OutputSays p v new o o q q r
+  output-refused d v new r w =
+      record {
+        answer = refused-answer (outputFaultOf p o q) g e d v r w;
+        output = refused-left (outputFaultOf p o q) g e d _ o;
+        work = refused-left (outputFaultOf p o q) g e d _ q;
+      }
+
+  module _ (z : g ≡ 0) (bytes : (i : ℕ) → getD (p .pixels) i 0 ≤ 255) where
+    pub output-lent : OutputLent p o q
+    output-lent =
+        let h = output-enough (p .adjacency) (p .width) (p .height) (length (p .pixels)) (length q) (length o) (sym e ∙ z) in
+        let a = admitted p (length q) (h .0) bytes in
+        record { picture = a .picture; size = a .size; few = a .few; out = h .1; room = a .room }
+
+    -- the core has written the list new to a part of n entries of the output, and work is lent to it and cleared
+    pub output-done :
+        (v u : ℕ) (new ys lent q′ : List ℕ) (r : Answer) → u ≡ v → length new ≡ length (p .pixels) → ys ≡ new →
+        drop (5 * length (p .pixels)) lent ≡ drop (5 * length (p .pixels)) q → Finished (length (p .pixels)) u lent q′ r →
+        OutputSays p v new o (ys ++ drop (length (p .pixels)) o) q q′ r
+    output-done v u new ys lent q′ r w l s d f =
+        let n = sym e ∙ z in
+        record {
+          answer = accepted-answer (outputFaultOf p o q) v u r n w (f .answer);
+          output = written-over (outputFaultOf p o q) (length (p .pixels)) new o ys n l s;
+          work = cleared-left (outputFaultOf p o q) (length (p .pixels)) p q lent q′ n (output-lent .size) d (f .work);
+        }
