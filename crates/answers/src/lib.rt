@@ -29,12 +29,20 @@ pub fn accepted(value: u32) -> Answer
     }
 }
 
+// The first 5 n entries of work become 0.
+pub fn clear_work(work: &mut [u16], n: usize)
+    requires { ⌜ (n ≤ 1600) × (5 * n ≤ length (now work)) ⌝ }
+    ensures { λ _. ⌜ now (work .exit) ≡ cleared n (now (work .entry)) ⌝ }
+{
+    clear(work, 5 * n);
+}
+
 // The end of a call that is not refused: work is cleared over 5 n entries, and the value answered.
 pub fn finish(work: &mut [u16], n: usize, value: u32) -> Answer
     requires { ⌜ (n ≤ 1600) × (5 * n ≤ length (now work)) ⌝ }
     ensures { λ r. ⌜ Finished n value (now (work .entry)) (now (work .exit)) r ⌝ }
 {
-    clear(work, 5 * n);
+    clear_work(work, n);
     accepted(value)
 }
 
@@ -46,5 +54,5 @@ pub fn clear_accepted(work: &mut [u16], n: usize, number: u8)
     if number != 0 {
         return;
     }
-    clear(work, 5 * n);
+    clear_work(work, n);
 }

@@ -2,9 +2,9 @@
 // entries, for a list of patches from their number; then a core works, and work is cleared.
 pub use answers::Answer;
 use answers::clear_accepted;
+use answers::clear_work;
 use answers::finish;
 use answers::refused;
-use cells::clear;
 use faults::least;
 use faults::output_fault;
 use faults::place_fault;
@@ -268,7 +268,7 @@ fn query_cleared(a: u32, w: u32, h: u32, pixels: &[u8], place: usize, work: &mut
     let whole = 5 * n;
     let mut cells = [0u16; 1600];
     let number = query(a, w, h, pixels, place, &mut work[..whole], &mut cells[..n]);
-    clear(work, whole);
+    clear_work(work, n);
     number
 }
 

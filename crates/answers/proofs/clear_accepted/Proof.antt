@@ -12,12 +12,8 @@ returns c =
     let s = c .before .before in
     refused-left (s .args .number) (s .args .number) refl (c .if1 .taken) (cleared (s .args .n) (s .args .work .now)) (s .args .work .now)
 
-mul-clear : tie.Need-mul-clear
-mul-clear c =
-    let b = c .before .before .before .pre (c .before .if1 .left) in record { fits = omega (arith, b .0) }
-
-clear-requires : tie.Need-clear-requires
-clear-requires c κs = c .before .before .before .pre (c .before .if1 .left) .1
+clear-work-requires : tie.Need-clear-work-requires
+clear-work-requires c κs = c .before .before .before .pre (c .before .if1 .left)
 
 same-length : tie.Need-same-length
 same-length c = search needs
@@ -25,8 +21,8 @@ same-length c = search needs
 returns-2 : tie.Need-returns-2
 returns-2 c =
     let s = c .before .before .before .before .before .before in
-    c .before .before .clear .ensures ∙
+    c .before .before .clear-work .ensures ∙
     written-left (s .args .number) (cleared (s .args .n) (s .args .work .now)) (s .args .work .now) (c .before .before .before .before .if1 .left)
 
 pub clear-accepted-spec : {M : Type 1} → statement M
-clear-accepted-spec = tie.close (tie.spec returns mul-clear clear-requires same-length returns-2)
+clear-accepted-spec = tie.close (tie.spec returns clear-work-requires same-length returns-2)

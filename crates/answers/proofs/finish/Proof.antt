@@ -3,11 +3,8 @@ use borrow.Author.Needs.{needs}
 use Rattle.answers.proofs.finish.Statement.{statement}
 use Rattle.answers.proofs.finish.Tie as tie
 
-mul-clear : tie.Need-mul-clear
-mul-clear c = search needs
-
-clear-requires : tie.Need-clear-requires
-clear-requires c κs = search needs
+clear-work-requires : tie.Need-clear-work-requires
+clear-work-requires c κs = search needs
 
 accepted-requires : tie.Need-accepted-requires
 accepted-requires c κs = search needs
@@ -19,4 +16,4 @@ returns : tie.Need-returns
 returns c = search needs
 
 pub finish-spec : {M : Type 1} → statement M
-finish-spec = tie.close (tie.spec mul-clear clear-requires accepted-requires same-length returns)
+finish-spec = tie.close (tie.spec clear-work-requires accepted-requires same-length returns)

@@ -35,8 +35,8 @@ query-requires c κs =
     let b = lent-length n (replicate {A = ℕ} 1600 0) (omega (arith, p .size, p .few, length-replicate {A = ℕ} 1600 0)) in
     (p .accepted, record { few = p .few; blocks = omega (arith, p .size, a); beside = sym b ∙ p .size }, p .place)
 
-clear-requires : tie.Need-clear-requires
-clear-requires c κs = search needs
+clear-work-requires : tie.Need-clear-work-requires
+clear-work-requires c κs = search needs
 
 same-length : tie.Need-same-length
 same-length c = search needs
@@ -47,7 +47,7 @@ returns c =
     let q = c .before .before .before .before .before .before .before .query in
     let n = length (s .args .pixels .now) in (
       q .ensures,
-      c .before .before .clear .ensures ∙
+      c .before .before .clear-work .ensures ∙
           ap (λ (l : List ℕ). replicate {A = ℕ} (5 * n) 0 ++ l)
           (behind-lent (5 * n) (5 * n) (q .last .1 .1 .1 .1 .1 .0) (s .args .work .now) (q .kept .1 .1 .1 .1 .1 .0) (omega arith) (s .pre .room)),
     )
@@ -62,6 +62,6 @@ query-cleared-spec =
     array-borrow-prefix-cells
     slice-aggregate-query-2
     query-requires
-    clear-requires
+    clear-work-requires
     same-length
     returns)
