@@ -62,7 +62,7 @@ fn sum_row(w: usize, n: usize, row: usize, map: &[u16], work: &mut [u16])
     requires { ⌜ Frame w n (now map) × (row * w + w ≤ n) × Sums w n (row * w) (now map) (now work) (now work) ⌝ }
     ensures { λ _. ⌜ Sums w n (row * w + w) (now (map .entry)) (now (work .entry)) (now (work .exit)) ⌝ }
 {
-    let v = row as u16;
+    let narrow = row as u16;
     let mut run = Run {
         number: 0,
         size: 0,
@@ -71,10 +71,10 @@ fn sum_row(w: usize, n: usize, row: usize, map: &[u16], work: &mut [u16])
     let mut column = 0;
     while column < w {
         let c = wide(map[row * w + column]);
-        run = next_run(n, c, run, column as u16, v, work);
+        run = next_run(n, c, run, column as u16, narrow, work);
         column += 1;
     }
-    add_run(n, run, v, work);
+    add_run(n, run, narrow, work);
 }
 
 // Puts the sizes, the sums of columns and the sums of rows into the first three blocks.

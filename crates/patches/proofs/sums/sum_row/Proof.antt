@@ -8,13 +8,13 @@ use Rattle.patches.proofs.sums.sum_row.Statement.{statement}
 use Rattle.patches.proofs.sums.sum_row.Tie as tie
 
 abbrev Inv-loop : tie.InvT-loop
-Inv-loop w n row map work₀ v run₀ column₀ work run column = (column ≤ w) × Running w n row column map work₀ run work
+Inv-loop w n row map work₀ narrow run₀ column₀ work run column = (column ≤ w) × Running w n row column map work₀ run work
 
 abbrev μ-loop : tie.MeasureT-loop
-μ-loop w n row map work₀ v run₀ column₀ work run column = w - column
+μ-loop w n row map work₀ narrow run₀ column₀ work run column = w - column
 
-cast-v : tie.Need-cast-v Inv-loop μ-loop
-cast-v c = let s = c .before .before in omega (arith, row-few _ _ _ (s .pre .0) _ (s .pre .1))
+cast-narrow : tie.Need-cast-narrow Inv-loop μ-loop
+cast-narrow c = let s = c .before .before in omega (arith, row-few _ _ _ (s .pre .0) _ (s .pre .1))
 
 loop-holds : tie.Need-loop-holds Inv-loop μ-loop
 loop-holds c = let s = c .before .before in (search needs, running-start _ _ _ (s .pre .0) _ (s .pre .1) _ _ (s .pre .2))
@@ -80,7 +80,7 @@ sum-row-spec =
     (tie.spec
     Inv-loop
     μ-loop
-    cast-v
+    cast-narrow
     loop-holds
     mul-wide
     add-wide
