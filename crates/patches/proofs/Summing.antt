@@ -1,11 +1,11 @@
 -- The laws of the sums by patch number.
 use mathlib.Core.Path.{_≡_, refl, sym, ap, ap₂, subst, _∙_}
 use mathlib.Core.Logic.{_≢_, by-cases}
-use mathlib.Core.Bool.{Bool}
+use mathlib.Core.Bool.{Bool, true, false}
 use mathlib.Core.List.{List}
-use Prim.Native.Nat.{ℕ, suc, _+_, _*_, _/_, _%_, _≤_, _<_}
+use Prim.Native.Nat.{ℕ, suc, _+_, _*_, _≤_, _<_}
 use native.Mathlib.Decide.{ℕ-discrete}
-use native.Mathlib.Nat.{mod-lt, div-lt-iff-lt-mul, mul-comm, suc-mul, mul-le-mul-right}
+use native.Mathlib.Nat.{mod-lt, div-lt-iff-lt-mul, mul-comm, suc-mul, add-mul, mul-le-mul-right, lt-of-mul-lt-mul-right}
 use native.Mathlib.Numerals.{add-one}
 use native.Mathlib.Omega.{arith}
 use lib.Arith.{digits-div, digits-mod}
@@ -17,7 +17,8 @@ use Rattle.picture.specs.Lists.{pick}
 use Rattle.tree.specs.Arrays.{blockEntry}
 use Rattle.topology.proofs.PatchSums.{sumAt, sum-none, sum-in, sum-out, sum-most}
 use Rattle.cells.specs.Blocks.{UntouchedOutside, Filled}
-use Rattle.patches.specs.Sums.{Figure, sizes, columns, rows, term, base, raised, Raisable, Room, Added, Frame, Sums}
+use Rattle.patches.specs.declared.sums.Run.{Run}
+use Rattle.patches.specs.Sums.{Figure, sizes, columns, rows, term, terms, termAt, base, raised, Raisable, Room, Added, Next, Frame, Sums, Running}
 use Rattle.cells.proofs.Blocks.{kept-refl, kept-store}
 
 kept-trans : (b n : ℕ) (l m o : List ℕ) → UntouchedOutside b n l m → UntouchedOutside b n m o → UntouchedOutside b n l o
@@ -28,6 +29,13 @@ pick-in c d v e = ap (λ (b : Bool). pick b v 0) (eq-eqb c d e)
 
 pick-out : (c d v : ℕ) → c ≢ d → pick (eqb c d) v 0 ≡ 0
 pick-out c d v e = ap (λ (b : Bool). pick b v 0) (ne-eqb c d e)
+
+pick-add : (c d v z : ℕ) → pick (eqb c d) (v + z) 0 ≡ pick (eqb c d) v 0 + pick (eqb c d) z 0
+pick-add c d v z = on-pick-add (eqb c d)
+  where
+    on-pick-add : (b : Bool) → pick b (v + z) 0 ≡ pick b v 0 + pick b z 0
+    on-pick-add true = refl
+    on-pick-add false = refl
 
 -- the sum with one place more
 sum-next : (g : ℕ → ℕ) (numbers : List ℕ) (c x : ℕ) → sumAt g numbers c (x + 1) ≡ sumAt g numbers c x + pick (eqb (getD numbers x 0) c) (g x) 0
@@ -70,9 +78,9 @@ added-none n c t l e =
     }
 
 -- the entries of the number c raised one after the other
-module _ (n c : ℕ) (l : List ℕ) (i : ℕ) (e : c ≡ suc i) (r : Room n c l) where
+module _ (n c : ℕ) (t : Figure → ℕ) (l : List ℕ) (i : ℕ) (e : c ≡ suc i) (r : Room n c t l) where
   -- one that has not been raised yet
-  room-in : (k : Figure) (m : List ℕ) (j : ℕ) → j ≡ base n k + i → j < 3 * n → UntouchedOutside 0 (3 * n) l m → getD m j 0 ≡ getD l j 0 → Raisable m j
+  room-in : (k : Figure) (m : List ℕ) (j : ℕ) → j ≡ base n k + i → j < 3 * n → UntouchedOutside 0 (3 * n) l m → getD m j 0 ≡ getD l j 0 → Raisable m j (t k)
   room-in k m j q h s y =
       let room = r .room k i e in
       let few = r .few in
@@ -81,54 +89,97 @@ module _ (n c : ℕ) (l : List ℕ) (i : ℕ) (e : c ≡ suc i) (r : Room n c l)
       let x = ap (λ (z : ℕ). getD l z 0) q in
       record { inside = omega arith; few = omega arith; room = omega arith }
 
-  pub room-sizes : Raisable l i
+  pub room-sizes : Raisable l i (t sizes)
   room-sizes = let m = r .number in room-in sizes l i (omega arith) (omega arith) (kept-refl 0 (3 * n) l) refl
 
-  module _ (a : List ℕ) (ea : a ≡ raised l i 1) where
+  module _ (a : List ℕ) (ea : a ≡ raised l i (t sizes)) where
     first : UntouchedOutside 0 (3 * n) l a
-    first = let m = r .number in raised-kept (3 * n) i 1 l l a ea (omega arith) (kept-refl 0 (3 * n) l)
+    first = let m = r .number in raised-kept (3 * n) i (t sizes) l l a ea (omega arith) (kept-refl 0 (3 * n) l)
 
-    pub room-columns : Raisable a (n + i)
+    pub room-columns : Raisable a (n + i) (t columns)
     room-columns =
         let m = r .number in
-        room-in columns a (n + i) refl (omega arith) first (raised-apart l a i (n + i) 1 ea (λ f. absurd (omega arith)))
+        room-in columns a (n + i) refl (omega arith) first (raised-apart l a i (n + i) (t sizes) ea (λ f. absurd (omega arith)))
 
-    module _ (b : List ℕ) (u : ℕ) (eb : b ≡ raised a (n + i) u) where
+    module _ (b : List ℕ) (eb : b ≡ raised a (n + i) (t columns)) where
       second : UntouchedOutside 0 (3 * n) l b
-      second = let m = r .number in raised-kept (3 * n) (n + i) u l a b eb (omega arith) first
+      second = let m = r .number in raised-kept (3 * n) (n + i) (t columns) l a b eb (omega arith) first
 
-      pub room-rows : Raisable b (2 * n + i)
+      pub room-rows : Raisable b (2 * n + i) (t rows)
       room-rows =
           let m = r .number in
           room-in rows b (2 * n + i) refl (omega arith) second
-          (raised-apart a b (n + i) (2 * n + i) u eb (λ f. absurd (omega arith)) ∙
-          raised-apart l a i (2 * n + i) 1 ea (λ f. absurd (omega arith)))
+          (raised-apart a b (n + i) (2 * n + i) (t columns) eb (λ f. absurd (omega arith)) ∙
+          raised-apart l a i (2 * n + i) (t sizes) ea (λ f. absurd (omega arith)))
 
-      pub added-some : (d : List ℕ) (v : ℕ) → d ≡ raised b (2 * n + i) v → Added n c (term u v) l d
-      added-some d v ed =
+      pub added-some : (d : List ℕ) → d ≡ raised b (2 * n + i) (t rows) → Added n c t l d
+      added-some d ed =
           let m = r .number in
-          record { kept = raised-kept (3 * n) (2 * n + i) v l b d ed (omega arith) second; sum = more }
+          record { kept = raised-kept (3 * n) (2 * n + i) (t rows) l b d ed (omega arith) second; sum = more }
         where
           -- a block sees its own store and not the other two
-          more : (k : Figure) (j : ℕ) → j < n → blockEntry d (base n k) j ≡ blockEntry l (base n k) j + pick (eqb c (suc j)) (term u v k) 0
+          more : (k : Figure) (j : ℕ) → j < n → blockEntry d (base n k) j ≡ blockEntry l (base n k) j + pick (eqb c (suc j)) (t k) 0
           more sizes j h =
               let m = r .number in
-              let x = raised-own c i e l a i 0 j 1 (omega arith) ea (room-sizes .inside) in
-              let y = raised-apart a b (n + i) (0 + j) u eb (λ f. absurd (omega arith)) in
-              let z = raised-apart b d (2 * n + i) (0 + j) v ed (λ f. absurd (omega arith)) in
+              let x = raised-own c i e l a i 0 j (t sizes) (omega arith) ea (room-sizes .inside) in
+              let y = raised-apart a b (n + i) (0 + j) (t columns) eb (λ f. absurd (omega arith)) in
+              let z = raised-apart b d (2 * n + i) (0 + j) (t rows) ed (λ f. absurd (omega arith)) in
               omega arith
           more columns j h =
               let m = r .number in
-              let x = raised-apart l a i (n + j) 1 ea (λ f. absurd (omega arith)) in
-              let y = raised-own c i e a b (n + i) n j u refl eb (room-columns .inside) in
-              let z = raised-apart b d (2 * n + i) (n + j) v ed (λ f. absurd (omega arith)) in
+              let x = raised-apart l a i (n + j) (t sizes) ea (λ f. absurd (omega arith)) in
+              let y = raised-own c i e a b (n + i) n j (t columns) refl eb (room-columns .inside) in
+              let z = raised-apart b d (2 * n + i) (n + j) (t rows) ed (λ f. absurd (omega arith)) in
               omega arith
           more rows j h =
               let m = r .number in
-              let x = raised-apart l a i (2 * n + j) 1 ea (λ f. absurd (omega arith)) in
-              let y = raised-apart a b (n + i) (2 * n + j) u eb (λ f. absurd (omega arith)) in
-              let z = raised-own c i e b d (2 * n + i) (2 * n) j v refl ed (room-rows .inside) in
+              let x = raised-apart l a i (2 * n + j) (t sizes) ea (λ f. absurd (omega arith)) in
+              let y = raised-apart a b (n + i) (2 * n + j) (t columns) eb (λ f. absurd (omega arith)) in
+              let z = raised-own c i e b d (2 * n + i) (2 * n) j (t rows) refl ed (room-rows .inside) in
               omega arith
+
+-- the next place of a run
+module _ (n c u v : ℕ) (run : Run) (l : List ℕ) where
+  -- a run with one place more
+  longer : (k : Figure) → terms (record { number = c; size = run .size + 1; columns = run .columns + u }) v k ≡ terms run v k + term 1 u v k
+  longer sizes = refl
+  longer columns = refl
+  longer rows = let a = add-mul (run .size) 1 v in omega arith
+
+  -- a run of one place
+  alone : (k : Figure) → terms (record { number = c; size = 1; columns = u }) v k ≡ term 1 u v k
+  alone sizes = refl
+  alone columns = refl
+  alone rows = omega arith
+
+  pub next-same : c ≡ run .number → Next n c u v run l (record { number = c; size = run .size + 1; columns = run .columns + u }) l
+  next-same e =
+      record {
+        kept = kept-refl 0 (3 * n) l;
+        number = refl;
+        size = omega arith;
+        columns = omega arith;
+        sum =
+            λ k i h.
+            let s = ap (λ (d : ℕ). pick (eqb d (suc i)) (terms run v k) 0) e in
+            let p = ap (λ (z : ℕ). pick (eqb c (suc i)) z 0) (longer k) in
+            let q = pick-add c (suc i) (terms run v k) (term 1 u v k) in
+            omega arith;
+      }
+
+  pub next-other : (m : List ℕ) → Added n (run .number) (terms run v) l m → Next n c u v run l (record { number = c; size = 1; columns = u }) m
+  next-other m a =
+      record {
+        kept = a .kept;
+        number = refl;
+        size = omega arith;
+        columns = omega arith;
+        sum =
+            λ k i h.
+            let s = a .sum k i h in
+            let p = ap (λ (z : ℕ). pick (eqb c (suc i)) z 0) (alone k) in
+            omega arith;
+      }
 
 -- sums over no place
 pub sums-start : (w n : ℕ) (numbers work l : List ℕ) → length work ≡ 5 * n → Filled 0 (3 * n) 0 work l → Sums w n 0 numbers l l
@@ -136,7 +187,7 @@ sums-start w n numbers work l e f =
     record {
       kept = kept-refl 0 (3 * n) l;
       blocks = f .kept .size ∙ e;
-      sum = λ k i h. empty k i h ∙ sym (sum-none (λ y. term (y % w) (y / w) k) numbers (suc i));
+      sum = λ k i h. empty k i h ∙ sym (sum-none (termAt w k) numbers (suc i));
     }
   where
     at : (b i : ℕ) → b + i < 3 * n → blockEntry l b i ≡ 0
@@ -173,7 +224,7 @@ module _ (w n x : ℕ) (numbers l m : List ℕ) (s : Sums w n x numbers l m) whe
 
 module _ (w n : ℕ) (numbers : List ℕ) (f : Frame w n numbers) where
   -- columns and rows are at most 39
-  term-most : (x : ℕ) → x < n → (k : Figure) → term (x % w) (x / w) k ≤ 39
+  term-most : (x : ℕ) → x < n → (k : Figure) → termAt w k x ≤ 39
   term-most x h sizes = omega arith
   term-most x h columns = let a = mod-lt x {m = w} (f .some) in let b = f .wide in omega arith
   term-most x h rows =
@@ -182,45 +233,88 @@ module _ (w n : ℕ) (numbers : List ℕ) (f : Frame w n numbers) where
       let a = div-lt-iff-lt-mul (f .some) .1 (rw (mul-comm w 40) at below) in
       omega arith
 
-  -- one more place, in the row v at the column u
-  module _ (u v : ℕ) (inside : u < w) (whole : v * w + w ≤ n) where
-    place-term : (k : Figure) → term ((v * w + u) % w) ((v * w + u) / w) k ≡ term u v k
-    place-term k = ap₂ (λ a b. term a b k) (digits-mod v inside) (digits-div v inside)
-
+  -- the row v
+  module _ (v : ℕ) (whole : v * w + w ≤ n) where
     pub row-few : v ≤ 39
-    row-few = let a = term-most (v * w + u) (omega arith) rows in let e = place-term rows in omega arith
+    row-few =
+        let some = f .some in
+        let high = f .high in
+        let a = lt-of-mul-lt-mul-right w {m = v} {n = 40} (omega arith) in
+        omega arith
 
-    module _ (c : ℕ) (is : c ≡ getD numbers (v * w + u) 0) (work l : List ℕ) (s : Sums w n (v * w + u) numbers work l) where
-      pub sums-room : Room n c l
-      sums-room =
-          let high = f .high in
-          let wide = f .wide in
-          let most = f .most (v * w + u) (omega arith) in
+    module _ (work l : List ℕ) where
+      -- a run begins with no place
+      pub running-start : Sums w n (v * w) numbers work l → Running w n v 0 numbers work (record { number = 0; size = 0; columns = 0 }) l
+      running-start s =
           record {
-            few = omega arith;
+            kept = s .kept;
             blocks = s .blocks;
             number = omega arith;
-            room =
-                λ k i e.
-                let sum = s .sum k i (omega arith) in
-                let bound = sum-most (λ y. term (y % w) (y / w) k) numbers (suc i) 39 (v * w + u) (λ y d. term-most y (omega arith) k) in
+            size = omega arith;
+            columns = omega arith;
+            sum =
+                λ k i h.
+                let q = pick-out 0 (suc i) (terms (record { number = 0; size = 0; columns = 0 }) v k) (λ d. absurd (omega arith)) in
+                let e : v * w ≡ v * w + 0 = omega arith in
+                let x = ap (sumAt (termAt w k) numbers (suc i)) e in
+                let sum = s .sum k i h in
                 omega arith;
           }
 
-      pub sums-more : (m : List ℕ) → Added n c (term u v) l m → Sums w n (v * w + (u + 1)) numbers work m
-      sums-more m a =
-          record {
-            kept = kept-trans 0 (3 * n) work l m (s .kept) (a .kept);
-            blocks = a .kept .size ∙ s .blocks;
-            sum =
-                λ k i h.
-                let x = v * w + u in
-                let g : ℕ → ℕ = λ y. term (y % w) (y / w) k in
-                let now = a .sum k i h in
-                let sum = s .sum k i h in
-                let next = sum-next g numbers (suc i) x in
-                let same = ap₂ (λ (d z : ℕ). pick (eqb d (suc i)) z 0) is (sym (place-term k)) in
-                let e : x + 1 ≡ v * w + (u + 1) = omega arith in
-                let q = ap (sumAt g numbers (suc i)) e in
-                omega arith;
-          }
+      module _ (u : ℕ) (run : Run) (s : Running w n v u numbers work run l) where
+        pub running-room : u ≤ w → Room n (run .number) (terms run v) l
+        running-room b =
+            let high = f .high in
+            let wide = f .wide in
+            let most = s .number in
+            record {
+              few = omega arith;
+              blocks = s .blocks;
+              number = most;
+              room =
+                  λ k i e.
+                  let sum = s .sum k i (omega arith) in
+                  let q = pick-in (run .number) (suc i) (terms run v k) e in
+                  let bound = sum-most (termAt w k) numbers (suc i) 39 (v * w + u) (λ y d. term-most y (omega arith) k) in
+                  omega arith;
+            }
+
+        -- the place in the column u
+        pub running-more :
+            (inside : u < w) (c : ℕ) → c ≡ getD numbers (v * w + u) 0 → (r : Run) (m : List ℕ) → Next n c u v run l r m →
+            Running w n v (u + 1) numbers work r m
+        running-more inside c is r m a =
+            let most = f .most (v * w + u) (omega arith) in
+            let wide = f .wide in
+            let number = a .number in
+            let size = a .size in
+            let columns = a .columns in
+            let fewer = s .size in
+            let less = s .columns in
+            record {
+              kept = kept-trans 0 (3 * n) work l m (s .kept) (a .kept);
+              blocks = a .kept .size ∙ s .blocks;
+              number = omega arith;
+              size = omega arith;
+              columns = omega arith;
+              sum =
+                  λ k i h.
+                  let x = v * w + u in
+                  let now = a .sum k i h in
+                  let sum = s .sum k i h in
+                  let next = sum-next (termAt w k) numbers (suc i) x in
+                  let place : term 1 u v k ≡ termAt w k x = sym (ap₂ (λ (y z : ℕ). term 1 y z k) (digits-mod v inside) (digits-div v inside)) in
+                  let same = ap₂ (λ (d z : ℕ). pick (eqb d (suc i)) z 0) is place in
+                  let e : x + 1 ≡ v * w + (u + 1) = omega arith in
+                  let q = ap (sumAt (termAt w k) numbers (suc i)) e in
+                  omega arith;
+            }
+
+        -- the last run of the row is added
+        pub running-end : u ≡ w → (m : List ℕ) → Added n (run .number) (terms run v) l m → Sums w n (v * w + w) numbers work m
+        running-end e m a =
+            record {
+              kept = kept-trans 0 (3 * n) work l m (s .kept) (a .kept);
+              blocks = a .kept .size ∙ s .blocks;
+              sum = λ k i h. a .sum k i h ∙ (s .sum k i h ∙ ap (λ (z : ℕ). sumAt (termAt w k) numbers (suc i) (v * w + z)) e);
+            }
