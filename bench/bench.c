@@ -23,7 +23,11 @@
 
 #define ROUNDS 25
 #define ROUND_SECONDS 400e-6
+#define BESIDE_ROUNDS 200
+#define BESIDE_CALLS 10
 #define CALLS 8
+#define TREE 3
+#define QUERY 7
 #define SIDES 4
 
 static const unsigned sides[SIDES] = { 5, 10, 20, 40 };
@@ -202,19 +206,35 @@ static void measure(struct times *least)
 }
 
 static struct times table[2][SIDES][PICTURE_COUNT][CALLS];
-static double figures[2][PICTURE_COUNT];
 
-/* The least time in seconds of the figures of all patches. */
-static double measure_figures(void)
+/* The least times in seconds of the tree, of the place query and of the figures of all patches. */
+struct beside {
+    double tree, query, figures;
+};
+
+static struct beside beside[2][PICTURE_COUNT];
+
+static double figures_round(void)
 {
-    double least = 1e9;
-    for (unsigned i = 0; i < ROUNDS; i++) {
-        double begin = now();
-        for (unsigned j = 0; j < 10; j++)
-            sink = bench_figures(a, w, w, pixels, n, ours.work, 5 * n);
-        double taken = (now() - begin) / 10;
-        if (taken < least)
-            least = taken;
+    double begin = now();
+    for (unsigned i = 0; i < BESIDE_CALLS; i++)
+        sink = bench_figures(a, w, w, pixels, n, ours.work, 5 * n);
+    return (now() - begin) / BESIDE_CALLS;
+}
+
+static double lesser(double x, double y)
+{
+    return x < y ? x : y;
+}
+
+/* The three in turn in every round, so that a slow phase of the machine is none of one alone. */
+static struct beside measure_beside(void)
+{
+    struct beside least = { 1e9, 1e9, 1e9 };
+    for (unsigned i = 0; i < BESIDE_ROUNDS; i++) {
+        least.tree = lesser(least.tree, round_of(TREE, 1, BESIDE_CALLS));
+        least.query = lesser(least.query, round_of(QUERY, 1, BESIDE_CALLS));
+        least.figures = lesser(least.figures, figures_round());
     }
     return least;
 }
@@ -285,12 +305,10 @@ static void print_against_tree(void)
     printf("\n| picture | query_place, 4 | query_place, 8 | figures, 4 | figures, 8 |\n|---|---|---|---|---|\n");
     for (unsigned p = 0; p < PICTURE_COUNT; p++) {
         printf("| %s |", picture_names[p]);
-        for (unsigned adjacency = 0; adjacency < 2; adjacency++) {
-            struct times *t = table[adjacency][SIDES - 1][p];
-            printf(" %.2f |", t[7].ours / t[3].ours);
-        }
         for (unsigned adjacency = 0; adjacency < 2; adjacency++)
-            printf(" %.2f |", figures[adjacency][p] / table[adjacency][SIDES - 1][p][3].ours);
+            printf(" %.2f |", beside[adjacency][p].query / beside[adjacency][p].tree);
+        for (unsigned adjacency = 0; adjacency < 2; adjacency++)
+            printf(" %.2f |", beside[adjacency][p].figures / beside[adjacency][p].tree);
         printf("\n");
     }
 }
@@ -301,7 +319,7 @@ __attribute__((noinline)) static void counted(unsigned call, int is_ours)
     if (call == CALLS && is_ours)
         sink = bench_figures(a, w, w, pixels, n, ours.work, 5 * n);
     else if (call == CALLS)
-        sink = run(3, 1, &ours);
+        sink = run(TREE, 1, &ours);
     else
         sink = run(call, is_ours, is_ours ? &ours : &peer);
 }
@@ -358,7 +376,7 @@ int main(int arguments, char **argument)
                 take(p, sides[s], adjacency ? 8 : 4);
                 measure(table[adjacency][s][p]);
                 if (s == SIDES - 1)
-                    figures[adjacency][p] = measure_figures();
+                    beside[adjacency][p] = measure_beside();
             }
     for (unsigned adjacency = 0; adjacency < 2; adjacency++) {
         print_ratios(adjacency);

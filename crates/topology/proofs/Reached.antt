@@ -126,7 +126,7 @@ module _ (p : Picture) (k : ℕ) where
         (omega arith))
 
 module _ (p : Picture) (k : ℕ) where
-  -- the fuel of `spread` suffices
+  -- the bound on the steps of `spread` is large enough
   component-reached : (x : ℕ) → At p k x → Reached p k x (componentAt p k x)
   unfolding componentAt
   component-reached x s =
@@ -137,6 +137,10 @@ module _ (p : Picture) (k : ℕ) where
 
   pub component-rising : (x : ℕ) → At p k x → Rising 0 (componentAt p k x)
   component-rising x s = component-reached x s .rising
+
+  -- a component is closed: no further place of the section touches it
+  pub component-closed : (x : ℕ) → At p k x → (y z : ℕ) → List·Memᴰ y (componentAt p k x) → Adj p y z → At p k z → List·Memᴰ z (componentAt p k x)
+  component-closed x s = component-reached x s .closed
 
   pub mem-joined : (x y : ℕ) → At p k x → List·Memᴰ y (componentAt p k x) → Joined p k x y
   mem-joined x y s m = component-reached x s .sound y m

@@ -1,4 +1,4 @@
--- The watershed: its fuel suffices, it keeps parts, is nowhere above the picture, and nothing in it is lowerable.
+-- The watershed: the bound on its steps is large enough, it keeps parts, is nowhere above the picture, and nothing in it is lowerable.
 use mathlib.Core.Path.{_≡_, refl, sym, ap, subst, _∙_}
 use mathlib.Core.Bool.{true, _&&_, _||_}
 use mathlib.Core.Logic.{⊎-elim, by-cases}
@@ -142,7 +142,7 @@ module _ (f : Picture) where
   Outcome : ℕ → List ℕ → Type 0
   Outcome l xs = (ys : List ℕ) × (waterFrom l (withPixels f xs) ≡ withPixels f ys) × Watered f xs ys
 
-  -- the fuel of `waterFrom` suffices where it is above the sum of the pixels
+  -- the bound on the steps of `waterFrom` is large enough where it is above the sum of the pixels
   outcome : (l : ℕ) (xs : List ℕ) → length xs ≡ places f → total xs < l → Outcome l xs
   unfolding Outcome
   outcome zero xs e h = absurd (omega arith)
