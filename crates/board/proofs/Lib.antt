@@ -5,5 +5,6 @@ pub mod Queries
 pub mod LentTrees
 pub mod Demands
 pub mod Answers
+pub mod ListTypes
 pub mod Lending
 pub mod PatchLists

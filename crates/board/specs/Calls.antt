@@ -1,5 +1,5 @@
 -- What the public calls promise: the answer, and what they leave in each lent slice.
--- p the picture, o output, q work, hs fs ss m heights, fathers, first places and map, r the answer; a prime: after the call.
+-- p the picture, o output, q work, r the answer; a prime: after the call.
 use mathlib.Core.Path.{_≡_}
 use mathlib.Core.Bool.{true}
 use mathlib.Core.List.{List}

@@ -1,5 +1,5 @@
 -- What the call that lists the patches promises.
--- p the picture, o output, q work, hs fs ss m heights, fathers, first places and map, r the answer; a prime: after the call.
+-- p the picture, o output, q work, r the answer; a prime: after the call.
 use mathlib.Core.Path.{_≡_}
 use mathlib.Core.List.{List, _++_, map}
 use Prim.Native.Nat.{ℕ}

@@ -1,5 +1,5 @@
 -- What the calls of the component tree promise: the tree, its check, and the pass read off it.
--- p the picture, o output, q work, hs fs ss m heights, fathers, first places and map, r the answer; a prime: after the call.
+-- p the picture, q work, hs fs ss m heights, fathers, first places and map, r the answer; a prime: after the call.
 use mathlib.Core.Path.{_≡_}
 use mathlib.Core.Bool.{Bool, true, false, _&&_, _||_, not}
 use mathlib.Core.List.{List, [], _∷_}

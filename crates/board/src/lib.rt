@@ -126,19 +126,8 @@ pub fn check_tree(
     ensures { λ r. ⌜ CheckSays (pictureOf a w h (now (pixels .entry))) count (now (heights .entry)) (now (fathers .entry)) (now (firsts .entry)) (now (map .entry)) (now (work .entry)) (now (work .exit)) r ⌝ }
 {
     let shortest = least(heights.len(), fathers.len(), firsts.len(), map.len());
-    let length_fault = output_fault(a, w, h, pixels.len(), shortest, work.len());
-    let fault = tree_fault(
-        length_fault,
-        a,
-        w,
-        h,
-        pixels,
-        count,
-        heights,
-        fathers,
-        firsts,
-        map,
-    );
+    let fault = output_fault(a, w, h, pixels.len(), shortest, work.len());
+    let fault = tree_fault(fault, a, w, h, pixels, count, heights, fathers, firsts, map);
     if fault != 0 {
         return refused(fault);
     }
@@ -163,20 +152,9 @@ pub fn pass_between(
     ensures { λ r. ⌜ PassSays (pictureOf a w h (now (pixels .entry))) count (now (heights .entry)) (now (fathers .entry)) (now (firsts .entry)) (now (map .entry)) x y (now (work .entry)) (now (work .exit)) r ⌝ }
 {
     let shortest = least(heights.len(), fathers.len(), firsts.len(), map.len());
-    let length_fault = output_fault(a, w, h, pixels.len(), shortest, work.len());
-    let early_fault = places_fault(length_fault, pixels.len(), x, y);
-    let fault = tree_fault(
-        early_fault,
-        a,
-        w,
-        h,
-        pixels,
-        count,
-        heights,
-        fathers,
-        firsts,
-        map,
-    );
+    let fault = output_fault(a, w, h, pixels.len(), shortest, work.len());
+    let fault = places_fault(fault, pixels.len(), x, y);
+    let fault = tree_fault(fault, a, w, h, pixels, count, heights, fathers, firsts, map);
     if fault != 0 {
         return refused(fault);
     }

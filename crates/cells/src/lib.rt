@@ -1,4 +1,4 @@
-// Memory of 16-bit cells: a cell as a number, filling, clearing.
+// Memory of 16-bit cells: a cell or a pixel as a number, filling, clearing.
 ghost use mathlib.Core.Path.{_≡_};
 ghost use mathlib.Core.List.{_++_};
 ghost use Prim.Native.Nat.{_+_, _≤_};

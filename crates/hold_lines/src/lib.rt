@@ -1,4 +1,4 @@
-// Lines of patches from their figures.
+// The lines of the hold list: its head, a line a patch from its figures, the line of a refusal.
 use patches::figures::centre;
 use text::put_bytes;
 use text::put_fields;

@@ -28,7 +28,7 @@ pub fn unpack(bytes: &[u8], cells: &mut [u16], m: usize)
     }
 }
 
-// Writes an entry and answers the place behind it. By `put_little`, which is recursive, packing would double the time of a place query.
+// Writes an entry and answers the place behind it.
 fn put_entry(bytes: &mut [u8], at: usize, value: u16) -> usize
     requires { ⌜ at + 2 ≤ length (now bytes) ⌝ }
     ensures { λ r. ⌜ Written at (littleEndian 2 value) (now (bytes .entry)) r (now (bytes .exit)) ⌝ }

@@ -1,4 +1,4 @@
-// Patches: the minima of a picture, their number, their figures and the patch of a place.
+// Patches: their figures, and the patch of a place, from the tree.
 pub mod cores;
 pub mod figures;
 pub mod numbers;

@@ -1,9 +1,9 @@
 -- The definitions that a reader must believe, in the words of the scope document.
 pub mod Lists
 pub mod Pictures
+pub mod Geometry
 pub mod Components
 pub mod Trees
 pub mod Watersheds
 pub mod Patches
 pub mod Kept
-pub mod Geometry

@@ -38,7 +38,7 @@ fn lower_place(a: u32, w: u32, h: u32, x: usize, out: &mut [u8], work: &mut [u16
     wake_all(out, &mut work[e..], n, &near, m, stop, k);
 }
 
-// Takes the winner x away, settles it, and answers the next winner.
+// Takes the winner x away, lowers it as far as it falls, and answers the next winner.
 fn turn(a: u32, w: u32, h: u32, x: usize, out: &mut [u8], work: &mut [u16]) -> usize
     requires { ⌜ Turning (pictureOf a w h []) (now out) (take (3 * (w * h)) (now work)) (drop (3 * (w * h)) (now work)) x × (length (now work) ≡ 5 * (w * h)) ⌝ }
     ensures { λ r. ⌜ Turned (pictureOf a w h []) (now (out .entry)) (drop (3 * (w * h)) (now (work .entry))) (now (out .exit)) (take (3 * (w * h)) (now (work .exit))) (drop (3 * (w * h)) (now (work .exit))) r ⌝ }

@@ -7,6 +7,8 @@
 //!     watershed ADJACENCY WIDTH HEIGHT PIXELS OUT-LENGTH WORK-LENGTH NUMBER [OUT]
 //!     place ADJACENCY WIDTH HEIGHT PIXELS PLACE OUT-LENGTH WORK-LENGTH NUMBER [VALUE PATCH]
 
+use crate::arguments;
+use crate::damage;
 use crate::file;
 use crate::generate;
 use crate::hexadecimal;
@@ -30,52 +32,9 @@ struct Call {
 const PLACE_OUT: usize = 16;
 const READ_OUT: usize = 32;
 
-/// The refusal's number or 0. The order is 7, 3, 8, 9, 10. `enough` says
-/// whether the lent memory is enough for n pixels.
-pub fn refusal(
-    adjacency: u32,
-    sides: (u32, u32),
-    length: usize,
-    enough: impl Fn(usize) -> bool,
-    places: &[u32],
-) -> u32 {
-    let (width, height) = sides;
-    if adjacency != 4 && adjacency != 8 {
-        return 7;
-    }
-    if !(1..=40).contains(&width) || !(1..=40).contains(&height) {
-        return 3;
-    }
-    let count = (width * height) as usize;
-    if length != count {
-        return 8;
-    }
-    if !enough(count) {
-        return 9;
-    }
-    if places.iter().any(|place| *place as usize >= count) {
-        return 10;
-    }
-    0
-}
-
-/// The picture of arguments that are not refused.
-pub fn picture(adjacency: u32, sides: (u32, u32), pixels: &[u8]) -> Picture {
-    Picture {
-        width: sides.0 as usize,
-        height: sides.1 as usize,
-        pixels: pixels.to_vec(),
-        adjacency: if adjacency == 4 {
-            Adjacency::Four
-        } else {
-            Adjacency::Eight
-        },
-    }
-}
-
 impl Call {
     fn refusal(&self) -> u32 {
-        refusal(
+        arguments::refusal(
             self.adjacency,
             (self.width, self.height),
             self.pixels.len(),
@@ -92,7 +51,7 @@ impl Call {
     }
 
     fn picture(&self) -> Picture {
-        picture(self.adjacency, (self.width, self.height), &self.pixels)
+        arguments::picture(self.adjacency, (self.width, self.height), &self.pixels)
     }
 
     fn line(&self) -> String {
@@ -338,7 +297,7 @@ pub fn text(count: usize) -> String {
     long.extend(b"1 1\n255\n\xff");
     lines.push(read_line(&long, READ_OUT));
 
-    for file in generate::files_for_the_order() {
+    for file in damage::files_for_the_order() {
         lines.push(read_line(&file, READ_OUT));
         lines.push(read_line(&file, READ_OUT - 1));
     }
@@ -356,9 +315,9 @@ pub fn text(count: usize) -> String {
             let file = if random.below(2) == 0 {
                 let sides = generate::sides(&mut random);
                 let picture = generate::picture(&mut random, sides);
-                generate::accepted_file(&mut random, &picture)
+                damage::accepted_file(&mut random, &picture)
             } else {
-                generate::damaged_file(&mut random)
+                damage::damaged_file(&mut random)
             };
             let out_length = random.one_of(&[0, 8, 31, 32, 32, 32, 33, 100]);
             lines.push(read_line(&file, out_length));

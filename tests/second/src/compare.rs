@@ -1,6 +1,7 @@
 //! Runs files through a given `holds` program and through this one.
 
 use crate::edges;
+use crate::damage;
 use crate::file;
 use crate::generate;
 use crate::hexadecimal;
@@ -32,18 +33,18 @@ fn run(program: &str, input: &[u8]) -> Result<Vec<u8>, String> {
 fn files(count: usize) -> Vec<(String, Vec<u8>)> {
     let mut files = edges::edge_cases();
     files.push(("wall example".to_string(), wall::file()));
-    for (set, file) in generate::files_for_the_order().into_iter().enumerate() {
+    for (set, file) in damage::files_for_the_order().into_iter().enumerate() {
         files.push((format!("order {}", set), file));
     }
     let mut random = Random::new(20_001);
     for index in 0..count {
         if index % 3 == 2 {
-            let file = generate::damaged_file(&mut random);
+            let file = damage::damaged_file(&mut random);
             files.push((format!("{} damaged", index), file));
         } else {
             let sides = generate::sides(&mut random);
             let picture = generate::picture(&mut random, sides);
-            let file = generate::accepted_file(&mut random, &picture);
+            let file = damage::accepted_file(&mut random, &picture);
             assert!(file::read_input(&file).is_ok());
             files.push((format!("{} {}", index, picture.kind), file));
         }

@@ -1,4 +1,4 @@
-//! A second program for the board picture, written from the paper's prose
+//! A second program for the board picture, written from the scope document's prose
 //! alone, to compare the first one with.
 //!
 //!     second holds                  what `holds` prints for standard input
@@ -8,9 +8,11 @@
 //!     second calls [count]          test cases for the calls on 16-bit memory
 //!     second wall                   an example picture as a P5 file
 
+mod arguments;
 mod calls;
 mod cases;
 mod compare;
+mod damage;
 mod edges;
 mod file;
 mod generate;
@@ -19,6 +21,7 @@ mod hand;
 mod holds;
 mod lent;
 mod literal;
+mod question;
 mod quick;
 mod random;
 mod wall;

@@ -1,0 +1,46 @@
+//! The arguments that every call has: their refusal, and the picture that they name.
+
+use crate::literal::{Adjacency, Picture};
+
+/// The refusal's number or 0. The order is 7, 3, 8, 9, 10. `enough` says
+/// whether the lent memory is enough for n pixels.
+pub fn refusal(
+    adjacency: u32,
+    sides: (u32, u32),
+    length: usize,
+    enough: impl Fn(usize) -> bool,
+    places: &[u32],
+) -> u32 {
+    let (width, height) = sides;
+    if adjacency != 4 && adjacency != 8 {
+        return 7;
+    }
+    if !(1..=40).contains(&width) || !(1..=40).contains(&height) {
+        return 3;
+    }
+    let count = (width * height) as usize;
+    if length != count {
+        return 8;
+    }
+    if !enough(count) {
+        return 9;
+    }
+    if places.iter().any(|place| *place as usize >= count) {
+        return 10;
+    }
+    0
+}
+
+/// The picture of arguments that are not refused.
+pub fn picture(adjacency: u32, sides: (u32, u32), pixels: &[u8]) -> Picture {
+    Picture {
+        width: sides.0 as usize,
+        height: sides.1 as usize,
+        pixels: pixels.to_vec(),
+        adjacency: if adjacency == 4 {
+            Adjacency::Four
+        } else {
+            Adjacency::Eight
+        },
+    }
+}

@@ -1,0 +1,239 @@
+//! A call on 16-bit memory: what it asks, its refusal, and its line as a test
+//! case in the form that the module `calls` gives.
+
+use crate::arguments;
+use crate::hexadecimal;
+use crate::lent::{entries_text, LentTree};
+use crate::literal::{self, Adjacency, Picture, PlaceAnswer, Tree};
+use crate::quick;
+
+/// What a call asks of a picture, with the memory that it alone lends.
+#[derive(Clone)]
+pub enum Question {
+    Label {
+        height: u8,
+        out_length: usize,
+    },
+    Lowerable {
+        place: u32,
+    },
+    /// Lengths of heights, fathers, first places and map.
+    Tree {
+        lengths: [usize; 4],
+    },
+    Check {
+        lent: LentTree,
+    },
+    Pass {
+        lent: LentTree,
+        places: [u32; 2],
+    },
+    Watershed {
+        out_length: usize,
+    },
+    Place {
+        place: u32,
+    },
+}
+
+pub const KINDS: [&str; 7] = [
+    "label",
+    "lowerable",
+    "tree",
+    "check",
+    "pass",
+    "watershed",
+    "place",
+];
+
+#[derive(Clone)]
+pub struct Call {
+    pub adjacency: u32,
+    pub sides: (u32, u32),
+    pub pixels: Vec<u8>,
+    pub question: Question,
+    pub work_length: usize,
+}
+
+/// Whether the literal functions are quick enough; the tests compare the
+/// quick ones with them.
+fn is_small(picture: &Picture) -> bool {
+    picture.count() <= 40
+}
+
+pub fn tree_of(picture: &Picture) -> Tree {
+    if is_small(picture) {
+        literal::tree(picture)
+    } else {
+        quick::tree(picture)
+    }
+}
+
+fn pass_of(picture: &Picture, one: usize, other: usize) -> i32 {
+    if is_small(picture) {
+        literal::pass(picture, one, other)
+    } else {
+        quick::pass(picture, one, other)
+    }
+}
+
+fn place_query_of(picture: &Picture, place: usize) -> PlaceAnswer {
+    if is_small(picture) {
+        literal::place_query(picture, place)
+    } else {
+        quick::place_query(picture, place)
+    }
+}
+
+impl Question {
+    pub fn places(&self) -> Vec<u32> {
+        match self {
+            Question::Lowerable { place } | Question::Place { place } => vec![*place],
+            Question::Pass { places, .. } => places.to_vec(),
+            _ => Vec::new(),
+        }
+    }
+
+    /// The length of the shortest memory that only this call lends.
+    pub fn least_length(&self) -> Option<usize> {
+        match self {
+            Question::Label { out_length, .. } | Question::Watershed { out_length } => {
+                Some(*out_length)
+            }
+            Question::Tree { lengths } => lengths.iter().copied().min(),
+            Question::Check { lent } | Question::Pass { lent, .. } => Some(lent.least_length()),
+            _ => None,
+        }
+    }
+
+    pub fn lent(&self) -> Option<&LentTree> {
+        match self {
+            Question::Check { lent } | Question::Pass { lent, .. } => Some(lent),
+            _ => None,
+        }
+    }
+
+    pub fn lent_mut(&mut self) -> Option<&mut LentTree> {
+        match self {
+            Question::Check { lent } | Question::Pass { lent, .. } => Some(lent),
+            _ => None,
+        }
+    }
+
+    /// The call's name and its fields between the pixels and the work length.
+    fn fields(&self) -> (&'static str, String) {
+        match self {
+            Question::Label { height, out_length } => {
+                ("label", format!("{} {} ", height, out_length))
+            }
+            Question::Lowerable { place } => ("lowerable", format!("{} ", place)),
+            Question::Tree { lengths } => {
+                let lengths = lengths.map(|length| length.to_string() + " ");
+                ("tree", lengths.concat())
+            }
+            Question::Check { lent } => ("check", format!("{} ", lent.text())),
+            Question::Pass { lent, places } => {
+                let [one, other] = places;
+                ("pass", format!("{} {} {} ", lent.text(), one, other))
+            }
+            Question::Watershed { out_length } => ("watershed", format!("{} ", out_length)),
+            Question::Place { place } => ("place", format!("{} ", place)),
+        }
+    }
+
+    /// The fields behind the number 0, each with a space before it.
+    fn answer(&self, picture: &Picture) -> String {
+        match self {
+            Question::Label { height, .. } => {
+                let labels = literal::labels(picture, i32::from(*height));
+                let count = labels.iter().max().unwrap();
+                format!(" {} {}", count, entries_text(&labels))
+            }
+            Question::Lowerable { place } => {
+                let answer = literal::lowerable(picture, *place as usize);
+                format!(" {}", u32::from(answer))
+            }
+            Question::Tree { .. } => format!(" {}", LentTree::new(&tree_of(picture)).text()),
+            Question::Check { .. } => String::new(),
+            Question::Pass { places, .. } => {
+                let [one, other] = places.map(|place| place as usize);
+                format!(" {}", pass_of(picture, one, other))
+            }
+            Question::Watershed { .. } => {
+                format!(" {}", hexadecimal(&quick::watershed(picture).pixels))
+            }
+            Question::Place { place } => {
+                let answer = place_query_of(picture, *place as usize);
+                format!(" {} {}", answer.value, answer.patch.unwrap_or(0))
+            }
+        }
+    }
+}
+
+impl Call {
+    pub fn picture(&self) -> Picture {
+        arguments::picture(self.adjacency, self.sides, &self.pixels)
+    }
+
+    /// The refusal's number or 0. The order is 7, 3, 8, 9, 10, 11.
+    pub fn refusal(&self) -> u32 {
+        let number = arguments::refusal(
+            self.adjacency,
+            self.sides,
+            self.pixels.len(),
+            |count| {
+                let length = self.question.least_length();
+                length.is_none_or(|length| length >= count) && self.work_length >= 5 * count
+            },
+            &self.question.places(),
+        );
+        match self.question.lent() {
+            Some(lent) if number == 0 && !lent.is(&tree_of(&self.picture())) => 11,
+            _ => number,
+        }
+    }
+
+    pub fn line(&self) -> String {
+        let number = self.refusal();
+        let (name, fields) = self.question.fields();
+        let mut line = format!(
+            "{} {} {} {} {} {}{} {}",
+            name,
+            self.adjacency,
+            self.sides.0,
+            self.sides.1,
+            hexadecimal(&self.pixels),
+            fields,
+            self.work_length,
+            number
+        );
+        if number == 0 {
+            line += &self.question.answer(&self.picture());
+        }
+        line
+    }
+}
+
+/// A call that is not refused, its memory as long as needed.
+pub fn exact_call(picture: &Picture, question: Question) -> Call {
+    Call {
+        adjacency: match picture.adjacency {
+            Adjacency::Four => 4,
+            Adjacency::Eight => 8,
+        },
+        sides: (picture.width as u32, picture.height as u32),
+        pixels: picture.pixels.clone(),
+        question,
+        work_length: 5 * picture.count(),
+    }
+}
+
+pub fn other_adjacency(picture: &Picture) -> Picture {
+    Picture {
+        adjacency: match picture.adjacency {
+            Adjacency::Four => Adjacency::Eight,
+            Adjacency::Eight => Adjacency::Four,
+        },
+        ..picture.clone()
+    }
+}
