@@ -1,5 +1,5 @@
 // The fault of a lent tree.
-use verify::check::is_tree;
+use verify::is_tree;
 ghost use mathlib.Core.Path.{_≡_};
 ghost use Rattle.picture.specs.Pictures.{pictureOf};
 ghost use Rattle.board.specs.Trees.{checkedFault, TreeLent};

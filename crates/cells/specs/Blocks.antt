@@ -5,6 +5,10 @@ use mathlib.Core.List.{List}
 use Prim.Native.Nat.{ℕ, _+_, _≤_, _<_}
 use lib.ListN.{length, getD}
 
+-- the entry i of the block that begins at b
+abbrev pub blockEntry : List ℕ → ℕ → ℕ → ℕ
+blockEntry l b i = getD l (b + i) 0
+
 -- nothing but the n entries from b on has changed
 pub record UntouchedOutside (b n : ℕ) (cells after : List ℕ) : Type 0 where
   pub size : length after ≡ length cells

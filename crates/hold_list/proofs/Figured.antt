@@ -15,7 +15,7 @@ use Rattle.topology.proofs.Lists.{tally-length, length-range}
 use Rattle.topology.proofs.Accepted.{Accepted, places-bound}
 use Rattle.topology.proofs.PatchFigures.{bottom-number}
 use Rattle.topology.proofs.PatchSums.{sumAt, sum-in, sum-out, patch-begins, count-few, patch-size}
-use Rattle.tree.specs.Arrays.{blockEntry}
+use Rattle.cells.specs.Blocks.{blockEntry}
 use Rattle.p5.proofs.Answers.{rest-is}
 use Rattle.patches.specs.Figures.{noPatch, Figures}
 use Rattle.hold_lines.specs.Figures.{flat, lineAt, Lists}

@@ -3,7 +3,7 @@ use hold_lines::put_head;
 use hold_lines::put_lines;
 use hold_lines::put_refusal;
 use patches::cores::patch_figures;
-use patches::numbers::count_line;
+use patches::places::count_line;
 use reading::read_file;
 use watershed::whole::watershed_core;
 ghost use mathlib.Core.Path.{_≡_};
@@ -12,7 +12,7 @@ ghost use Prim.Native.Nat.{_*_, _≤_};
 ghost use lib.ListN.{length};
 ghost use Rattle.picture.specs.Pictures.{isPicture, pictureOf};
 ghost use Rattle.patches.specs.Figures.{Figures};
-ghost use Rattle.patches.specs.Numbers.{Sizes};
+ghost use Rattle.patch_numbers.specs.Numbers.{Sizes};
 ghost use Rattle.text.specs.Writing.{Written};
 ghost use Rattle.hold_list.specs.HoldText.{patchList, holdList, holdText};
 

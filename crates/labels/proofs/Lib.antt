@@ -1,4 +1,3 @@
--- Laws of floods, of the scan and of the lowerable test.
-pub mod Floods
+-- Laws of the scan and of the lowerable test.
 pub mod Lowering
 pub mod Scans

@@ -15,7 +15,7 @@ use Rattle.topology.proofs.Parts.{isFirst, first-is}
 use Rattle.topology.proofs.Accepted.{accepted-is, places-bound}
 use Rattle.topology.proofs.Labelled.{Labelled, labelled-start, count-most, outside-first, labelled-first, unlabelled-first, labelled-pass, labelled-fresh, labelled-new, labelled-flood, labelled-end}
 use Rattle.labels.specs.Labels.{Ready, Scanned, LabelsHold}
-use Rattle.labels.specs.Floods.{Room, Seed, Floods}
+use Rattle.floods.specs.Floods.{Room, Seed, Floods}
 
 -- what an accepted picture gives
 module _ (p : Picture) (a : isPicture p ≡ true) where

@@ -1,4 +1,3 @@
 // Labels of the components of a section, and the lowerable test that reads them.
-pub mod flood;
 pub mod lowerable;
 pub mod scan;

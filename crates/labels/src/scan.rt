@@ -1,7 +1,7 @@
 // The scan for the first places of the components, and the labels of a section.
-use crate::flood::flood;
-use crate::flood::in_section;
 use cells::clear;
+use floods::flood;
+use floods::in_section;
 ghost use Prim.Native.Nat.{_+_, _*_, _<_};
 ghost use Rattle.labels.specs.Labels.{Ready, Scanned, LabelsHold};
 ghost use Rattle.picture.specs.Pictures.{pictureOf};

@@ -12,7 +12,8 @@ use Rattle.picture.specs.Lists.{pick, tally, range, highest}
 use Rattle.picture.specs.Pictures.{Picture, places, valueAt}
 use Rattle.picture.specs.Trees.{Node, nodes, nodeAt, fatherOf, mapOf}
 use Rattle.picture.specs.Patches.{patchAt, depthOf}
-use Rattle.tree.specs.Arrays.{blockEntry, TreeIn}
+use Rattle.cells.specs.Blocks.{blockEntry}
+use Rattle.tree.specs.Arrays.{TreeIn}
 use Rattle.topology.proofs.Tests.{on-test, same-test, clash}
 use Rattle.topology.proofs.Lists.{tally-same, range-mem}
 use Rattle.topology.proofs.Accepted.{Accepted, places-bound}
@@ -22,9 +23,9 @@ use Rattle.topology.proofs.Leaves.{bottom}
 use Rattle.topology.proofs.PatchFigures.{bottom-number}
 use Rattle.topology.proofs.LeafNodes.{leafNode, leaf-bottom, bottom-map, bottom-leaf, leaf-mapped, map-bottom, patch-leaf, patch-line, father-leaf, childless-leaf, depth-root, depth-father}
 use Rattle.cells.specs.Blocks.{UntouchedOutside}
-use Rattle.patches.specs.Numbers.{starts, Leaves, patchIn}
+use Rattle.patch_numbers.specs.Numbers.{starts, Leaves, patchIn}
 use Rattle.patches.specs.Figures.{depthIn}
-use Rattle.patches.proofs.Numbering.{kept-row, starts-true, starts-is, patch-other, patch-node}
+use Rattle.patch_numbers.proofs.Numbering.{kept-row, starts-true, starts-is, patch-other, patch-node}
 
 -- the arrays of the tree of p in blocks of n
 pub record Arrays (p : Picture) (n : ℕ) (work : List ℕ) : Type 0 where

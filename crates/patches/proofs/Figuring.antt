@@ -20,10 +20,10 @@ use Rattle.topology.proofs.Nodes.{nodes-few}
 use Rattle.topology.proofs.PatchFigures.{patches-count}
 use Rattle.topology.proofs.PatchSums.{count-few, patch-most, patch-number, patch-size, patch-columns, patch-rows}
 use Rattle.cells.specs.Blocks.{UntouchedOutside}
-use Rattle.patches.specs.Numbers.{Sizes, Mapped, Leaves, patchIn}
-use Rattle.patches.specs.Sums.{sizes, columns, rows, Frame, Sums}
+use Rattle.patch_numbers.specs.Numbers.{Sizes, Mapped, Leaves, patchIn}
+use Rattle.patch_sums.specs.Sums.{sizes, columns, rows, Frame, Sums}
 use Rattle.patches.specs.Figures.{Tree, noPatch, Charted, Patched, Figures, PatchMap}
-use Rattle.patches.proofs.Numbering.{kept-row, onLine}
+use Rattle.patch_numbers.proofs.Numbering.{kept-row, onLine}
 use Rattle.patches.proofs.Charting.{arrays, map-in, leaves-patch}
 
 -- the tree is not touched by changes from the fifth block on

@@ -14,7 +14,7 @@ use Rattle.picture.specs.Lists.{pick, tally, range, highest}
 use Rattle.picture.specs.Pictures.{Picture, places}
 use Rattle.picture.specs.Trees.{mapOf}
 use Rattle.picture.specs.Patches.{patches}
-use Rattle.tree.specs.Arrays.{blockEntry}
+use Rattle.cells.specs.Blocks.{blockEntry}
 use Rattle.topology.proofs.Tests.{test-false}
 use Rattle.topology.proofs.Accepted.{Accepted, accepted-is}
 use Rattle.topology.proofs.Fathers.{map-found}
@@ -23,10 +23,10 @@ use Rattle.topology.proofs.Positions.{tally-next-in, tally-next-out}
 use Rattle.topology.proofs.Leaves.{bottom}
 use Rattle.topology.proofs.PatchFigures.{bottom-number}
 use Rattle.topology.proofs.PatchSums.{next-bottom, patch-height, patch-depth}
-use Rattle.patches.specs.Numbers.{Mapped}
+use Rattle.patch_numbers.specs.Numbers.{Mapped}
 use Rattle.patches.specs.Figures.{depthIn, Put, passed, begun, noPatch, Begun, Charted, Patched}
 use Rattle.cells.proofs.Blocks.{kept-refl, kept-store}
-use Rattle.patches.proofs.Numbering.{kept-row}
+use Rattle.patch_numbers.proofs.Numbering.{kept-row}
 use Rattle.patches.proofs.Charting.{arrays, depth-is, depth-kept}
 
 -- the largest of one pixel more

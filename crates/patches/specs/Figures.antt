@@ -10,7 +10,8 @@ use Rattle.picture.specs.Lists.{pick, tally, range, highest}
 use Rattle.picture.specs.Pictures.{Picture, places, isPicture}
 use Rattle.picture.specs.Trees.{nodes}
 use Rattle.picture.specs.Patches.{Patch, patches, patchAt}
-use Rattle.tree.specs.Arrays.{blockEntry, TreeIn}
+use Rattle.cells.specs.Blocks.{blockEntry}
+use Rattle.tree.specs.Arrays.{TreeIn}
 use Rattle.topology.proofs.Leaves.{bottom}
 use Rattle.cells.specs.Blocks.{UntouchedOutside}
 

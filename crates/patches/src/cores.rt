@@ -1,13 +1,13 @@
 // The whole cores: the tree of a picture, and its patches from it.
 use crate::figures::figures;
-use crate::numbers::patch_of;
+use crate::places::patch_of;
 use tree::build::build;
 ghost use mathlib.Core.Path.{_≡_};
 ghost use mathlib.Core.Bool.{true};
 ghost use Prim.Native.Nat.{_*_, _<_};
 ghost use Rattle.picture.specs.Pictures.{isPicture, pictureOf};
 ghost use Rattle.picture.specs.Patches.{patchAt};
-ghost use Rattle.patches.specs.Numbers.{Sizes};
+ghost use Rattle.patch_numbers.specs.Numbers.{Sizes};
 ghost use Rattle.patches.specs.Figures.{Figures};
 
 // The figures of the patches of a picture, by number, and in the cells the patch of each place; answers how many patches there are.

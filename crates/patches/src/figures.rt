@@ -1,9 +1,9 @@
 // The figures of the patches, each in a block of cells by number: sizes, columns, rows, depths, heights.
-use crate::numbers::map_patches;
-use crate::numbers::number;
-use crate::sums::put_sums;
 use cells::cell_of;
 use cells::wide;
+use patch_numbers::map_patches;
+use patch_numbers::number;
+use patch_sums::put_sums;
 ghost use mathlib.Core.Path.{_≡_};
 ghost use Prim.Native.Nat.{_+_, _-_, _*_, _/_, _≤_, _<_};
 ghost use lib.ListN.{length};
@@ -11,7 +11,7 @@ ghost use lib.Dec.{leb};
 ghost use Rattle.picture.specs.Lists.{pick, highest};
 ghost use Rattle.picture.specs.Patches.{centre};
 ghost use Rattle.picture.specs.Pictures.{pictureOf};
-ghost use Rattle.patches.specs.Numbers.{Sizes, Mapped};
+ghost use Rattle.patch_numbers.specs.Numbers.{Sizes, Mapped};
 ghost use Rattle.patches.specs.Figures.{Tree, depthIn, Put, Patched, Figures};
 
 // The larger of a pixel and the largest so far.

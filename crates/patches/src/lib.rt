@@ -1,5 +1,4 @@
 // Patches: their figures, and the patch of a place, from the tree.
 pub mod cores;
 pub mod figures;
-pub mod numbers;
-pub mod sums;
+pub mod places;

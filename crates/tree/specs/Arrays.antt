@@ -1,14 +1,11 @@
 -- The component tree in one slice of cells, as blocks of n: heights, fathers, map, first places.
 use mathlib.Core.Path.{_≡_}
 use mathlib.Core.List.{List}
-use Prim.Native.Nat.{ℕ, _+_, _*_, _<_}
-use lib.ListN.{length, getD}
+use Prim.Native.Nat.{ℕ, _*_, _<_}
+use lib.ListN.{length}
 use Rattle.picture.specs.Pictures.{Picture, places}
+use Rattle.cells.specs.Blocks.{blockEntry}
 use Rattle.picture.specs.Trees.{nodes, nodeAt, fatherOf, mapOf}
-
--- the entry i of the block that begins at b
-abbrev pub blockEntry : List ℕ → ℕ → ℕ → ℕ
-blockEntry l b i = getD l (b + i) 0
 
 -- the cells hold the tree of p: heights at 0, fathers at n, the map at 2 n, first places at 3 n
 pub record TreeIn (p : Picture) (cells : List ℕ) : Type 0 where

@@ -21,10 +21,10 @@ use Rattle.topology.proofs.Numbering.{level-start, edges-start}
 use Rattle.topology.proofs.Checks.{Checking}
 use Rattle.topology.proofs.Looks.{Passed}
 use Rattle.verify.specs.Checked.{Says}
-use Rattle.verify.specs.Steps.{Run, Counted, Matched, CountReady, NodesChecked, MapReady, MapChecked, Verified}
+use Rattle.verify_nodes.specs.Steps.{Run, Counted, Matched, CountReady, NodesChecked, MapReady, MapChecked, Verified}
 use Rattle.verify.specs.Heights.{Sizes, LevelChecked, Fresh}
-use Rattle.verify.proofs.Counted.{counted-start}
-use Rattle.verify.proofs.Matched.{matched-start}
+use Rattle.verify_nodes.proofs.Counted.{counted-start}
+use Rattle.verify_nodes.proofs.Matched.{matched-start}
 use Rattle.verify.proofs.Verified.{differs-tree, verified-next, verified-tree, tree-ends}
 
 pub fresh-start : (l : List ℕ) → Fresh 0 l l

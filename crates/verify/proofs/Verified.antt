@@ -21,8 +21,8 @@ use Rattle.topology.proofs.Numbering.{Member, joined-root, free-fork}
 use Rattle.topology.proofs.LastFathers.{LastFather, missing, pixel, last-father}
 use Rattle.topology.proofs.Checks.{Differs}
 use Rattle.lent_tree.specs.Lent.{HoldsTree}
-use Rattle.verify.specs.Steps.{Run, Matched, Verified}
-use Rattle.verify.proofs.Matched.{says, count-is, node-new, checking-next}
+use Rattle.verify_nodes.specs.Steps.{Run, Matched, Verified}
+use Rattle.verify_nodes.proofs.Matched.{says, count-is, node-new, checking-next}
 
 -- a lent node whose father and a pixel's node differ is no tree's
 pub differs-tree : (p : Picture) (count : ℕ) (hs fs ss m : List ℕ) → Differs p fs m → HoldsTree p count hs fs ss m → ⊥

@@ -5,7 +5,7 @@ use Prim.Native.Nat.{ℕ, _+_, _≤_, _<_}
 use lib.ListN.{length, getD}
 use Rattle.picture.specs.Pictures.{Picture}
 use Rattle.lent_tree.specs.Lent.{HoldsTree}
-use Rattle.verify.specs.Steps.{Verified}
+use Rattle.verify_nodes.specs.Steps.{Verified}
 
 -- the lists are long enough for the cells, and the count is no greater
 pub record Sizes (n : ℕ) (xs hs fs ss m l : List ℕ) : Type 0 where

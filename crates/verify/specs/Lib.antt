@@ -1,4 +1,3 @@
 -- What the check of a lent tree promises.
 pub mod Checked
-pub mod Steps
 pub mod Heights

@@ -12,7 +12,7 @@ use crate::damage;
 use crate::file;
 use crate::generate;
 use crate::hexadecimal;
-use crate::literal::{Adjacency, Picture};
+use crate::literal::Picture;
 use crate::quick;
 use crate::random::Random;
 

@@ -1,6 +1,6 @@
 //! Files of generated pictures: accepted ones, and damaged ones.
 
-use crate::generate::{picture, range, sides, Generated};
+use crate::generate::{picture, Generated};
 use crate::random::Random;
 
 /// The parts of a file, before they are put together.

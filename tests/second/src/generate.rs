@@ -190,7 +190,7 @@ pub fn picture(random: &mut Random, sides: (usize, usize)) -> Generated {
 }
 
 /// Two ends of a range below a limit.
-pub fn range(random: &mut Random, limit: usize) -> (usize, usize) {
+fn range(random: &mut Random, limit: usize) -> (usize, usize) {
     let one = random.below(limit);
     let other = random.below(limit);
     (one.min(other), one.max(other))

@@ -1,0 +1,2 @@
+-- Laws of floods.
+pub mod Floods

@@ -1,0 +1,2 @@
+-- What the flood of a component says.
+pub mod Floods

@@ -1,0 +1,2 @@
+-- Laws of the numbering.
+pub mod Numbering

@@ -1,0 +1,2 @@
+-- What the numbering of patches promises.
+pub mod Numbers

@@ -1,0 +1,94 @@
+// The patch of a place, from the tree: leaves are numbered by first place, and a pixel of its leaf's height is in its patch.
+use cells::cell_of;
+use cells::fill;
+use cells::wide;
+ghost use mathlib.Core.Path.{_≡_};
+ghost use Prim.Native.Nat.{ℕ, _+_, _*_, _≤_, _<_};
+ghost use lib.ListN.{length, getD};
+ghost use Rattle.patch_numbers.specs.Numbers.{Sizes, Mapped, Cleared, Mark, Marks, Number, Numbers, Leaves, patchIn};
+
+// Marks the father f of a node; a number that is no node's is the root's father.
+fn mark(cells: &mut [u16], f: usize)
+    ensures { λ _. ⌜ Mark f (now (cells .entry)) (now (cells .exit)) ⌝ }
+{
+    if f < cells.len() {
+        cells[f] = 1;
+    }
+}
+
+// Marks the nodes that are somebody's father: the entries of all others are 0.
+fn mark_fathers(n: usize, count: usize, work: &[u16], cells: &mut [u16])
+    requires { ⌜ Sizes n (now work) (now cells) × (count ≤ n) ⌝ }
+    ensures { λ _. ⌜ Marks n count (now (work .entry)) (now (cells .exit)) ⌝ }
+{
+    fill(cells, 0, n, 0);
+    let mut j = 0;
+    while j < count {
+        mark(cells, wide(work[n + j]));
+        j += 1;
+    }
+}
+
+// Numbers the node of the place x if it is a leaf that begins there; r leaves begin before.
+fn number_leaf(n: usize, x: usize, work: &mut [u16], marks: &[u16], r: usize) -> usize
+    requires { ⌜ Sizes n (now work) (now marks) × Mapped n (now work) × (x < n) × (r ≤ x) ⌝ }
+    ensures { λ q. ⌜ Number n x (now (work .entry)) (now (marks .entry)) r (now (work .exit)) q ⌝ }
+{
+    let m = wide(work[2 * n + x]);
+    if wide(work[3 * n + m]) != x {
+        return r;
+    }
+    if marks[m] != 0 {
+        return r;
+    }
+    work[4 * n + m] = (r + 1) as u16;
+    r + 1
+}
+
+// Puts the number of each leaf into the fifth block, which is 0, and answers how many there are.
+fn number_leaves(n: usize, work: &mut [u16], marks: &[u16]) -> usize
+    requires { ⌜ Sizes n (now work) (now marks) × Mapped n (now work) × Cleared n (now work) ⌝ }
+    ensures { λ r. ⌜ Numbers n (now (work .entry)) (now (marks .entry)) n r (now (work .exit)) ⌝ }
+{
+    let mut r = 0;
+    let mut x = 0;
+    while x < n {
+        r = number_leaf(n, x, work, marks, r);
+        x += 1;
+    }
+    r
+}
+
+// Numbers the leaves of the tree in work, of count nodes, by first place, with the cells for marks; answers how many there are.
+pub fn number(n: usize, count: usize, work: &mut [u16], cells: &mut [u16]) -> usize
+    requires { ⌜ Sizes n (now work) (now cells) × Mapped n (now work) × (count ≤ n) ⌝ }
+    ensures { λ r. ⌜ Leaves n count (now (work .entry)) r (now (work .exit)) ⌝ }
+{
+    mark_fathers(n, count, work, cells);
+    fill(work, 4 * n, n, 0);
+    number_leaves(n, work, cells)
+}
+
+// The number of the patch of the place x, 0 on the line.
+pub fn patch_at(n: usize, pixels: &[u8], work: &[u16], x: usize) -> u16
+    requires { ⌜ Sizes n (now work) (now pixels) × Mapped n (now work) × (x < n) ⌝ }
+    ensures { λ r. ⌜ r ≡ patchIn n (now (pixels .entry)) (now (work .entry)) x ⌝ }
+{
+    let m = wide(work[2 * n + x]);
+    if cell_of(pixels[x]) != work[m] {
+        return 0;
+    }
+    work[4 * n + m]
+}
+
+// Puts the number of the patch of each place into the cells.
+pub fn map_patches(n: usize, pixels: &[u8], work: &[u16], cells: &mut [u16])
+    requires { ⌜ Sizes n (now work) (now pixels) × Mapped n (now work) × (length (now cells) ≡ n) ⌝ }
+    ensures { λ _. ⌜ ((x : ℕ) → x < n → getD (now (cells .exit)) x 0 ≡ patchIn n (now (pixels .entry)) (now (work .entry)) x) ⌝ }
+{
+    let mut x = 0;
+    while x < n {
+        cells[x] = patch_at(n, pixels, work, x);
+        x += 1;
+    }
+}

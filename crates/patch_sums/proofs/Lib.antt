@@ -1,0 +1,2 @@
+-- Laws of the sums.
+pub mod Summing

@@ -1,0 +1,2 @@
+-- Sums over the places of patches.
+pub mod Sums

@@ -1,0 +1,43 @@
+// The patch of one place, from the tree, and the places on the line.
+use patch_numbers::number;
+use patch_numbers::patch_at;
+ghost use mathlib.Core.Path.{_≡_};
+ghost use Prim.Native.Nat.{_*_, _<_};
+ghost use Rattle.picture.specs.Pictures.{Picture, pictureOf};
+ghost use Rattle.picture.specs.Patches.{patchAt, lineCount};
+ghost use Rattle.patch_numbers.specs.Numbers.{Sizes};
+ghost use Rattle.patches.specs.Figures.{Tree, PatchMap};
+
+// The number of the patch of the place x of a picture whose tree of count nodes is in work, 0 on the line.
+pub fn patch_of(
+    a: u32,
+    w: u32,
+    h: u32,
+    pixels: &[u8],
+    count: usize,
+    x: usize,
+    work: &mut [u16],
+    cells: &mut [u16],
+) -> u16
+    requires { ⌜ Tree (pictureOf a w h (now pixels)) count (now work) × Sizes (w * h) (now work) (now cells) × (x < w * h) ⌝ }
+    ensures { λ r. ⌜ r ≡ patchAt (pictureOf a w h (now (pixels .entry))) x ⌝ }
+{
+    let n = w as usize * h as usize;
+    number(n, count, work, cells);
+    patch_at(n, pixels, work, x)
+}
+
+// How many places of the map are on the line.
+pub fn count_line(map: &[u16]) -> usize
+    ensures { λ r. ⌜ ((p : Picture) → PatchMap p (now (map .entry)) → r ≡ lineCount p) ⌝ }
+{
+    let mut r = 0;
+    let mut x = 0;
+    while x < map.len() {
+        if map[x] == 0 {
+            r += 1;
+        }
+        x += 1;
+    }
+    r
+}

@@ -1,0 +1,224 @@
+-- What the functions of the check say, whatever the picture is.
+use mathlib.Core.Path.{_≡_, refl, sym, ap, subst, _∙_}
+use mathlib.Core.Bool.{Bool, true, false}
+use mathlib.Core.Logic.{by-cases}
+use mathlib.Core.List.{List}
+use Prim.Native.Nat.{ℕ, _+_, _-_, _≤_, _<_}
+use native.Mathlib.Decide.{ℕ-discrete}
+use native.Mathlib.Omega.{arith}
+use lib.ListN.{length, getD, set, length-set}
+use Rattle.picture.specs.Pictures.{Picture, places, valueAt}
+use Rattle.topology.proofs.Tests.{clash}
+use Rattle.topology.proofs.Forests.{Found, Parents, forest-parents}
+use Rattle.lent_tree.specs.Lent.{HoldsTree}
+use Rattle.verify_nodes.specs.Steps.{Run, Counted, Matched, Fit, CountReady, NodesChecked, MapReady, MapChecked}
+use Rattle.verify_nodes.proofs.Counted.{counted-turn, tree-fits}
+use Rattle.verify_nodes.proofs.Matched.{matched-pass, matched-turn, matched-cell}
+
+-- the run of the height k from c on goes at least to i
+pub record Running (k c i : ℕ) (hs : List ℕ) : Type 0 where
+  pub order : c ≤ i
+  pub same : (j : ℕ) → c ≤ j → j < i → getD hs j 0 ≡ k
+
+pub running-start : (k c : ℕ) (hs : List ℕ) → Running k c c hs
+running-start k c hs = record { order = omega arith; same = λ j a b. absurd (omega arith) }
+
+pub running-turn : (k c i v : ℕ) (hs : List ℕ) → Running k c i hs → v ≡ getD hs i 0 → v ≡ k → Running k c (i + 1) hs
+running-turn k c i v hs s e q =
+    let o = s .order in
+    record {
+      order = omega arith;
+      same = λ j a b. by-cases (ℕ-discrete j i) (λ z. ap (λ (y : ℕ). getD hs y 0) z ∙ (sym e ∙ q)) (λ z. s .same j a (omega arith));
+    }
+
+pub running-stop : (k c i v count : ℕ) (hs : List ℕ) → Running k c i hs → i < count → v ≡ getD hs i 0 → (v ≡ k → ⊥) → Run k c i count hs
+running-stop k c i v count hs s b e d =
+    record { order = s .order; most = omega arith; same = s .same; ends = λ h q. d (e ∙ q) }
+
+pub running-end : (k c i count : ℕ) (hs : List ℕ) → Running k c i hs → i ≤ count → count ≤ i → Run k c i count hs
+running-end k c i count hs s a b = record { order = s .order; most = a; same = s .same; ends = λ h. absurd (omega arith) }
+
+module _ (pixels : List ℕ) (k c i f : ℕ) (l ss : List ℕ) (e : f ≡ getD ss i 0) where
+  pub unfit-beyond : length l ≤ f → Fit pixels k c i l ss false
+  unfit-beyond h =
+      record { yes = λ q. absurd (clash q refl); never = λ q p r t. let a = t .within in let z = r .size in omega arith }
+
+  pub unfit-high : (v : ℕ) → v ≡ getD pixels f 0 → k < v → Fit pixels k c i l ss false
+  unfit-high v g h =
+      record {
+        yes = λ q. absurd (clash q refl);
+        never =
+            λ q p r t.
+            let a = t .low in
+            let z : valueAt p (getD ss i 0) ≡ v = ap (λ (u : List ℕ). getD u (getD ss i 0) 0) (r .is) ∙ (ap (λ (u : ℕ). getD pixels u 0) (sym e) ∙ sym g) in
+            omega arith;
+      }
+
+  pub unfit-taken : getD l f 0 < 65534 → Fit pixels k c i l ss false
+  unfit-taken h =
+      record {
+        yes = λ q. absurd (clash q refl);
+        never = λ q p r t. let a = t .free in let z = ap (λ (u : ℕ). getD l u 0) e in omega arith;
+      }
+
+  pub unfit-order : (g : ℕ) → g ≡ getD ss (i - 1) 0 → c < i → f ≤ g → Fit pixels k c i l ss false
+  unfit-order g q a h =
+      record { yes = λ z. absurd (clash z refl); never = λ z p r t. let b = t .above a in omega arith }
+
+  pub fit-yes : (v : ℕ) → f < length l → v ≡ getD pixels f 0 → v ≤ k → 65534 ≤ getD l f 0 → (c < i → getD ss (i - 1) 0 < f) → Fit pixels k c i l ss true
+  fit-yes v b g h free above =
+      record {
+        yes =
+            λ q p r.
+            record {
+              within = let z = r .size in omega arith;
+              low =
+                  let z : valueAt p (getD ss i 0) ≡ v = ap (λ (u : List ℕ). getD u (getD ss i 0) 0) (r .is) ∙ (ap (λ (u : ℕ). getD pixels u 0) (sym e) ∙ sym g) in
+                  omega arith;
+              above = λ a. let z = above a in omega arith;
+              free = let z = ap (λ (u : ℕ). getD l u 0) e in omega arith;
+            };
+        never = λ q. absurd (clash refl q);
+      }
+
+pub record Counting (pixels : List ℕ) (k c i : ℕ) (o ss l : List ℕ) : Type 0 where
+  pub order : c ≤ i
+  pub size : length l ≡ length o
+  pub from : (p : Picture) (fs m : List ℕ) → p .pixels ≡ pixels → Counted p k c c o fs ss m → Counted p k c i l fs ss m
+
+pub counting-start : (pixels : List ℕ) (k c : ℕ) (l ss : List ℕ) → Counting pixels k c c l ss l
+counting-start pixels k c l ss = record { order = omega arith; size = refl; from = λ p fs m e s. s }
+
+pub counting-turn :
+    (pixels : List ℕ) (k c i f : ℕ) (o ss l : List ℕ) → Counting pixels k c i o ss l → i < 1600 → Fit pixels k c i l ss true → f ≡ getD ss i 0 →
+    Counting pixels k c (i + 1) o ss (set l f (2048 + i))
+counting-turn pixels k c i f o ss l s b t e =
+    let a = s .order in
+    record {
+      order = omega arith;
+      size = length-set l f (2048 + i) ∙ s .size;
+      from =
+          λ p fs m q g.
+          let h = s .from p fs m q g in
+          subst (λ (z : ℕ). Counted p k c (i + 1) (set l z (2048 + i)) fs ss m) (sym e)
+          (counted-turn p k c i l fs ss m h b (t .yes refl p (record { is = q; size = h .size })));
+    }
+
+-- the place of a lent first place that fits
+pub counting-within : (pixels : List ℕ) (k c i f : ℕ) (o ss l : List ℕ) → CountReady pixels k c o ss → Counting pixels k c i o ss l → Fit pixels k c i l ss true → f ≡ getD ss i 0 → f < length l
+counting-within pixels k c i f o ss l r s t e =
+    let h = s .from (r .p) (r .fs) (r .m) (r .is) (r .counted) in
+    let z = h .size in
+    let w = t .yes refl (r .p) (record { is = r .is; size = z }) .within in
+    omega arith
+
+pub counting-fails : (pixels : List ℕ) (k c d i : ℕ) (o ss l u : List ℕ) → Counting pixels k c i o ss l → i < d → Fit pixels k c i l ss false → NodesChecked pixels k c d o ss u false
+counting-fails pixels k c d i o ss l u s b t =
+    record {
+      yes = λ q. absurd (clash q refl);
+      never =
+          λ q p fs m e g count hs run tree.
+          let h = s .from p fs m e g in
+          t .never refl p (record { is = e; size = h .size }) (tree-fits p k c i l fs ss m h d count hs run b tree);
+    }
+
+pub counting-end : (pixels : List ℕ) (k c d i : ℕ) (o ss l : List ℕ) → Counting pixels k c i o ss l → i ≡ d → NodesChecked pixels k c d o ss l true
+counting-end pixels k c d i o ss l s e =
+    record {
+      yes = λ q p fs m g h. subst (λ (z : ℕ). Counted p k c z l fs ss m) e (s .from p fs m g h);
+      never = λ q. absurd (clash refl q);
+    }
+
+module _ (pixels : List ℕ) (k x v : ℕ) (l m : List ℕ) (b : x < length l) (e : v ≡ getD pixels x 0) where
+  pub map-other : (v ≡ k → ⊥) → MapChecked pixels k x (x + 1) l m l true
+  map-other d =
+      record {
+        yes = λ q p c d′ fs ss g s. matched-pass p k c d′ x l fs ss m s (λ z. d (e ∙ (ap (λ (u : List ℕ). getD u x 0) (sym g) ∙ z)));
+        never = λ q. absurd (clash refl q);
+      }
+
+  module _ (o : List ℕ) (r : ℕ) (f : Found l x r o) (same : v ≡ k) where
+    value-of : (p : Picture) → p .pixels ≡ pixels → valueAt p x ≡ k
+    value-of p g = ap (λ (u : List ℕ). getD u x 0) g ∙ (sym e ∙ same)
+
+    pub map-yes : (t n : ℕ) → t ≡ getD o r 0 → n ≡ getD m x 0 → t ≡ 2048 + n → getD o r 0 < 65534 → MapChecked pixels k x (x + 1) l m o true
+    map-yes t n et en q h =
+        record {
+          yes =
+              λ z p c d fs ss g s.
+              let size = s .counted .size in
+              matched-turn p k c d x r l o fs ss m s f (omega arith) (value-of p g) h (omega arith);
+          never = λ z. absurd (clash refl z);
+        }
+
+    -- under the tree the cell says the lent node
+    tree-cell :
+        (p : Picture) (c d : ℕ) (fs ss : List ℕ) → p .pixels ≡ pixels → Matched p k c d x l fs ss m → (count : ℕ) (hs : List ℕ) → Run k c d count hs →
+        HoldsTree p count hs fs ss m → (getD o r 0 ≡ 2048 + getD m x 0) × (getD m x 0 < 1600)
+    tree-cell p c d fs ss g s count hs run tree =
+        let size = s .counted .size in
+        let inside : x < places p = omega arith in
+        let value = value-of p g in
+        matched-cell p k c d x r l o fs ss m s f inside value count hs run tree
+
+    pub map-free : 65534 ≤ getD o r 0 → MapChecked pixels k x (x + 1) l m o false
+    map-free h =
+        record {
+          yes = λ z. absurd (clash z refl);
+          never = λ z p c d fs ss g s count hs run tree. let a = tree-cell p c d fs ss g s count hs run tree in let i = a .0 in let j = a .1 in omega arith;
+        }
+
+    pub map-differs : (t n : ℕ) → t ≡ getD o r 0 → n ≡ getD m x 0 → (t ≡ 2048 + n → ⊥) → MapChecked pixels k x (x + 1) l m o false
+    map-differs t n et en d =
+        record {
+          yes = λ z. absurd (clash z refl);
+          never = λ z p c d′ fs ss g s count hs run tree. let a = tree-cell p c d′ fs ss g s count hs run tree .0 in d (omega arith);
+        }
+
+-- the lent map of the pixels before x is checked
+pub record Mapping (pixels : List ℕ) (k x : ℕ) (o m l : List ℕ) : Type 0 where
+  pub size : length l ≡ length o
+  pub most : x ≤ length o
+  pub from :
+      (p : Picture) (c d : ℕ) (fs ss : List ℕ) → p .pixels ≡ pixels → Matched p k c d 0 o fs ss m → Matched p k c d x l fs ss m
+
+pub mapping-start : (pixels : List ℕ) (k : ℕ) (l m : List ℕ) → Mapping pixels k 0 l m l
+mapping-start pixels k l m = record { size = refl; most = omega arith; from = λ p c d fs ss e s. s }
+
+pub mapping-ready : (pixels : List ℕ) (k x : ℕ) (o m l : List ℕ) → MapReady pixels k 0 o m → Mapping pixels k x o m l → Parents l
+mapping-ready pixels k x o m l r s =
+    forest-parents (s .from (r .p) (r .c) (r .d) (r .fs) (r .ss) (r .is) (r .matched) .counted .forest)
+
+pub mapping-turn :
+    (pixels : List ℕ) (k x : ℕ) (o m l u : List ℕ) (b : Bool) → Mapping pixels k x o m l → x < length l → MapChecked pixels k x (x + 1) l m u b → b ≡ true →
+    length u ≡ length l → Mapping pixels k (x + 1) o m u
+mapping-turn pixels k x o m l u b s h t e z =
+    let a = s .size in
+    record {
+      size = z ∙ s .size;
+      most = omega arith;
+      from = λ p c d fs ss g q. t .yes e p c d fs ss g (s .from p c d fs ss g q);
+    }
+
+pub mapping-fails :
+    (pixels : List ℕ) (k x : ℕ) (o m l u : List ℕ) (b : Bool) → Mapping pixels k x o m l → MapChecked pixels k x (x + 1) l m u b → b ≡ false →
+    MapChecked pixels k 0 (length o) o m u false
+mapping-fails pixels k x o m l u b s t e =
+    record {
+      yes = λ q. absurd (clash q refl);
+      never = λ q p c d fs ss g i. t .never e p c d fs ss g (s .from p c d fs ss g i);
+    }
+
+pub mapping-end : (pixels : List ℕ) (k x : ℕ) (o m l : List ℕ) → Mapping pixels k x o m l → length l ≤ x → MapChecked pixels k 0 (length o) o m l true
+mapping-end pixels k x o m l s h =
+    let a = s .size in
+    let b = s .most in
+    record {
+      yes =
+          λ q p c d fs ss g i.
+          subst (λ (z : ℕ). Matched p k c d z l fs ss m) (let e : x ≡ length o = omega arith in e) (s .from p c d fs ss g i);
+      never = λ q. absurd (clash refl q);
+    }
+
+pub fit-is : {pixels : List ℕ} {k c i : ℕ} {l ss : List ℕ} {a b : Bool} → a ≡ b → Fit pixels k c i l ss a → Fit pixels k c i l ss b
+fit-is {pixels} {k} {c} {i} {l} {ss} e h = subst (Fit pixels k c i l ss) e h
