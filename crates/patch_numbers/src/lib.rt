@@ -35,10 +35,13 @@ fn number_leaf(n: usize, x: usize, work: &mut [u16], marks: &[u16], r: usize) ->
     ensures { λ q. ⌜ Number n x (now (work .entry)) (now (marks .entry)) r (now (work .exit)) q ⌝ }
 {
     let m = wide(work[2 * n + x]);
-    if wide(work[3 * n + m]) != x {
+    // both are read before the tests, which then take one jump
+    let first = wide(work[3 * n + m]);
+    let mark = marks[m];
+    if first != x {
         return r;
     }
-    if marks[m] != 0 {
+    if mark != 0 {
         return r;
     }
     work[4 * n + m] = (r + 1) as u16;
@@ -75,10 +78,12 @@ pub fn patch_at(n: usize, pixels: &[u8], work: &[u16], x: usize) -> u16
     ensures { λ r. ⌜ r ≡ patchIn n (now (pixels .entry)) (now (work .entry)) x ⌝ }
 {
     let m = wide(work[2 * n + x]);
+    // read before the test, which then takes no jump
+    let number = work[4 * n + m];
     if cell_of(pixels[x]) != work[m] {
         return 0;
     }
-    work[4 * n + m]
+    number
 }
 
 // Puts the number of the patch of each place into the cells.

@@ -152,11 +152,21 @@ module _ (n c u v : ℕ) (run : Run) (l : List ℕ) where
   alone columns = refl
   alone rows = omega arith
 
+  pub next-line : c ≡ 0 → Next n c u v run l run l
+  next-line e =
+      record {
+        kept = kept-refl 0 (3 * n) l;
+        number = λ m a b. b;
+        size = omega arith;
+        columns = omega arith;
+        sum = λ k i h. let q = pick-out c (suc i) (term 1 u v k) (λ d. absurd (omega arith)) in omega arith;
+      }
+
   pub next-same : c ≡ run .number → Next n c u v run l (record { number = c; size = run .size + 1; columns = run .columns + u }) l
   next-same e =
       record {
         kept = kept-refl 0 (3 * n) l;
-        number = refl;
+        number = λ m a b. a;
         size = omega arith;
         columns = omega arith;
         sum =
@@ -171,7 +181,7 @@ module _ (n c u v : ℕ) (run : Run) (l : List ℕ) where
   next-other m a =
       record {
         kept = a .kept;
-        number = refl;
+        number = λ m b d. b;
         size = omega arith;
         columns = omega arith;
         sum =
@@ -286,7 +296,6 @@ module _ (w n : ℕ) (numbers : List ℕ) (f : Frame w n numbers) where
         running-more inside c is r m a =
             let most = f .most (v * w + u) (omega arith) in
             let wide = f .wide in
-            let number = a .number in
             let size = a .size in
             let columns = a .columns in
             let fewer = s .size in
@@ -294,7 +303,7 @@ module _ (w n : ℕ) (numbers : List ℕ) (f : Frame w n numbers) where
             record {
               kept = kept-trans 0 (3 * n) work l m (s .kept) (a .kept);
               blocks = a .kept .size ∙ s .blocks;
-              number = omega arith;
+              number = a .number n (omega arith) (s .number);
               size = omega arith;
               columns = omega arith;
               sum =

@@ -65,7 +65,7 @@ held n work r v k i = blockEntry work (base n k) i + pick (eqb (r .number) (suc 
 -- the sums with the run are more by a place of the number c in the column u and the row v
 pub record Next (n c u v : ℕ) (run : Run) (work : List ℕ) (r : Run) (after : List ℕ) : Type 0 where
   pub kept : UntouchedOutside 0 (3 * n) work after
-  pub number : r .number ≡ c
+  pub number : (m : ℕ) → c ≤ m → run .number ≤ m → r .number ≤ m
   pub size : r .size ≤ run .size + 1
   pub columns : r .columns ≤ run .columns + u
   pub sum : (k : Figure) (i : ℕ) → i < n → held n after r v k i ≡ held n work run v k i + pick (eqb c (suc i)) (term 1 u v k) 0

@@ -6,7 +6,7 @@ ghost use Prim.Native.Nat.{_+_, _*_, _≤_};
 ghost use lib.ListN.{length};
 ghost use Rattle.patch_sums.specs.Sums.{raised, Raisable, terms, Room, Added, Next, Frame, Sums};
 
-// Places of one row, side by side, of one number: the number, how many there are, and the sum of their columns.
+// Places of one row and one number, but for the line with no other number between them: the number, how many there are, and the sum of their columns.
 // A run is summed before it is stored: a store for each place would have to wait for the store before it.
 pub struct Run {
     pub number: usize,
@@ -37,11 +37,14 @@ fn add_run(n: usize, run: Run, row: u16, work: &mut [u16])
     add_to(work, 2 * n + i, run.size * row);
 }
 
-// The run with the next place, of the number c; where that is another, the run is added and a new one begins.
+// The run with the next place, of the number c; a place on the line adds nothing, and where the number is another the run is added and a new one begins.
 fn next_run(n: usize, c: usize, run: Run, column: u16, row: u16, work: &mut [u16]) -> Run
     requires { ⌜ Room n (run .number) (terms run row) (now work) × (run .size ≤ 40) × (run .columns ≤ 1600) × (column ≤ 39) × (row ≤ 39) ⌝ }
     ensures { λ r. ⌜ Next n c column row run (now (work .entry)) r (now (work .exit)) ⌝ }
 {
+    if c == 0 {
+        return run;
+    }
     if c == run.number {
         return Run {
             number: c,

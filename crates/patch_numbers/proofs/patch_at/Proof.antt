@@ -26,6 +26,18 @@ shared-slice-read-wide c = search needs
 wide-requires : tie.Need-wide-requires
 wide-requires c κs = search needs
 
+mul-number : tie.Need-mul-number
+mul-number c = search needs
+
+add-number : tie.Need-add-number
+add-number c = let f = c .before .before .before .before .pre .0 .few in omega (arith, node-in c)
+
+mul-number-2 : tie.Need-mul-number-2
+mul-number-2 c = let f = c .before .before .before .before .pre .0 .few in omega (arith, node-in c)
+
+shared-slice-read-number : tie.Need-shared-slice-read-number
+shared-slice-read-number c = let f = c .before .before .before .before .before .pre .0 .blocks in omega (arith, node-in (c .before))
+
 shared-slice-read-cell-of : tie.Need-shared-slice-read-cell-of
 shared-slice-read-cell-of c = search needs
 
@@ -33,28 +45,16 @@ cell-of-requires : tie.Need-cell-of-requires
 cell-of-requires c κs = search needs
 
 mul-if1 : tie.Need-mul-if1
-mul-if1 c = let f = c .before .before .before .before .before .before .pre .0 .few in omega (arith, node-in (c .before .before))
+mul-if1 c = let f = c .before .before .before .before .before .before .before .pre .0 .few in omega (arith, node-in (c .before .before .before))
 
 shared-slice-read-if1 : tie.Need-shared-slice-read-if1
-shared-slice-read-if1 c = let f = c .before .before .before .before .before .before .before .pre .0 .blocks in omega (arith, node-in (c .before .before .before))
+shared-slice-read-if1 c = let f = c .before .before .before .before .before .before .before .before .pre .0 .blocks in omega (arith, node-in (c .before .before .before .before))
 
 returns : tie.Need-returns
-returns c = patch-other _ _ _ _ _ _ (c .before .before .before .before .wide .ensures) (c .before .before .cell-of .ensures) (c .if1 .taken)
-
-mul-result : tie.Need-mul-result
-mul-result c = search needs
-
-add-result : tie.Need-add-result
-add-result c = let f = c .before .before .before .before .before .before .before .before .pre .0 .few in omega (arith, node-in (c .before .before .before .before))
-
-mul-result-2 : tie.Need-mul-result-2
-mul-result-2 c = let f = c .before .before .before .before .before .before .before .before .pre .0 .few in omega (arith, node-in (c .before .before .before .before))
-
-shared-slice-read-result : tie.Need-shared-slice-read-result
-shared-slice-read-result c = let f = c .before .before .before .before .before .before .before .before .before .pre .0 .blocks in omega (arith, node-in (c .before .before .before .before .before))
+returns c = patch-other _ _ _ _ _ _ (c .before .before .before .before .before .wide .ensures) (c .before .before .cell-of .ensures) (c .if1 .taken)
 
 returns-2 : tie.Need-returns-2
-returns-2 c = sym (patch-node _ _ _ _ _ _ (c .before .before .before .before .before .wide .ensures) (c .before .before .before .cell-of .ensures) (c .before .if1 .left))
+returns-2 c = sym (patch-node _ _ _ _ _ _ (c .before .before .before .before .before .wide .ensures) (c .before .before .cell-of .ensures) (c .if1 .left))
 
 pub patch-at-spec : {M : Type 1} → statement M
 patch-at-spec =
@@ -65,13 +65,13 @@ patch-at-spec =
     mul-wide-2
     shared-slice-read-wide
     wide-requires
+    mul-number
+    add-number
+    mul-number-2
+    shared-slice-read-number
     shared-slice-read-cell-of
     cell-of-requires
     mul-if1
     shared-slice-read-if1
     returns
-    mul-result
-    add-result
-    mul-result-2
-    shared-slice-read-result
     returns-2)
