@@ -3,17 +3,17 @@ use mathlib.Core.Path.{_≡_, refl, sym, ap, subst, _∙_}
 use mathlib.Core.Bool.{Bool, true, false, _&&_}
 use mathlib.Core.Logic.{inl, ⊎-elim, _≢_, by-cases}
 use mathlib.Core.List.{List}
-use Prim.Native.Nat.{ℕ, suc, _+_, _*_, _≤_, _<_}
-use native.Mathlib.Decide.{ℕ-discrete}
+use Prim.Native.Nat.{ℕ, suc, _+_, _-_, _*_, _/_, _≤_, _<_}
+use native.Mathlib.Decide.{ℕ-discrete, decLt}
 use native.Mathlib.Numerals.{add-one}
 use native.Mathlib.Omega.{arith}
 use lib.Dec.{eqb}
 use lib.ListN.{length, getD, set, length-set}
 use lib.Seq.{getD-set-same, getD-set-other}
-use borrow.Author.Tests.{eqb-true, eq-eqb, ne-eqb}
+use borrow.Author.Tests.{eqb-true, eqb-false, eq-eqb, ne-eqb}
 use Rattle.picture.specs.Lists.{pick, tally, range}
 use Rattle.cells.specs.Blocks.{blockEntry}
-use Rattle.topology.proofs.Tests.{and-left, and-right, and-both, clash}
+use Rattle.topology.proofs.Tests.{and-left, and-right, and-both, clash, on-pick}
 use Rattle.topology.proofs.Lists.{tally-length, length-range}
 use Rattle.topology.proofs.Positions.{tally-next-in, tally-next-out}
 use Rattle.topology.proofs.Zones.{set-cases}
@@ -219,6 +219,33 @@ module _ (n : ℕ) (work marks : List ℕ) where
   pub numbers-end : (x r : ℕ) (l : List ℕ) → x ≤ n → n ≤ x → Numbers n work marks x r l → Numbers n work marks n r l
   numbers-end x r l a b k = let e : x ≡ n = omega arith in subst (λ (y : ℕ). Numbers n work marks y r l) e k
 
+-- whether a pixel has a height, by two quotients that differ only there
+module _ (v h : ℕ) (a : v < 256) (b : h < 65536) where
+  abbrev same : ℕ
+  same = (v + 65536 - h) / 65536 - (v + 65536 - h - 1) / 65536
+
+  height-test : same ≡ pick (eqb v h) 1 0
+  height-test =
+      on-pick (λ (z : ℕ). same ≡ z) (eqb v h)
+      (λ e. let q = eqb-true v h e in omega arith)
+      (λ e.
+      let d = eqb-false v h e in
+      by-cases (decLt v h)
+      (λ l. omega arith)
+      (λ l. by-cases (decLt h v) (λ k. omega arith) (λ k. absurd (d (omega arith)))))
+
+  pub number-times : (k : ℕ) → k * same ≡ pick (eqb v h) k 0
+  number-times k = ap (λ (z : ℕ). k * z) height-test ∙ by (eqb v h)
+    where
+      by : (t : Bool) → k * pick t 1 0 ≡ pick t k 0
+      by true = omega arith
+      by false = omega arith
+
+  pub number-small : (k : ℕ) → k < 65536 → k * same < 65536
+  number-small k c =
+      subst (λ (z : ℕ). z < 65536) (sym (number-times k))
+      (on-pick (λ (z : ℕ). z < 65536) (eqb v h) (λ e. c) (λ e. omega arith))
+
 -- the two cases of a place with the value v and the node m
 module _ (n : ℕ) (pixels work : List ℕ) (x m v : ℕ) (e : m ≡ blockEntry work (2 * n) x) (g : v ≡ getD pixels x 0) where
   pub patch-other : v ≢ getD work m 0 → 0 ≡ patchIn n pixels work x
@@ -234,6 +261,14 @@ module _ (n : ℕ) (pixels work : List ℕ) (x m v : ℕ) (e : m ≡ blockEntry 
       ap (λ (b : Bool). pick b (blockEntry work (4 * n) (blockEntry work (2 * n) x)) 0)
       (eq-eqb _ _ (sym g ∙ (q ∙ ap (λ (i : ℕ). getD work i 0) e))) ∙
       ap (blockEntry work (4 * n)) (sym e)
+
+-- the same in one
+pub patch-is :
+    (n : ℕ) (pixels work : List ℕ) (x m : ℕ) → m ≡ blockEntry work (2 * n) x →
+    pick (eqb (getD pixels x 0) (getD work m 0)) (blockEntry work (4 * n) m) 0 ≡ patchIn n pixels work x
+unfolding patchIn
+patch-is n pixels work x m e =
+    ap (λ (j : ℕ). pick (eqb (getD pixels x 0) (getD work j 0)) (blockEntry work (4 * n) j) 0) e
 
 -- how many of the first x places have the number 0
 abbrev pub onLine : List ℕ → ℕ → ℕ

@@ -1,10 +1,11 @@
 // The patch of a place, from the tree: leaves are numbered by first place, and a pixel of its leaf's height is in its patch.
-use cells::cell_of;
 use cells::fill;
 use cells::wide;
 ghost use mathlib.Core.Path.{_≡_};
 ghost use Prim.Native.Nat.{ℕ, _+_, _*_, _≤_, _<_};
+ghost use lib.Dec.{eqb};
 ghost use lib.ListN.{length, getD};
+ghost use Rattle.picture.specs.Lists.{pick};
 ghost use Rattle.patch_numbers.specs.Numbers.{Sizes, Mapped, Cleared, Mark, Marks, Number, Numbers, Leaves, patchIn};
 
 // Marks the father f of a node; a number that is no node's is the root's father.
@@ -35,13 +36,10 @@ fn number_leaf(n: usize, x: usize, work: &mut [u16], marks: &[u16], r: usize) ->
     ensures { λ q. ⌜ Number n x (now (work .entry)) (now (marks .entry)) r (now (work .exit)) q ⌝ }
 {
     let m = wide(work[2 * n + x]);
-    // both are read before the tests, which then take one jump
-    let first = wide(work[3 * n + m]);
-    let mark = marks[m];
-    if first != x {
+    if wide(work[3 * n + m]) != x {
         return r;
     }
-    if mark != 0 {
+    if marks[m] != 0 {
         return r;
     }
     work[4 * n + m] = (r + 1) as u16;
@@ -72,18 +70,22 @@ pub fn number(n: usize, count: usize, work: &mut [u16], cells: &mut [u16]) -> us
     number_leaves(n, work, cells)
 }
 
+// The number if the pixel has the height, else 0. It takes no jump: on noise every other one would be guessed wrong.
+fn number_if(number: u16, pixel: u8, height: u16) -> u16
+    ensures { λ r. ⌜ r ≡ pick (eqb pixel height) number 0 ⌝ }
+{
+    let above = pixel as u32 + 65536 - height as u32;
+    let same = above / 65536 - (above - 1) / 65536;
+    (number as u32 * same) as u16
+}
+
 // The number of the patch of the place x, 0 on the line.
 pub fn patch_at(n: usize, pixels: &[u8], work: &[u16], x: usize) -> u16
     requires { ⌜ Sizes n (now work) (now pixels) × Mapped n (now work) × (x < n) ⌝ }
     ensures { λ r. ⌜ r ≡ patchIn n (now (pixels .entry)) (now (work .entry)) x ⌝ }
 {
     let m = wide(work[2 * n + x]);
-    // read before the test, which then takes no jump
-    let number = work[4 * n + m];
-    if cell_of(pixels[x]) != work[m] {
-        return 0;
-    }
-    number
+    number_if(work[4 * n + m], pixels[x], work[m])
 }
 
 // Puts the number of the patch of each place into the cells.

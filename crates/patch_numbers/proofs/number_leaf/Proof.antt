@@ -40,19 +40,19 @@ slice-read-wide-2 c = let f = c .before .before .before .before .before .pre .0 
 wide-requires-2 : tie.Need-wide-requires-2
 wide-requires-2 c κs = search needs
 
-mul-mark : tie.Need-mul-mark
-mul-mark c = let f = c .before .before .before .before .before .before .pre .0 .few in omega (arith, node-in (c .before .before))
-
-shared-slice-read-mark : tie.Need-shared-slice-read-mark
-shared-slice-read-mark c = let f = c .before .before .before .before .before .before .before .pre .0 .beside in omega (arith, node-in (c .before .before .before))
-
 returns : tie.Need-returns
 returns c =
-    number-other _ _ _ _ _ _ _ (c .before .before .before .before .wide .ensures) (c .before .before .wide2 .ensures) (c .if1 .taken)
+    number-other _ _ _ _ _ _ _ (c .before .before .before .wide .ensures) (c .before .wide2 .ensures) (c .if1 .taken)
+
+mul-if2 : tie.Need-mul-if2
+mul-if2 c = let f = c .before .before .before .before .before .before .before .pre .0 .few in omega (arith, node-in (c .before .before .before))
+
+shared-slice-read-if2 : tie.Need-shared-slice-read-if2
+shared-slice-read-if2 c = let f = c .before .before .before .before .before .before .before .before .pre .0 .beside in omega (arith, node-in (c .before .before .before .before))
 
 returns-2 : tie.Need-returns-2
 returns-2 c =
-    number-marked _ _ _ _ _ _ _ (c .before .before .before .before .before .wide .ensures) (c .before .before .before .wide2 .ensures) (c .before .if1 .left) (c .if2 .taken)
+    number-marked _ _ _ _ _ _ _ (c .before .before .before .before .before .wide .ensures) (c .before .before .before .wide2 .ensures) (c .before .before .if1 .left) (c .if2 .taken)
 
 add-work : tie.Need-add-work
 add-work c = search needs
@@ -80,7 +80,7 @@ same-length c = search needs
 
 returns-3 : tie.Need-returns-3
 returns-3 c =
-    number-given _ _ _ _ _ _ _ (c .before .before .before .before .before .wide .ensures) (c .before .before .before .wide2 .ensures) (c .before .if1 .left) (c .if2 .left)
+    number-given _ _ _ _ _ _ _ (c .before .before .before .before .before .wide .ensures) (c .before .before .before .wide2 .ensures) (c .before .before .if1 .left) (c .if2 .left)
 
 pub number-leaf-spec : {M : Type 1} → statement M
 number-leaf-spec =
@@ -96,9 +96,9 @@ number-leaf-spec =
     mul-wide-4
     slice-read-wide-2
     wide-requires-2
-    mul-mark
-    shared-slice-read-mark
     returns
+    mul-if2
+    shared-slice-read-if2
     returns-2
     add-work
     cast-work

@@ -1,9 +1,9 @@
--- `patch_numbers::patch_at` meets its contract: each return is one case of patchIn.
-use mathlib.Core.Path.{sym}
+-- `patch_numbers::patch_at` meets its contract.
+use mathlib.Core.Path.{_∙_}
 use Prim.Native.Nat.{_<_}
 use native.Mathlib.Omega.{arith}
 use borrow.Author.Needs.{needs}
-use Rattle.patch_numbers.proofs.Numbering.{patch-other, patch-node}
+use Rattle.patch_numbers.proofs.Numbering.{patch-is}
 use Rattle.patch_numbers.proofs.patch_at.Statement.{statement}
 use Rattle.patch_numbers.proofs.patch_at.Tie as tie
 
@@ -26,35 +26,32 @@ shared-slice-read-wide c = search needs
 wide-requires : tie.Need-wide-requires
 wide-requires c κs = search needs
 
-mul-number : tie.Need-mul-number
-mul-number c = search needs
+mul-number-if : tie.Need-mul-number-if
+mul-number-if c = search needs
 
-add-number : tie.Need-add-number
-add-number c = let f = c .before .before .before .before .pre .0 .few in omega (arith, node-in c)
+add-number-if : tie.Need-add-number-if
+add-number-if c = let f = c .before .before .before .before .pre .0 .few in omega (arith, node-in c)
 
-mul-number-2 : tie.Need-mul-number-2
-mul-number-2 c = let f = c .before .before .before .before .pre .0 .few in omega (arith, node-in c)
+mul-number-if-2 : tie.Need-mul-number-if-2
+mul-number-if-2 c = let f = c .before .before .before .before .pre .0 .few in omega (arith, node-in c)
 
-shared-slice-read-number : tie.Need-shared-slice-read-number
-shared-slice-read-number c = let f = c .before .before .before .before .before .pre .0 .blocks in omega (arith, node-in (c .before))
+shared-slice-read-number-if : tie.Need-shared-slice-read-number-if
+shared-slice-read-number-if c = let f = c .before .before .before .before .before .pre .0 .blocks in omega (arith, node-in (c .before))
 
-shared-slice-read-cell-of : tie.Need-shared-slice-read-cell-of
-shared-slice-read-cell-of c = search needs
+shared-slice-read-number-if-2 : tie.Need-shared-slice-read-number-if-2
+shared-slice-read-number-if-2 c = search needs
 
-cell-of-requires : tie.Need-cell-of-requires
-cell-of-requires c κs = search needs
+mul-number-if-3 : tie.Need-mul-number-if-3
+mul-number-if-3 c = let f = c .before .before .before .before .before .before .pre .0 .few in omega (arith, node-in (c .before .before))
 
-mul-if1 : tie.Need-mul-if1
-mul-if1 c = let f = c .before .before .before .before .before .before .before .pre .0 .few in omega (arith, node-in (c .before .before .before))
+shared-slice-read-number-if-3 : tie.Need-shared-slice-read-number-if-3
+shared-slice-read-number-if-3 c = let f = c .before .before .before .before .before .before .before .pre .0 .blocks in omega (arith, node-in (c .before .before .before))
 
-shared-slice-read-if1 : tie.Need-shared-slice-read-if1
-shared-slice-read-if1 c = let f = c .before .before .before .before .before .before .before .before .pre .0 .blocks in omega (arith, node-in (c .before .before .before .before))
+number-if-requires : tie.Need-number-if-requires
+number-if-requires c κs = search needs
 
 returns : tie.Need-returns
-returns c = patch-other _ _ _ _ _ _ (c .before .before .before .before .before .wide .ensures) (c .before .before .cell-of .ensures) (c .if1 .taken)
-
-returns-2 : tie.Need-returns-2
-returns-2 c = sym (patch-node _ _ _ _ _ _ (c .before .before .before .before .before .wide .ensures) (c .before .before .cell-of .ensures) (c .if1 .left))
+returns c = c .number-if .ensures ∙ patch-is _ _ _ _ _ (c .before .before .before .before .wide .ensures)
 
 pub patch-at-spec : {M : Type 1} → statement M
 patch-at-spec =
@@ -65,13 +62,12 @@ patch-at-spec =
     mul-wide-2
     shared-slice-read-wide
     wide-requires
-    mul-number
-    add-number
-    mul-number-2
-    shared-slice-read-number
-    shared-slice-read-cell-of
-    cell-of-requires
-    mul-if1
-    shared-slice-read-if1
-    returns
-    returns-2)
+    mul-number-if
+    add-number-if
+    mul-number-if-2
+    shared-slice-read-number-if
+    shared-slice-read-number-if-2
+    mul-number-if-3
+    shared-slice-read-number-if-3
+    number-if-requires
+    returns)
