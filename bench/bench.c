@@ -23,7 +23,7 @@
 
 #define ROUNDS 25
 #define ROUND_SECONDS 400e-6
-#define BESIDE_ROUNDS 200
+#define BESIDE_ROUNDS 500
 #define BESIDE_CALLS 10
 #define CALLS 8
 #define TREE 3
