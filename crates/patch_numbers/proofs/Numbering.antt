@@ -1,4 +1,4 @@
--- The laws of the numbering: marks of fathers, numbers of leaves, and what stays in the other blocks.
+-- The laws of the numbering: marks of fathers, numbers of leaves, what stays in the other blocks, the patch of a place, places on the line.
 use mathlib.Core.Path.{_≡_, refl, sym, ap, subst, _∙_}
 use mathlib.Core.Bool.{Bool, true, false, _&&_}
 use mathlib.Core.Logic.{inl, ⊎-elim, _≢_, by-cases}
@@ -12,12 +12,11 @@ use lib.ListN.{length, getD, set, length-set}
 use lib.Seq.{getD-set-same, getD-set-other}
 use borrow.Author.Tests.{eqb-true, eqb-false, eq-eqb, ne-eqb}
 use Rattle.picture.specs.Lists.{pick, tally, range}
-use Rattle.cells.specs.Blocks.{blockEntry}
+use Rattle.cells.specs.Blocks.{blockEntry, UntouchedOutside, Filled}
 use Rattle.topology.proofs.Tests.{and-left, and-right, and-both, clash, on-pick}
 use Rattle.topology.proofs.Lists.{tally-length, length-range}
 use Rattle.topology.proofs.Positions.{tally-next-in, tally-next-out}
 use Rattle.topology.proofs.Zones.{set-cases}
-use Rattle.cells.specs.Blocks.{UntouchedOutside, Filled}
 use Rattle.patch_numbers.specs.Numbers.{Mapped, Cleared, Mark, beyond, marked, Son, Marks, starts, Number, passed, given, Numbers, patchIn}
 use Rattle.cells.proofs.Blocks.{kept-refl, kept-set}
 

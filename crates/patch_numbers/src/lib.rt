@@ -70,7 +70,7 @@ pub fn number(n: usize, count: usize, work: &mut [u16], cells: &mut [u16]) -> us
     number_leaves(n, work, cells)
 }
 
-// The number if the pixel has the height, else 0. It takes no jump: on noise every other one would be guessed wrong.
+// The number if the pixel has the height, else 0. Without a jump, which on noise is hard to predict (docs/performance.md).
 fn number_if(number: u16, pixel: u8, height: u16) -> u16
     ensures { λ r. ⌜ r ≡ pick (eqb pixel height) number 0 ⌝ }
 {

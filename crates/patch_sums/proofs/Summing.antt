@@ -14,9 +14,8 @@ use lib.ListN.{length, getD}
 use lib.Seq.{getD-set-same, getD-set-other}
 use borrow.Author.Tests.{eq-eqb, ne-eqb}
 use Rattle.picture.specs.Lists.{pick}
-use Rattle.cells.specs.Blocks.{blockEntry}
+use Rattle.cells.specs.Blocks.{blockEntry, UntouchedOutside, Filled}
 use Rattle.topology.proofs.PatchSums.{sumAt, sum-none, sum-in, sum-out, sum-most}
-use Rattle.cells.specs.Blocks.{UntouchedOutside, Filled}
 use Rattle.patch_sums.specs.declared.Run.{Run}
 use Rattle.patch_sums.specs.Sums.{Figure, sizes, columns, rows, term, terms, termAt, base, raised, Raisable, Room, Added, Next, Frame, Sums, Running}
 use Rattle.cells.proofs.Blocks.{kept-refl, kept-store}

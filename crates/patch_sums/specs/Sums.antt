@@ -5,10 +5,9 @@ use Prim.Native.Nat.{ℕ, suc, _+_, _*_, _/_, _%_, _≤_, _<_}
 use lib.Dec.{eqb}
 use lib.ListN.{length, getD, set}
 use Rattle.picture.specs.Lists.{pick}
-use Rattle.cells.specs.Blocks.{blockEntry}
+use Rattle.cells.specs.Blocks.{blockEntry, UntouchedOutside}
 use Rattle.topology.proofs.PatchSums.{sumAt}
 use Rattle.patch_sums.specs.declared.Run.{Run}
-use Rattle.cells.specs.Blocks.{UntouchedOutside}
 
 -- the figures that are sums over the places of a patch
 pub data Figure : Type 0 where
@@ -62,7 +61,7 @@ pub record Added (n c : ℕ) (t : Figure → ℕ) (work after : List ℕ) : Type
 abbrev pub held : ℕ → List ℕ → Run → ℕ → Figure → ℕ → ℕ
 held n work r v k i = blockEntry work (base n k) i + pick (eqb (r .number) (suc i)) (terms r v k) 0
 
--- the sums with the run are more by a place of the number c in the column u and the row v
+-- the sums with the run are more by a place of the number c in the column u and the row v; the run's number is no greater than c or than it was, whichever is greater
 pub record Next (n c u v : ℕ) (run : Run) (work : List ℕ) (r : Run) (after : List ℕ) : Type 0 where
   pub kept : UntouchedOutside 0 (3 * n) work after
   pub number : (m : ℕ) → c ≤ m → run .number ≤ m → r .number ≤ m

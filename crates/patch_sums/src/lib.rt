@@ -6,7 +6,7 @@ ghost use Prim.Native.Nat.{_+_, _*_, _≤_};
 ghost use lib.ListN.{length};
 ghost use Rattle.patch_sums.specs.Sums.{raised, Raisable, terms, Room, Added, Next, Frame, Sums};
 
-// Places of one row and one number, but for the line with no other number between them: the number, how many there are, and the sum of their columns.
+// Places of one row and one number, with no place of another patch between them (places on the line may lie there): the number, how many there are, and the sum of their columns.
 // A run is summed before it is stored: a store for each place would have to wait for the store before it.
 pub struct Run {
     pub number: usize,

@@ -1,4 +1,4 @@
--- Laws of numbers, sums and figures of patches.
+-- Laws of the figures of patches and of the patch of a place.
 pub mod Charting
 pub mod Patching
 pub mod Figuring

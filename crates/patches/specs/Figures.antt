@@ -10,10 +10,9 @@ use Rattle.picture.specs.Lists.{pick, tally, range, highest}
 use Rattle.picture.specs.Pictures.{Picture, places, isPicture}
 use Rattle.picture.specs.Trees.{nodes}
 use Rattle.picture.specs.Patches.{Patch, patches, patchAt}
-use Rattle.cells.specs.Blocks.{blockEntry}
+use Rattle.cells.specs.Blocks.{blockEntry, UntouchedOutside}
 use Rattle.tree.specs.Arrays.{TreeIn}
 use Rattle.topology.proofs.Leaves.{bottom}
-use Rattle.cells.specs.Blocks.{UntouchedOutside}
 
 -- the cells hold the tree of an accepted picture, of count nodes
 pub record Tree (p : Picture) (count : ℕ) (work : List ℕ) : Type 0 where

@@ -1,4 +1,4 @@
--- What the functions of the check say, whatever the picture is.
+-- What the checks of nodes and map say, whatever the picture is.
 use mathlib.Core.Path.{_≡_, refl, sym, ap, subst, _∙_}
 use mathlib.Core.Bool.{Bool, true, false}
 use mathlib.Core.Logic.{by-cases}
