@@ -15,8 +15,8 @@ use Rattle.picture.specs.Components.{pass}
 use Rattle.picture.specs.Trees.{nodes, nodeAt, fatherOf, treeOf}
 use Rattle.picture.specs.Patches.{patchAt}
 use Rattle.picture.specs.Kept.{partners, Kept}
-use Rattle.topology.proofs.Tests.{and-both}
-use Rattle.topology.proofs.Lists.{tally-map, tally-same, length-range, range-mem, getD-map-range}
+use Rattle.lists.proofs.Tests.{and-both}
+use Rattle.lists.proofs.Lists.{tally-map, tally-same, length-range, range-mem, getD-map-range}
 use Rattle.topology.proofs.Nodes.{node-is}
 use Rattle.topology.proofs.Fathers.{father-found}
 use Rattle.topology.proofs.Accepted.{accepted-is}

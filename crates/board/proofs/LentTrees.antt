@@ -14,7 +14,7 @@ use Rattle.picture.specs.Components.{pass}
 use Rattle.picture.specs.Trees.{nodes, treeOf}
 use Rattle.faults.specs.PictureFault.{firstOf, when}
 use Rattle.picture.proofs.Lists.{and-left, and-right}
-use Rattle.topology.proofs.Tests.{and-both, clash, on-test}
+use Rattle.lists.proofs.Tests.{and-both, clash, on-test}
 use Rattle.topology.proofs.Accepted.{accepted-is}
 use Rattle.topology.proofs.Nodes.{nodes-few}
 use Rattle.topology.proofs.Grid.{pass-byte}

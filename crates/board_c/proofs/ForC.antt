@@ -14,7 +14,7 @@ use Rattle.picture.specs.Pictures.{Picture, places, valueAt}
 use Rattle.faults.specs.PictureFault.{firstOf, when, faultOf, pictureFault}
 use Rattle.picture.specs.Watersheds.{watershed}
 use Rattle.picture.specs.Patches.{patchAt}
-use Rattle.topology.proofs.Tests.{on-test}
+use Rattle.lists.proofs.Tests.{on-test}
 use Rattle.p5.specs.Files.{readFile, numberOf, headerOf}
 use Rattle.text.specs.Writing.{Written}
 use Rattle.answers.specs.declared.Answer.{Answer}

@@ -1,7 +1,7 @@
 // The climb in the cells of a tree: heights, fathers and the map, n cells each.
 use cells::wide;
 ghost use Prim.Native.Nat.{_≤_, _<_};
-ghost use Rattle.topology.proofs.Stopping.{Climbs, Climbing, Met, Meets};
+ghost use Rattle.watershed_laws.proofs.Stopping.{Climbs, Climbing, Met, Meets};
 
 // The nearest common ancestor of two nodes.
 fn meet(tree: &[u16], n: usize, a: usize, b: usize) -> usize

@@ -5,7 +5,7 @@ use cells::wide;
 ghost use mathlib.Core.Path.{_≡_};
 ghost use Prim.Native.Nat.{_≤_, _<_};
 ghost use lib.ListN.{length};
-ghost use Rattle.topology.proofs.Stopping.{Climbs, Places, Lower, Lowest, Raised, Stopped};
+ghost use Rattle.watershed_laws.proofs.Stopping.{Climbs, Places, Lower, Lowest, Raised, Stopped};
 
 // The place of the lesser value.
 fn lower(pixels: &[u8], low: usize, y: usize) -> usize

@@ -13,10 +13,10 @@ use lib.Seq.{drop-cons, drop-length, drop-set-lt, set-set, set-getD}
 use Rattle.picture.specs.Pictures.{Picture, places}
 use Rattle.picture.specs.Geometry.{neighboursIn}
 use Rattle.picture.proofs.Neighbours.{neighbour-at, neighbours-touch}
-use Rattle.topology.proofs.Lists.{in-mem}
+use Rattle.lists.proofs.Lists.{in-mem}
 use Rattle.topology.proofs.Connected.{start, conn-target}
 use Rattle.topology.proofs.Adjacency.{Adj}
-use Rattle.topology.proofs.Flood.{unmarked, unmarked-set, Flooding, Flooded, flood-start, flood-pop, flood-done, flood-pass, flood-mark, flood-end}
+use Rattle.labelling_laws.proofs.Flood.{unmarked, unmarked-set, Flooding, Flooded, flood-start, flood-pop, flood-done, flood-pass, flood-mark, flood-end}
 use Rattle.floods.specs.Floods.{Room, Visited, passed, marked, Moved, Spread, Seed, Floods}
 
 -- a place without a label is one of the unmarked

@@ -6,7 +6,7 @@ use Prim.Native.Nat.{ℕ, _+_, _≤_}
 use lib.ListN.{length, getD, set, drop}
 use Rattle.picture.specs.Pictures.{Picture, places}
 use Rattle.topology.proofs.Adjacency.{At, Joined}
-use Rattle.topology.proofs.Flood.{unmarked, Flooding, Flooded}
+use Rattle.labelling_laws.proofs.Flood.{unmarked, Flooding, Flooded}
 
 -- n labels for n pixels, and a stack of height t with room for every place that has no label
 pub record Room (n : ℕ) (pixels labels stack : List ℕ) (t : ℕ) : Type 0 where

@@ -11,7 +11,7 @@ use lib.Seq.{length-take-le, getD-take, getD-drop}
 use Rattle.picture.specs.Lists.{range}
 use Rattle.picture.specs.Pictures.{Picture, places}
 use Rattle.picture.specs.Patches.{Patch, patches, patchAt, lineCount, centre}
-use Rattle.topology.proofs.Lists.{tally-length, length-range}
+use Rattle.lists.proofs.Lists.{tally-length, length-range}
 use Rattle.topology.proofs.Accepted.{Accepted, places-bound}
 use Rattle.topology.proofs.PatchFigures.{bottom-number}
 use Rattle.topology.proofs.PatchSums.{sumAt, sum-in, sum-out, patch-begins, count-few, patch-size}

@@ -11,7 +11,7 @@ use Rattle.picture.specs.Components.{labels}
 use Rattle.picture.specs.Geometry.{neighboursIn}
 use Rattle.picture.specs.Watersheds.{lowerable}
 use Rattle.topology.proofs.Accepted.{accepted-is}
-use Rattle.topology.proofs.Agreeing.{isSingle, Common, not-lowerable, label-small, common-end}
+use Rattle.labelling_laws.proofs.Agreeing.{isSingle, Common, not-lowerable, label-small, common-end}
 use Rattle.labels.specs.Labels.{Ready}
 use Rattle.labels.proofs.Scans.{picture-few}
 

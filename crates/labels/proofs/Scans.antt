@@ -10,10 +10,10 @@ use lib.ListN.{length, getD, drop, replicate, drop-of-length-le}
 use Rattle.picture.specs.Pictures.{Picture, places, isPicture}
 use Rattle.picture.specs.Components.{inSection}
 use Rattle.picture.specs.Geometry.{Placed}
-use Rattle.topology.proofs.Lists.{tally-length}
+use Rattle.lists.proofs.Lists.{tally-length}
 use Rattle.topology.proofs.Parts.{isFirst, first-is}
 use Rattle.topology.proofs.Accepted.{accepted-is, places-bound}
-use Rattle.topology.proofs.Labelled.{Labelled, labelled-start, count-most, outside-first, labelled-first, unlabelled-first, labelled-pass, labelled-fresh, labelled-new, labelled-flood, labelled-end}
+use Rattle.labelling_laws.proofs.Labelled.{Labelled, labelled-start, count-most, outside-first, labelled-first, unlabelled-first, labelled-pass, labelled-fresh, labelled-new, labelled-flood, labelled-end}
 use Rattle.labels.specs.Labels.{Ready, Scanned, LabelsHold}
 use Rattle.floods.specs.Floods.{Room, Seed, Floods}
 

@@ -6,7 +6,7 @@ use Prim.Native.Nat.{ℕ, _≤_}
 use lib.ListN.{length, drop}
 use Rattle.picture.specs.Pictures.{Picture, places, isPicture}
 use Rattle.picture.specs.Components.{components, labels}
-use Rattle.topology.proofs.Labelled.{Labelled}
+use Rattle.labelling_laws.proofs.Labelled.{Labelled}
 
 -- an accepted picture with a label for each place, and a stack of as many cells at least
 pub record Ready (p : Picture) (l stack : List ℕ) : Type 0 where

@@ -10,7 +10,7 @@ ghost use lib.ListN.{length, getD};
 ghost use Rattle.picture.specs.Pictures.{isPicture, pictureOf};
 ghost use Rattle.picture.specs.Geometry.{Placed, neighboursOf};
 ghost use Rattle.picture.specs.Watersheds.{lowerable as isLowerable};
-ghost use Rattle.topology.proofs.Agreeing.{agreed, isSingle, Common};
+ghost use Rattle.labelling_laws.proofs.Agreeing.{agreed, isSingle, Common};
 
 // Stands for labels that differ.
 const SEVERAL: u16 = 65535;

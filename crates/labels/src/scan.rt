@@ -5,7 +5,7 @@ use floods::in_section;
 ghost use Prim.Native.Nat.{_+_, _*_, _<_};
 ghost use Rattle.labels.specs.Labels.{Ready, Scanned, LabelsHold};
 ghost use Rattle.picture.specs.Pictures.{pictureOf};
-ghost use Rattle.topology.proofs.Labelled.{Labelled};
+ghost use Rattle.labelling_laws.proofs.Labelled.{Labelled};
 
 // Floods the component of the place x, if it begins there, with the number after c; answers the number of components that begin up to x.
 fn label_place(

@@ -14,11 +14,11 @@ use Rattle.picture.specs.Pictures.{Picture, places, valueAt, isPicture}
 use Rattle.picture.specs.Geometry.{neighboursIn, Placed}
 use Rattle.picture.specs.Patches.{patches}
 use Rattle.picture.proofs.Neighbours.{neighbour-at, neighbours-touch}
-use Rattle.topology.proofs.Lists.{in-mem, tally-length, length-range}
+use Rattle.lists.proofs.Lists.{in-mem, tally-length, length-range}
 use Rattle.topology.proofs.Connected.{start, conn-target}
 use Rattle.topology.proofs.Adjacency.{Adj}
-use Rattle.topology.proofs.Zones.{Flat, Flooding, Flooded, flood-start, flood-pop, flood-done, flood-lower, flood-higher, flood-visited, flood-visit, flood-end}
-use Rattle.topology.proofs.ZoneScan.{unvisited-set, Scanned, scan-start, scan-seen, scan-fresh, scan-lower, scan-minimum, scan-end}
+use Rattle.labelling_laws.proofs.Zones.{Flat, Flooding, Flooded, flood-start, flood-pop, flood-done, flood-lower, flood-higher, flood-visited, flood-visit, flood-end}
+use Rattle.labelling_laws.proofs.ZoneScan.{unvisited-set, Scanned, scan-start, scan-seen, scan-fresh, scan-lower, scan-minimum, scan-end}
 use Rattle.topology.proofs.Leaves.{bottom}
 use Rattle.topology.proofs.Accepted.{accepted-is, places-bound}
 use Rattle.minima.specs.declared.Stack.{Stack}

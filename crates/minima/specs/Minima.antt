@@ -7,8 +7,8 @@ use Prim.Native.Nat.{ℕ, _+_, _-_, _≤_, _<_}
 use lib.ListN.{length, getD}
 use Rattle.picture.specs.Pictures.{Picture, places, valueAt, isPicture}
 use Rattle.topology.proofs.Adjacency.{Adj}
-use Rattle.topology.proofs.Zones.{Flat, Zone, Flooding}
-use Rattle.topology.proofs.ZoneScan.{unvisited, Scanned}
+use Rattle.labelling_laws.proofs.Zones.{Flat, Zone, Flooding}
+use Rattle.labelling_laws.proofs.ZoneScan.{unvisited, Scanned}
 use Rattle.minima.specs.declared.Stack.{Stack}
 
 -- a cell for each pixel, and few of them

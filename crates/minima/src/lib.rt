@@ -10,7 +10,7 @@ ghost use lib.ListN.{length, getD};
 ghost use Rattle.picture.specs.Pictures.{isPicture, pictureOf};
 ghost use Rattle.picture.specs.Geometry.{Placed};
 ghost use Rattle.picture.specs.Patches.{patches};
-ghost use Rattle.topology.proofs.Zones.{Flooded};
+ghost use Rattle.labelling_laws.proofs.Zones.{Flooded};
 ghost use Rattle.minima.specs.Minima.{Sizes, Room, Visit, Turn, Seed, Counting};
 
 // The cell of a place that no flood has visited.

@@ -6,7 +6,7 @@ use native.Mathlib.Omega.{arith}
 use native.Mathlib.Numerals.{add-one}
 use lib.ListN.{length, getD, take, drop, set, replicate}
 use lib.Seq.{take-suc}
-use Rattle.topology.proofs.Filling.{written-next}
+use Rattle.lists.proofs.Filling.{written-next}
 use Rattle.text.specs.Little.{littleEndian}
 use Rattle.text.specs.Writing.{Written}
 use Rattle.text.proofs.Writings.{written-then}

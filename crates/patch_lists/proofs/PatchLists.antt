@@ -16,8 +16,8 @@ use Rattle.faults.specs.PictureFault.{firstOf, when, pictureFault}
 use Rattle.picture.specs.Trees.{Node, nodes, nodeAt, fatherOf, mapOf}
 use Rattle.picture.specs.Patches.{patches, depthOf}
 use Rattle.picture.proofs.Sides.{area-most}
-use Rattle.topology.proofs.Tests.{on-pick}
-use Rattle.topology.proofs.Lists.{length-range, getD-map-range}
+use Rattle.lists.proofs.Tests.{on-pick}
+use Rattle.lists.proofs.Lists.{length-range, getD-map-range}
 use Rattle.topology.proofs.Accepted.{Accepted, accepted-is, byte-at}
 use Rattle.topology.proofs.Nodes.{node-is}
 use Rattle.topology.proofs.PatchSums.{patch-begins, count-few, patch-height, patch-depth}

@@ -14,8 +14,8 @@ use Rattle.picture.specs.Trees.{Node, nodes, nodeAt, fatherOf, mapOf}
 use Rattle.picture.specs.Patches.{patchAt, depthOf}
 use Rattle.cells.specs.Blocks.{blockEntry}
 use Rattle.tree.specs.Arrays.{TreeIn}
-use Rattle.topology.proofs.Tests.{on-test, same-test, clash}
-use Rattle.topology.proofs.Lists.{tally-same, range-mem}
+use Rattle.lists.proofs.Tests.{on-test, same-test, clash}
+use Rattle.lists.proofs.Lists.{tally-same, range-mem}
 use Rattle.topology.proofs.Accepted.{Accepted, places-bound}
 use Rattle.topology.proofs.Nodes.{nodes-few, node-is}
 use Rattle.topology.proofs.Fathers.{father-found, map-found, number-small}

@@ -15,11 +15,11 @@ use Rattle.picture.specs.Pictures.{Picture, places}
 use Rattle.picture.specs.Trees.{mapOf}
 use Rattle.picture.specs.Patches.{patches}
 use Rattle.cells.specs.Blocks.{blockEntry}
-use Rattle.topology.proofs.Tests.{test-false}
+use Rattle.lists.proofs.Tests.{test-false}
 use Rattle.topology.proofs.Accepted.{Accepted, accepted-is}
 use Rattle.topology.proofs.Fathers.{map-found}
 use Rattle.topology.proofs.Nodes.{nodes-few}
-use Rattle.topology.proofs.Positions.{tally-next-in, tally-next-out}
+use Rattle.lists.proofs.Positions.{tally-next-in, tally-next-out}
 use Rattle.topology.proofs.Leaves.{bottom}
 use Rattle.topology.proofs.PatchFigures.{bottom-number}
 use Rattle.topology.proofs.PatchSums.{next-bottom, patch-height, patch-depth}

@@ -11,7 +11,7 @@ use lib.ListN.{length, getD}
 use borrow.Author.Tests.{eqb-true, leb-true, ltb-true, eq-eqb, le-leb, lt-ltb}
 use Rattle.picture.specs.Pictures.{Picture, places, withPixels, sideFits, allBytes, isPicture}
 use Rattle.picture.specs.Kept.{nowhereAbove}
-use Rattle.topology.proofs.Tests.{and-left, and-right, and-both, or-cases, or-left, or-right, clash}
+use Rattle.lists.proofs.Tests.{and-left, and-right, and-both, or-cases, or-left, or-right, clash}
 
 pub record Accepted (p : Picture) : Type 0 where
   pub adjacency : (p .adjacency ≡ 4) ⊎ (p .adjacency ≡ 8)

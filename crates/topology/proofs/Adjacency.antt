@@ -6,7 +6,7 @@ use borrow.Author.Tests.{leb-true, le-leb}
 use Rattle.picture.proofs.Neighbours.{touch-sym, touch-self}
 use Rattle.picture.specs.Pictures.{Picture, places, valueAt, touch}
 use Rattle.picture.specs.Components.{inSection}
-use Rattle.topology.proofs.Tests.{clash}
+use Rattle.lists.proofs.Tests.{clash}
 use Rattle.topology.proofs.Connected.{Conn, conn-sym}
 use Rattle.topology.proofs.Keeping.{Sec}
 

@@ -11,8 +11,8 @@ use Rattle.picture.specs.Lists.{any, tally, isIn}
 use Rattle.picture.specs.Pictures.{Picture, places, valueAt, withPixels}
 use Rattle.picture.specs.Components.{componentAt, components}
 use Rattle.picture.specs.Trees.{headOf, below, isBranch}
-use Rattle.topology.proofs.Tests.{on-test, same-test, clash}
-use Rattle.topology.proofs.Lists.{any-mem, mem-any, mem-select, length-select}
+use Rattle.lists.proofs.Tests.{on-test, same-test, clash}
+use Rattle.lists.proofs.Lists.{any-mem, mem-any, mem-select, length-select}
 use Rattle.topology.proofs.Connected.{start, step, conn-source, conn-target, conn-trans, conn-mono, conn-closed}
 use Rattle.topology.proofs.Keeping.{Keeps, sec-mono}
 use Rattle.topology.proofs.Adjacency.{Adj, At, Joined, joined-sym}

@@ -11,8 +11,8 @@ use Rattle.picture.specs.Pictures.{Picture, places, valueAt, withPixels, touch}
 use Rattle.picture.specs.Components.{touchesSome, componentAt, components}
 use Rattle.picture.specs.Watersheds.{lowerableAt, lowerable}
 use Rattle.picture.specs.Kept.{keepsAt, keepsParts}
-use Rattle.topology.proofs.Tests.{and-left, and-right, and-both, clash}
-use Rattle.topology.proofs.Lists.{any-mem, mem-any, all-mem, mem-all, range-mem, mem-range}
+use Rattle.lists.proofs.Tests.{and-left, and-right, and-both, clash}
+use Rattle.lists.proofs.Lists.{any-mem, mem-any, all-mem, mem-all, range-mem, mem-range}
 use Rattle.topology.proofs.Connected.{start, conn-source, conn-target, conn-trans, conn-mono}
 use Rattle.topology.proofs.Keeping.{Keeps, Lowers}
 use Rattle.topology.proofs.Adjacency.{Adj, At, Joined, joined-sym}

@@ -8,7 +8,7 @@ use lib.ListN.{length}
 use Rattle.picture.specs.Pictures.{Picture, places, valueAt}
 use Rattle.picture.specs.Components.{componentAt, pass}
 use Rattle.picture.specs.Trees.{Node, isBranch, nodes, nodeAt, numberOf, fatherOf, mapOf}
-use Rattle.topology.proofs.Tests.{clash}
+use Rattle.lists.proofs.Tests.{clash}
 use Rattle.topology.proofs.Connected.{conn-source, conn-target, conn-trans}
 use Rattle.topology.proofs.Keeping.{sec-mono}
 use Rattle.topology.proofs.Adjacency.{At, Joined, joined-sym}

@@ -10,14 +10,14 @@ use lib.ListN.{length, getD, length-map}
 use Rattle.picture.specs.Lists.{tally, select, range, isIn}
 use Rattle.picture.specs.Pictures.{Picture, places}
 use Rattle.picture.specs.Components.{componentAt, components, labelFrom, labels}
-use Rattle.topology.proofs.Tests.{on-test, on-elim, clash, test-false}
-use Rattle.topology.proofs.Lists.{select-in, select-out, tally-in, tally-out, length-select, length-range, getD-map-range}
+use Rattle.lists.proofs.Tests.{on-test, on-elim, clash, test-false}
+use Rattle.lists.proofs.Lists.{select-in, select-out, tally-in, tally-out, length-select, length-range, getD-map-range}
 use Rattle.topology.proofs.Connected.{conn-target}
 use Rattle.topology.proofs.Keeping.{sec-dec}
 use Rattle.topology.proofs.Adjacency.{At, Joined}
 use Rattle.topology.proofs.Reached.{firstAt, in-joined, joined-in, first-same, first-first, first-at, same-first}
 use Rattle.topology.proofs.Parts.{isFirst, first-is, is-first, components-are, components-mem}
-use Rattle.topology.proofs.Positions.{tally-next-in, tally-below}
+use Rattle.lists.proofs.Positions.{tally-next-in, tally-below}
 
 -- the number of the component that holds a place of the section
 unfoldable pub numberAt : Picture → ℕ → ℕ → ℕ

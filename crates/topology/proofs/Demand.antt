@@ -13,8 +13,8 @@ use Rattle.picture.specs.Components.{inSection, componentAt, passFrom, pass}
 use Rattle.picture.specs.Watersheds.{lowerable, watershed}
 use Rattle.picture.specs.Patches.{patchAt}
 use Rattle.picture.specs.Kept.{nowhereAbove, keepsAt, keepsParts, Kept, Demand-3}
-use Rattle.topology.proofs.Tests.{and-left, and-right, and-both, same-test, test-false}
-use Rattle.topology.proofs.Lists.{all-fails, range-mem}
+use Rattle.lists.proofs.Tests.{and-left, and-right, and-both, same-test, test-false}
+use Rattle.lists.proofs.Lists.{all-fails, range-mem}
 use Rattle.topology.proofs.Connected.{conn-target}
 use Rattle.topology.proofs.Keeping.{Keeps, keeps-compose}
 use Rattle.topology.proofs.Least.{least-sections}

@@ -9,7 +9,7 @@ use lib.ListN.{length}
 use Rattle.picture.specs.Pictures.{Picture, valueAt}
 use Rattle.picture.specs.Components.{componentAt}
 use Rattle.picture.specs.Trees.{Node, isBranch, nodes, nodeAt, numberOf, fatherOf, downFrom, mapOf}
-use Rattle.topology.proofs.Tests.{on-test, on-elim, clash}
+use Rattle.lists.proofs.Tests.{on-test, on-elim, clash}
 use Rattle.topology.proofs.Connected.{start, conn-trans}
 use Rattle.topology.proofs.Keeping.{sec-mono}
 use Rattle.topology.proofs.Adjacency.{At, Joined, joined-sym}

@@ -10,7 +10,7 @@ use lib.ListN.{length}
 use Rattle.picture.specs.Pictures.{Picture, places, valueAt}
 use Rattle.picture.specs.Components.{componentAt}
 use Rattle.picture.specs.Trees.{Node, isBranch, nodes, numberOf, aboveFrom, fatherOf, downFrom, mapOf}
-use Rattle.topology.proofs.Tests.{on-elim}
+use Rattle.lists.proofs.Tests.{on-elim}
 use Rattle.topology.proofs.Keeping.{sec-mono}
 use Rattle.topology.proofs.Adjacency.{At}
 use Rattle.topology.proofs.Accepted.{Accepted, byte-at, places-bound}

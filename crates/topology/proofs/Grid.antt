@@ -13,7 +13,7 @@ use Rattle.picture.specs.Lists.{isIn}
 use Rattle.picture.specs.Pictures.{Picture, places, valueAt, distance, adjacent}
 use Rattle.picture.specs.Components.{inSection, componentAt, passFrom, pass}
 use Rattle.picture.proofs.Neighbours.{distance-is}
-use Rattle.topology.proofs.Tests.{and-left, and-right, and-both, on-pick, on-elim, clash}
+use Rattle.lists.proofs.Tests.{and-left, and-right, and-both, on-pick, on-elim, clash}
 use Rattle.topology.proofs.Connected.{start, step, conn-trans, conn-source}
 use Rattle.topology.proofs.Adjacency.{Adj, At, Joined, adj-sym, joined-sym, section-at, at-section}
 use Rattle.topology.proofs.Reached.{in-joined, joined-in}

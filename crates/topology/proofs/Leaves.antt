@@ -13,16 +13,16 @@ use Rattle.picture.specs.Pictures.{Picture, places, valueAt}
 use Rattle.picture.specs.Components.{componentAt, components}
 use Rattle.picture.specs.Trees.{Node, headOf, below, isBranch, nodes, isLeaf}
 use Rattle.picture.specs.Patches.{insertByFirst, byFirst, patchNodes}
-use Rattle.topology.proofs.Tests.{and-left, and-right, and-both, on-test, on-elim, same-test, test-false}
-use Rattle.topology.proofs.Lists.{select-in, select-out, select-mem, mem-select, length-select, tally-none, in-mem, mem-in, range-mem, mem-range}
-use Rattle.topology.proofs.Rising.{Rising, none, more, rising-select, rising-equal}
+use Rattle.lists.proofs.Tests.{and-left, and-right, and-both, on-test, on-elim, same-test, test-false}
+use Rattle.lists.proofs.Lists.{select-in, select-out, select-mem, mem-select, length-select, tally-none, in-mem, mem-in, range-mem, mem-range}
+use Rattle.lists.proofs.Rising.{Rising, none, more, rising-select, rising-equal}
 use Rattle.topology.proofs.Connected.{start, conn-target}
 use Rattle.topology.proofs.Adjacency.{At, Joined}
 use Rattle.topology.proofs.Accepted.{Accepted, byte-at}
 use Rattle.topology.proofs.Reached.{firstAt, component-same, first-joined, first-first}
 use Rattle.topology.proofs.Parts.{isFirst, first-is, is-first, components-mem}
 use Rattle.topology.proofs.Branches.{below-joined}
-use Rattle.topology.proofs.Numbers.{mem-index}
+use Rattle.lists.proofs.Numbers.{mem-index}
 use Rattle.topology.proofs.Nodes.{node, nodes-mem, mem-nodes, Sorted, end, next, nodes-sorted, sorted-later}
 use Rattle.topology.proofs.Minima.{by-first-mem, leaf-flat}
 

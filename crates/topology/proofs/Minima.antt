@@ -14,8 +14,8 @@ use Rattle.picture.specs.Pictures.{Picture, places, valueAt, withPixels}
 use Rattle.picture.specs.Components.{componentAt, components}
 use Rattle.picture.specs.Trees.{Node, headOf, below, nodes, componentOf, isLeaf}
 use Rattle.picture.specs.Patches.{insertByFirst, byFirst, patchNodes, patchFrom, patchAt}
-use Rattle.topology.proofs.Tests.{on-elim}
-use Rattle.topology.proofs.Lists.{select-mem, mem-select}
+use Rattle.lists.proofs.Tests.{on-elim}
+use Rattle.lists.proofs.Lists.{select-mem, mem-select}
 use Rattle.topology.proofs.Connected.{conn-target, conn-trans}
 use Rattle.topology.proofs.Keeping.{Keeps, sec-mono}
 use Rattle.topology.proofs.Adjacency.{Adj, At, Joined}

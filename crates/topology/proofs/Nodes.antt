@@ -12,15 +12,15 @@ use Rattle.picture.specs.Lists.{select, range}
 use Rattle.picture.specs.Pictures.{Picture, places, valueAt}
 use Rattle.picture.specs.Components.{componentAt}
 use Rattle.picture.specs.Trees.{Node, headOf, isBranch, nodesAt, nodesFrom, nodes, nodeAt, componentOf, numberFrom, numberOf}
-use Rattle.topology.proofs.Tests.{and-left, and-right, and-both, on-test, on-elim, not-of-false, clash}
-use Rattle.topology.proofs.Lists.{select-map, select-select, select-mem, mem-select, range-mem, mem-range}
-use Rattle.topology.proofs.Rising.{Rising, none, more, rising-select}
+use Rattle.lists.proofs.Tests.{and-left, and-right, and-both, on-test, on-elim, not-of-false, clash}
+use Rattle.lists.proofs.Lists.{select-map, select-select, select-mem, mem-select, range-mem, mem-range}
+use Rattle.lists.proofs.Rising.{Rising, none, more, rising-select}
 use Rattle.topology.proofs.Connected.{conn-target}
 use Rattle.topology.proofs.Adjacency.{At}
 use Rattle.topology.proofs.Reached.{firstAt, component-same, first-joined, first-same, first-at, first-first}
 use Rattle.topology.proofs.Parts.{isFirst, first-is, is-first, components-are}
 use Rattle.topology.proofs.Branches.{own-pixel}
-use Rattle.topology.proofs.Numbers.{mem-index, index-mem, map-same, pigeonhole}
+use Rattle.lists.proofs.Numbers.{mem-index, index-mem, map-same, pigeonhole}
 
 -- the node of a height and a first place
 abbrev pub node : ℕ → ℕ → Node

@@ -10,9 +10,9 @@ use borrow.Author.Tests.{eqb-true, eq-eqb}
 use Rattle.picture.specs.Lists.{any, all, tally, select, range, isIn}
 use Rattle.picture.specs.Pictures.{Picture, places}
 use Rattle.picture.specs.Components.{inSection, componentAt, componentsFrom, components}
-use Rattle.topology.proofs.Tests.{and-left, and-right, and-both, or-left, or-right, or-cases, not-of-false, on-test, on-elim, clash, test-false}
-use Rattle.topology.proofs.Lists.{select-in, select-out, select-mem, mem-select, range-mem, mem-range, all-mem, mem-all, tally-map, tally-select}
-use Rattle.topology.proofs.Rising.{one-tally, tally-one}
+use Rattle.lists.proofs.Tests.{and-left, and-right, and-both, or-left, or-right, or-cases, not-of-false, on-test, on-elim, clash, test-false}
+use Rattle.lists.proofs.Lists.{select-in, select-out, select-mem, mem-select, range-mem, mem-range, all-mem, mem-all, tally-map, tally-select}
+use Rattle.lists.proofs.Rising.{one-tally, tally-one}
 use Rattle.topology.proofs.Connected.{start}
 use Rattle.topology.proofs.Adjacency.{At, Joined, section-at, at-section}
 use Rattle.topology.proofs.Reached.{firstAt, component-same, in-joined, joined-in, first-joined, first-least, first-same, first-first, first-at, same-first}

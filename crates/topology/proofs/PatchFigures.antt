@@ -12,16 +12,16 @@ use Rattle.picture.specs.Pictures.{Picture, places, valueAt}
 use Rattle.picture.specs.Components.{componentAt}
 use Rattle.picture.specs.Trees.{Node, nodeAt, componentOf, mapOf}
 use Rattle.picture.specs.Patches.{patchNodes, Patch, patchOf, patchesFrom, patches, patchAt}
-use Rattle.topology.proofs.Tests.{on-test, same-test}
-use Rattle.topology.proofs.Lists.{select-in, select-out, select-mem, mem-select, in-mem, mem-in, range-mem, mem-range}
-use Rattle.topology.proofs.Rising.{rising-select, rising-equal}
+use Rattle.lists.proofs.Tests.{on-test, same-test}
+use Rattle.lists.proofs.Lists.{select-in, select-out, select-mem, mem-select, in-mem, mem-in, range-mem, mem-range}
+use Rattle.lists.proofs.Rising.{rising-select, rising-equal}
 use Rattle.topology.proofs.Connected.{conn-target}
 use Rattle.topology.proofs.Adjacency.{At, Joined, joined-sym}
 use Rattle.topology.proofs.Accepted.{Accepted, byte-at}
 use Rattle.topology.proofs.Reached.{firstAt, component-rising, in-joined, joined-in, first-joined, first-same, first-at}
 use Rattle.topology.proofs.Nodes.{node, number-found}
 use Rattle.topology.proofs.Descent.{map-under, under-fork, under-is}
-use Rattle.topology.proofs.Positions.{tally-next-in, select-index, tally-inject}
+use Rattle.lists.proofs.Positions.{tally-next-in, select-index, tally-inject}
 use Rattle.topology.proofs.Leaves.{leafAt, bottom, leaf, leaf-sound, leaf-same, leaf-no-branch, bottom-is, first-bottom, patch-nodes-are}
 use Rattle.topology.proofs.PatchNumbers.{patch-count, patch-in, patch-out}
 

@@ -13,8 +13,8 @@ use Rattle.picture.specs.Pictures.{Picture, places, valueAt}
 use Rattle.picture.specs.Components.{componentAt}
 use Rattle.picture.specs.Trees.{Node, nodes, nodeAt, componentOf}
 use Rattle.picture.specs.Patches.{patchNodes, patchFrom, patchAt}
-use Rattle.topology.proofs.Tests.{on-test, clash, test-false}
-use Rattle.topology.proofs.Lists.{any-mem, mem-any, length-select, select-mem, range-mem}
+use Rattle.lists.proofs.Tests.{on-test, clash, test-false}
+use Rattle.lists.proofs.Lists.{any-mem, mem-any, length-select, select-mem, range-mem}
 use Rattle.topology.proofs.Connected.{conn-target}
 use Rattle.topology.proofs.Keeping.{sec-mono}
 use Rattle.topology.proofs.Adjacency.{At, Joined, joined-sym}
@@ -24,7 +24,7 @@ use Rattle.topology.proofs.Nodes.{IsNode, node-is, number-found}
 use Rattle.topology.proofs.Fathers.{Above, top, fork, father-is, number-small}
 use Rattle.topology.proofs.Descent.{under, under-same, under-is, under-up}
 use Rattle.topology.proofs.Climb.{father, under-node}
-use Rattle.topology.proofs.Positions.{tally-next-in, index-only, index-none}
+use Rattle.lists.proofs.Positions.{tally-next-in, index-only, index-none}
 use Rattle.topology.proofs.Leaves.{leafAt, bottom, leaf, leaf-sound, leaf-complete, leaf-same, bottom-is, first-bottom, patch-nodes-are}
 
 module _ (p : Picture) (ok : Accepted p) where

@@ -13,15 +13,15 @@ use Rattle.picture.specs.Lists.{pick, tally, range, total}
 use Rattle.picture.specs.Pictures.{Picture, places, valueAt, column, row}
 use Rattle.picture.specs.Trees.{nodeAt, componentOf, mapOf}
 use Rattle.picture.specs.Patches.{Patch, patchOf, patches, patchAt, depthOf}
-use Rattle.topology.proofs.Tests.{on-test, on-pick}
-use Rattle.topology.proofs.Lists.{range-mem, tally-length, length-range}
+use Rattle.lists.proofs.Tests.{on-test, on-pick}
+use Rattle.lists.proofs.Lists.{range-mem, tally-length, length-range}
 use Rattle.topology.proofs.Connected.{start}
 use Rattle.topology.proofs.Adjacency.{At}
 use Rattle.topology.proofs.Accepted.{Accepted}
 use Rattle.topology.proofs.Reached.{firstAt, first-least, first-at}
-use Rattle.topology.proofs.Numbers.{map-same}
+use Rattle.lists.proofs.Numbers.{map-same}
 use Rattle.topology.proofs.Leaves.{leafAt, bottom, leaf, is-bottom}
-use Rattle.topology.proofs.Positions.{tally-range}
+use Rattle.lists.proofs.Positions.{tally-range}
 use Rattle.topology.proofs.PatchNumbers.{patch-in, patch-out}
 use Rattle.topology.proofs.PatchFigures.{total-select, bottom-number, patch-members, patches-count, patch-record}
 use Rattle.topology.proofs.LeafNodes.{bottom-map}

@@ -16,7 +16,7 @@ use Rattle.picture.specs.Trees.{Node, nodes, nodeAt, componentOf}
 use Rattle.picture.specs.Watersheds.{watershed}
 use Rattle.picture.specs.Patches.{patches}
 use Rattle.picture.specs.Kept.{partners}
-use Rattle.topology.proofs.Tests.{and-left, and-right, same-test, on-test}
+use Rattle.lists.proofs.Tests.{and-left, and-right, same-test, on-test}
 use Rattle.topology.proofs.Connected.{start, conn-target, conn-trans}
 use Rattle.topology.proofs.Keeping.{Keeps, sec-mono}
 use Rattle.topology.proofs.Adjacency.{Adj, At, Joined, joined-sym}
@@ -25,9 +25,9 @@ use Rattle.topology.proofs.Bridge.{within-joined}
 use Rattle.topology.proofs.Accepted.{Accepted, accepted-is}
 use Rattle.topology.proofs.Water.{watershed-shape, watershed-watered}
 use Rattle.topology.proofs.Branches.{joined-mono, joined-kept}
-use Rattle.topology.proofs.Numbers.{pigeonhole}
+use Rattle.lists.proofs.Numbers.{pigeonhole}
 use Rattle.topology.proofs.Nodes.{node-is}
-use Rattle.topology.proofs.Positions.{tally-next-in, tally-next-out, tally-rises, tally-inject}
+use Rattle.lists.proofs.Positions.{tally-next-in, tally-next-out, tally-rises, tally-inject}
 use Rattle.topology.proofs.Leaves.{leafAt, bottom, leaf-sound, leaf-complete, leaf-same, bottom-is, first-bottom}
 use Rattle.topology.proofs.PatchFigures.{patches-count}
 use Rattle.topology.proofs.LeafNodes.{leafNode}

@@ -12,9 +12,9 @@ use Rattle.picture.specs.Lists.{tally, select, range, isIn}
 use Rattle.picture.specs.Pictures.{Picture, places, touch}
 use Rattle.picture.specs.Components.{inSection, touchesSome, grown, spread, componentAt}
 use Rattle.picture.specs.Trees.{headOf}
-use Rattle.topology.proofs.Tests.{and-left, and-right, and-both, or-left, or-right, or-cases, on-elim, same-test, clash}
-use Rattle.topology.proofs.Lists.{any-mem, mem-any, select-mem, mem-select, length-select, tally-length, tally-stronger, tally-equal, in-mem, mem-in, length-range, range-mem, mem-range}
-use Rattle.topology.proofs.Rising.{Rising, none, more, rising-select, rising-equal, head-in}
+use Rattle.lists.proofs.Tests.{and-left, and-right, and-both, or-left, or-right, or-cases, on-elim, same-test, clash}
+use Rattle.lists.proofs.Lists.{any-mem, mem-any, select-mem, mem-select, length-select, tally-length, tally-stronger, tally-equal, in-mem, mem-in, length-range, range-mem, mem-range}
+use Rattle.lists.proofs.Rising.{Rising, none, more, rising-select, rising-equal, head-in}
 use Rattle.topology.proofs.Connected.{start, step, conn-source, conn-target, conn-trans, conn-closed}
 use Rattle.topology.proofs.Adjacency.{Adj, At, Joined, adj-sym, joined-sym, section-at, at-section}
 

@@ -11,8 +11,8 @@ use Rattle.picture.specs.Lists.{any, range, isIn}
 use Rattle.picture.specs.Components.{inSection, componentAt}
 use Rattle.picture.specs.Trees.{isBranch, nodes, nodeAt, numberOf, mapOf}
 use Rattle.topology.proofs.Accepted.{Accepted, byte-at}
-use Rattle.topology.proofs.Tests.{and-left, and-right, and-both, not-of-false, on-test, clash}
-use Rattle.topology.proofs.Lists.{any-mem, mem-any, range-mem, mem-range}
+use Rattle.lists.proofs.Tests.{and-left, and-right, and-both, not-of-false, on-test, clash}
+use Rattle.lists.proofs.Lists.{any-mem, mem-any, range-mem, mem-range}
 use Rattle.topology.proofs.Connected.{conn-source}
 use Rattle.topology.proofs.Reached.{firstAt, in-joined, joined-in}
 use Rattle.topology.proofs.Branches.{Branch, branch-complete}

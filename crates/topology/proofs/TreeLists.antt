@@ -7,7 +7,7 @@ use lib.ListN.{length, getD, length-map}
 use Rattle.picture.specs.Lists.{range}
 use Rattle.picture.specs.Pictures.{Picture, places}
 use Rattle.picture.specs.Trees.{nodes, nodeAt, fatherOf, mapOf, treeOf}
-use Rattle.topology.proofs.Lists.{length-range, getD-map-range}
+use Rattle.lists.proofs.Lists.{length-range, getD-map-range}
 
 -- an entry of a mapped list
 pub getD-mapped : {A : Type 0} (f : A → ℕ) (l : List A) (d : A) (i : ℕ) → i < length l → getD (map f l) i 0 ≡ f (getD l i d)

@@ -13,7 +13,7 @@ use borrow.Author.Tests.{ltb-true, ltb-false, eqb-true, eq-eqb}
 use Rattle.picture.specs.Lists.{pick, range, total}
 use Rattle.picture.specs.Pictures.{Picture, places, valueAt, withPixels}
 use Rattle.picture.specs.Watersheds.{lowerable, bestFrom, best, lowered, waterFrom, watershed}
-use Rattle.topology.proofs.Tests.{and-left, and-right, and-both, or-cases, or-right, on-test, on-pick, on-elim, clash}
+use Rattle.lists.proofs.Tests.{and-left, and-right, and-both, or-cases, or-right, on-test, on-pick, on-elim, clash}
 use Rattle.topology.proofs.Keeping.{Keeps, Lowers, Fallen, keeps-refl, keeps-compose, lowering-keeps}
 use Rattle.topology.proofs.Adjacency.{Adj, adj-sym}
 use Rattle.topology.proofs.Bridge.{lowerable-above, lowerable-lowers}

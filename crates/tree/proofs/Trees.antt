@@ -8,7 +8,7 @@ use lib.Seq.{length-take-le, drop-at}
 use Rattle.picture.specs.Pictures.{Picture, places}
 use Rattle.picture.specs.Trees.{nodes}
 use Rattle.topology.proofs.Nodes.{nodes-few}
-use Rattle.topology.proofs.Settling.{Settling}
+use Rattle.tree_laws.proofs.Settling.{Settling}
 use Rattle.tree.specs.Arrays.{TreeIn}
 use Rattle.tree.specs.Built.{Built}
 

@@ -6,9 +6,9 @@ use union_find::join;
 ghost use Prim.Native.Nat.{_<_, _+_, _*_};
 ghost use lib.ListN.{length};
 ghost use Rattle.picture.specs.Pictures.{pictureOf};
-ghost use Rattle.topology.proofs.Forests.{Block};
-ghost use Rattle.topology.proofs.Chains.{EdgeReady, EdgeDone};
-ghost use Rattle.topology.proofs.Walks.{Ready, Absorbed};
+ghost use Rattle.tree_laws.proofs.Forests.{Block};
+ghost use Rattle.tree_laws.proofs.Chains.{EdgeReady, EdgeDone};
+ghost use Rattle.tree_laws.proofs.Walks.{Ready, Absorbed};
 
 // Joins the place x, whose root is r, to its neighbour y if y comes before x, and answers the root then.
 fn absorb_edge(

@@ -8,7 +8,7 @@ ghost use Prim.Native.Nat.{_<_, _≤_, _+_, _*_};
 ghost use lib.ListN.{length};
 ghost use Rattle.picture.specs.Pictures.{isPicture, pictureOf};
 ghost use Rattle.picture.specs.Trees.{nodes};
-ghost use Rattle.topology.proofs.Settling.{SettledOne, SettleBounds, SettleReady, SettleWalk};
+ghost use Rattle.tree_laws.proofs.Settling.{SettledOne, SettleBounds, SettleReady, SettleWalk};
 ghost use Rattle.tree.specs.Arrays.{TreeIn};
 ghost use Rattle.tree.specs.Built.{Built};
 

@@ -7,10 +7,10 @@ ghost use mathlib.Core.Path.{_≡_};
 ghost use Prim.Native.Nat.{_<_, _+_, _*_};
 ghost use lib.ListN.{length};
 ghost use Rattle.picture.specs.Pictures.{pictureOf};
-ghost use Rattle.topology.proofs.Forests.{Parents};
-ghost use Rattle.topology.proofs.Chains.{Next};
-ghost use Rattle.topology.proofs.Buckets.{Heads};
-ghost use Rattle.topology.proofs.Mapped.{Between, NameReady, NameBounds, NamedOne, NameWalk, MapReady, MappedOne, MapWhole};
+ghost use Rattle.tree_laws.proofs.Forests.{Parents};
+ghost use Rattle.tree_laws.proofs.Chains.{Next};
+ghost use Rattle.tree_laws.proofs.Buckets.{Heads};
+ghost use Rattle.tree_laws.proofs.Mapped.{Between, NameReady, NameBounds, NamedOne, NameWalk, MapReady, MappedOne, MapWhole};
 
 // The node i gets its height and no father, and its root the number.
 fn number_one(work: &mut [u16], cells: &mut [u16], k: usize, i: usize)

@@ -6,7 +6,7 @@ ghost use Prim.Native.Nat.{_≤_, _+_, _*_};
 ghost use lib.ListN.{length};
 ghost use Rattle.picture.specs.Pictures.{isPicture, pictureOf};
 ghost use Rattle.picture.specs.Trees.{treeOf};
-ghost use Rattle.topology.proofs.Copies.{Copied};
+ghost use Rattle.lists.proofs.Copies.{Copied};
 ghost use Rattle.tree_lists.specs.Lists.{Bytes, Rooms, InFront, Handed};
 
 // Copies m entries from b on to the front of a list.

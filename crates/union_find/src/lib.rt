@@ -4,9 +4,9 @@ use cells::value;
 use cells::wide;
 ghost use Prim.Native.Nat.{_<_, _≤_, _+_, _*_};
 ghost use lib.ListN.{length, getD};
-ghost use Rattle.topology.proofs.Chains.{Comes};
-ghost use Rattle.topology.proofs.Forests.{Parents, Split, Found};
-ghost use Rattle.topology.proofs.Marks.{Marked, Names, MergedIn, LinkedIn};
+ghost use Rattle.tree_laws.proofs.Chains.{Comes};
+ghost use Rattle.tree_laws.proofs.Forests.{Parents, Split, Found};
+ghost use Rattle.tree_laws.proofs.Marks.{Marked, Names, MergedIn, LinkedIn};
 
 // The parent of a place; its cell gets the grandparent.
 fn split(cells: &mut [u16], x: usize) -> usize

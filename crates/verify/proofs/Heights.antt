@@ -11,15 +11,15 @@ use native.Mathlib.Omega.{arith}
 use lib.ListN.{length, getD, set, length-set}
 use lib.Seq.{getD-set-same, getD-set-other}
 use Rattle.picture.specs.Pictures.{Picture, places, isPicture}
-use Rattle.topology.proofs.Tests.{clash}
+use Rattle.lists.proofs.Tests.{clash}
 use Rattle.topology.proofs.Accepted.{accepted-is, byte-at, places-bound}
 use Rattle.topology.proofs.Nodes.{nodes-few}
 use Rattle.topology.proofs.Descent.{under-is}
-use Rattle.topology.proofs.Levels.{Level}
-use Rattle.topology.proofs.Counts.{so-none}
-use Rattle.topology.proofs.Numbering.{level-start, edges-start}
-use Rattle.topology.proofs.Checks.{Checking}
-use Rattle.topology.proofs.Looks.{Passed}
+use Rattle.tree_laws.proofs.Levels.{Level}
+use Rattle.tree_laws.proofs.Counts.{so-none}
+use Rattle.tree_laws.proofs.Numbering.{level-start, edges-start}
+use Rattle.tree_laws.proofs.Checks.{Checking}
+use Rattle.tree_laws.proofs.Looks.{Passed}
 use Rattle.verify.specs.Checked.{Says}
 use Rattle.verify_nodes.specs.Steps.{Run, Counted, Matched, CountReady, NodesChecked, MapReady, MapChecked, Verified}
 use Rattle.verify.specs.Heights.{Sizes, LevelChecked, Fresh}

@@ -16,10 +16,10 @@ use Rattle.topology.proofs.Branches.{own-pixel}
 use Rattle.topology.proofs.Nodes.{nodes-few}
 use Rattle.topology.proofs.Descent.{under, map-under, under-is}
 use Rattle.topology.proofs.Climb.{root-is, last-root}
-use Rattle.topology.proofs.Counts.{so-all}
-use Rattle.topology.proofs.Numbering.{Member, joined-root, free-fork}
-use Rattle.topology.proofs.LastFathers.{LastFather, missing, pixel, last-father}
-use Rattle.topology.proofs.Checks.{Differs}
+use Rattle.tree_laws.proofs.Counts.{so-all}
+use Rattle.tree_laws.proofs.Numbering.{Member, joined-root, free-fork}
+use Rattle.tree_laws.proofs.LastFathers.{LastFather, missing, pixel, last-father}
+use Rattle.tree_laws.proofs.Checks.{Differs}
 use Rattle.lent_tree.specs.Lent.{HoldsTree}
 use Rattle.verify_nodes.specs.Steps.{Run, Matched, Verified}
 use Rattle.verify_nodes.proofs.Matched.{says, count-is, node-new, checking-next}

@@ -14,11 +14,11 @@ use Rattle.picture.specs.Trees.{isBranch, nodes, nodeAt}
 use Rattle.topology.proofs.Adjacency.{At}
 use Rattle.topology.proofs.Reached.{firstAt}
 use Rattle.topology.proofs.Nodes.{node-is}
-use Rattle.topology.proofs.Levels.{put, put-same, put-other, Level}
-use Rattle.topology.proofs.Counts.{soFar}
-use Rattle.topology.proofs.Numbering.{root-first, fork-free}
-use Rattle.topology.proofs.Forests.{root-cell, forest-state}
-use Rattle.topology.proofs.Checks.{Checking}
+use Rattle.tree_laws.proofs.Levels.{put, put-same, put-other, Level}
+use Rattle.tree_laws.proofs.Counts.{soFar}
+use Rattle.tree_laws.proofs.Numbering.{root-first, fork-free}
+use Rattle.tree_laws.proofs.Forests.{root-cell, forest-state}
+use Rattle.tree_laws.proofs.Checks.{Checking}
 use Rattle.lent_tree.specs.Lent.{HoldsTree}
 use Rattle.verify_nodes.specs.Steps.{Run, Counted, Fits}
 use Rattle.verify_nodes.proofs.Places.{firsts-rise}

@@ -18,11 +18,11 @@ use Rattle.topology.proofs.Accepted.{places-bound}
 use Rattle.topology.proofs.Nodes.{node, number-found, nodes-few, heights-rise}
 use Rattle.topology.proofs.Descent.{under, map-under}
 use Rattle.topology.proofs.Fathers.{map-found}
-use Rattle.topology.proofs.Levels.{Level}
-use Rattle.topology.proofs.Counts.{soFar}
-use Rattle.topology.proofs.Numbering.{Member, Listed, Numbered, root-first, free-fork, number-new, count-next, next-level, named-all, edges-next}
-use Rattle.topology.proofs.Forests.{Found}
-use Rattle.topology.proofs.Checks.{Checking}
+use Rattle.tree_laws.proofs.Levels.{Level}
+use Rattle.tree_laws.proofs.Counts.{soFar}
+use Rattle.tree_laws.proofs.Numbering.{Member, Listed, Numbered, root-first, free-fork, number-new, count-next, next-level, named-all, edges-next}
+use Rattle.tree_laws.proofs.Forests.{Found}
+use Rattle.tree_laws.proofs.Checks.{Checking}
 use Rattle.lent_tree.specs.Lent.{HoldsTree}
 use Rattle.verify_nodes.specs.Steps.{Run, Counted, Matched}
 use Rattle.verify_nodes.proofs.Places.{height-least, before-is}

@@ -11,13 +11,13 @@ use Rattle.picture.specs.Lists.{select, range}
 use Rattle.picture.specs.Pictures.{Picture, places}
 use Rattle.picture.specs.Components.{componentAt}
 use Rattle.picture.specs.Trees.{Node, isBranch, nodesAt, nodes, nodeAt}
-use Rattle.topology.proofs.Tests.{and-both, not-of-false}
-use Rattle.topology.proofs.Lists.{mem-select, mem-range}
-use Rattle.topology.proofs.Rising.{Rising, none, more, rising-from, rising-select}
+use Rattle.lists.proofs.Tests.{and-both, not-of-false}
+use Rattle.lists.proofs.Lists.{mem-select, mem-range}
+use Rattle.lists.proofs.Rising.{Rising, none, more, rising-from, rising-select}
 use Rattle.topology.proofs.Parts.{isFirst, is-first}
-use Rattle.topology.proofs.Numbers.{mem-index, index-mem}
+use Rattle.lists.proofs.Numbers.{mem-index, index-mem}
 use Rattle.topology.proofs.Nodes.{node, isNode, nodes-at, node-is, node-equal}
-use Rattle.topology.proofs.Counts.{soFar, so-next, so-few, so-at}
+use Rattle.tree_laws.proofs.Counts.{soFar, so-next, so-few, so-at}
 
 rising-at : {a : ℕ} {l : List ℕ} → Rising a l → (i j : ℕ) → i < j → j < length l → getD l i 0 < getD l j 0
 rising-at none i j h b = absurd (omega arith)

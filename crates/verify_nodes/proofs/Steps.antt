@@ -8,8 +8,8 @@ use native.Mathlib.Decide.{ℕ-discrete}
 use native.Mathlib.Omega.{arith}
 use lib.ListN.{length, getD, set, length-set}
 use Rattle.picture.specs.Pictures.{Picture, places, valueAt}
-use Rattle.topology.proofs.Tests.{clash}
-use Rattle.topology.proofs.Forests.{Found, Parents, forest-parents}
+use Rattle.lists.proofs.Tests.{clash}
+use Rattle.tree_laws.proofs.Forests.{Found, Parents, forest-parents}
 use Rattle.lent_tree.specs.Lent.{HoldsTree}
 use Rattle.verify_nodes.specs.Steps.{Run, Counted, Matched, Fit, CountReady, NodesChecked, MapReady, MapChecked}
 use Rattle.verify_nodes.proofs.Counted.{counted-turn, tree-fits}

@@ -9,11 +9,11 @@ use Rattle.picture.specs.Pictures.{Picture, places, valueAt}
 use Rattle.picture.specs.Trees.{nodeAt, mapOf}
 use Rattle.topology.proofs.Adjacency.{At}
 use Rattle.topology.proofs.Accepted.{Accepted}
-use Rattle.topology.proofs.Levels.{Level, Edges}
-use Rattle.topology.proofs.Counts.{soFar}
-use Rattle.topology.proofs.Numbering.{Member}
-use Rattle.topology.proofs.Forests.{Forest}
-use Rattle.topology.proofs.Checks.{Agree, Checking}
+use Rattle.tree_laws.proofs.Levels.{Level, Edges}
+use Rattle.tree_laws.proofs.Counts.{soFar}
+use Rattle.tree_laws.proofs.Numbering.{Member}
+use Rattle.tree_laws.proofs.Forests.{Forest}
+use Rattle.tree_laws.proofs.Checks.{Agree, Checking}
 use Rattle.lent_tree.specs.Lent.{HoldsTree}
 
 -- the lent heights from c on, before d, are k, and d is the count or has another

@@ -4,7 +4,7 @@ use cells::wide;
 use union_find::find;
 ghost use Prim.Native.Nat.{_<_, _≤_, _+_};
 ghost use lib.ListN.{length};
-ghost use Rattle.topology.proofs.Forests.{Parents};
+ghost use Rattle.tree_laws.proofs.Forests.{Parents};
 ghost use Rattle.verify_nodes.specs.Steps.{Run, Fit, CountReady, NodesChecked, MapReady, MapChecked};
 
 // The end of the lent heights k from c on.

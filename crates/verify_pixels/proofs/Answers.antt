@@ -4,7 +4,7 @@ use mathlib.Core.Bool.{Bool}
 use mathlib.Core.List.{List}
 use Prim.Native.Nat.{ℕ}
 use Rattle.picture.specs.Pictures.{Picture}
-use Rattle.topology.proofs.Checks.{Agrees, Joint, Checking}
+use Rattle.tree_laws.proofs.Checks.{Agrees, Joint, Checking}
 
 pub agrees-is : {s x : ℕ} {fs m : List ℕ} {b c : Bool} → b ≡ c → Agrees s x fs m b → Agrees s x fs m c
 agrees-is {s} {x} {fs} {m} e h = subst (Agrees s x fs m) e h

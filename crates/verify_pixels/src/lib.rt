@@ -6,9 +6,9 @@ use union_find::find;
 ghost use mathlib.Core.Path.{_≡_};
 ghost use Prim.Native.Nat.{_<_, _≤_, _+_, _*_};
 ghost use lib.ListN.{length, getD, set};
-ghost use Rattle.topology.proofs.Marks.{Names};
-ghost use Rattle.topology.proofs.Checks.{Agrees, Joint, LookReady, Looked, Checking};
-ghost use Rattle.topology.proofs.Looks.{Passed};
+ghost use Rattle.tree_laws.proofs.Marks.{Names};
+ghost use Rattle.tree_laws.proofs.Checks.{Agrees, Joint, LookReady, Looked, Checking};
+ghost use Rattle.tree_laws.proofs.Looks.{Passed};
 ghost use Rattle.picture.specs.Pictures.{pictureOf};
 
 // The lent father of the node that a state names is the lent node of the pixel x.

@@ -9,7 +9,7 @@ use lib.Seq.{getD-take, length-take-le}
 use Rattle.picture.specs.Pictures.{Picture, places}
 use Rattle.tree.specs.Arrays.{TreeIn}
 use Rattle.topology.proofs.Nodes.{nodes-few}
-use Rattle.topology.proofs.Turns.{Holds}
+use Rattle.watershed_laws.proofs.Turns.{Holds}
 
 pub tree-holds : (p : Picture) (l : List ℕ) → 3 * places p ≤ length l → TreeIn p l → Holds p (take (3 * places p) l)
 tree-holds p l h t =

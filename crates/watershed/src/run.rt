@@ -16,7 +16,7 @@ ghost use lib.ListN.{length, take, drop};
 ghost use Rattle.picture.specs.Pictures.{isPicture, pictureOf};
 ghost use Rattle.picture.specs.Watersheds.{watershed};
 ghost use Rattle.tree.specs.Arrays.{TreeIn};
-ghost use Rattle.topology.proofs.Running.{Settling, Settled, Turning, Turned};
+ghost use Rattle.watershed_laws.proofs.Running.{Settling, Settled, Turning, Turned};
 
 // Lowers the place x as far as it falls, if it is lowerable, and makes candidates of the neighbours that may now be lowerable.
 fn lower_place(a: u32, w: u32, h: u32, x: usize, out: &mut [u8], work: &mut [u16])

@@ -5,7 +5,7 @@ use Prim.Native.Nat.{suc, _+_, _*_, _-_, _≤_}
 use native.Mathlib.Omega.{arith}
 use lib.ListN.{set, length-set}
 use Rattle.picture.specs.Pictures.{Picture, pictureOf}
-use Rattle.topology.proofs.Flood.{unmarked}
+use Rattle.labelling_laws.proofs.Flood.{unmarked}
 use Rattle.floods.proofs.Floods.{Flowing, seed-some, flowing-start, flowing-top, flowing-room, flowing-turn, flowing-end}
 use Rattle.floods.proofs.flood.Statement.{statement}
 use Rattle.floods.proofs.flood.Tie as tie

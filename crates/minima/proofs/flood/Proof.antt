@@ -3,7 +3,7 @@ use Prim.Native.Nat.{_+_, _*_}
 use native.Mathlib.Omega.{arith}
 use lib.ListN.{set}
 use borrow.Author.Needs.{needs}
-use Rattle.topology.proofs.ZoneScan.{unvisited}
+use Rattle.labelling_laws.proofs.ZoneScan.{unvisited}
 use Rattle.picture.specs.Pictures.{pictureOf}
 use Rattle.minima.proofs.Floods.{Running, running-start, running-top, running-turn, running-end}
 use Rattle.minima.proofs.flood.Statement.{statement}

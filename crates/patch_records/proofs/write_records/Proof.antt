@@ -51,7 +51,7 @@ use denote.Triple.Walked.{says, needs, Stays, stay-slice, stay-none-slice, stay-
 use denote.Exit.{yes}
 use Rattle.patch_records.specs.Records.{Entries, recordAt}
 use Rattle.patch_records.specs.declared.Patch.{Patch}
-use Rattle.topology.proofs.Filling.{written, length-written, written-next}
+use Rattle.lists.proofs.Filling.{written, length-written, written-next}
 use Rattle.patch_records.proofs.Patch as T
 use Rattle.patch_records.proofs.Patch.Laws as T′
 use Rattle.patch_records.proofs.record_at as record-at

@@ -3,7 +3,7 @@ use mathlib.Core.Path.{refl}
 use Prim.Native.Nat.{_-_, _≤_}
 use native.Mathlib.Omega.{arith}
 use borrow.Author.Needs.{needs}
-use Rattle.topology.proofs.Copies.{Copied, copy-whole, copy-start, copy-turn}
+use Rattle.lists.proofs.Copies.{Copied, copy-whole, copy-start, copy-turn}
 use Rattle.tree_lists.proofs.copy.Statement.{statement}
 use Rattle.tree_lists.proofs.copy.Tie as tie
 

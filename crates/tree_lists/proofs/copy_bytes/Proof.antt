@@ -4,7 +4,7 @@ use Prim.Native.Nat.{ℕ, _+_, _-_, _≤_}
 use native.Mathlib.Omega.{arith}
 use lib.ListN.{getD}
 use borrow.Author.Needs.{needs}
-use Rattle.topology.proofs.Copies.{Copied, copy-whole, copy-start, copy-turn}
+use Rattle.lists.proofs.Copies.{Copied, copy-whole, copy-start, copy-turn}
 use Rattle.tree_lists.proofs.copy_bytes.Statement.{statement}
 use Rattle.tree_lists.proofs.copy_bytes.Tie as tie
 

@@ -1,5 +1,5 @@
 -- `union_find::comes_before` meets its contract.
-use Rattle.topology.proofs.Chains.{comes-low, comes-high, comes-first, comes-last}
+use Rattle.tree_laws.proofs.Chains.{comes-low, comes-high, comes-first, comes-last}
 use borrow.Author.Needs.{needs}
 use Rattle.union_find.proofs.comes_before.Statement.{statement}
 use Rattle.union_find.proofs.comes_before.Tie as tie

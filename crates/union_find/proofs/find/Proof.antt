@@ -1,5 +1,5 @@
 -- `union_find::find` meets its contract.
-use Rattle.topology.proofs.Forests.{Walked, walk-start, walk-turn, walk-end}
+use Rattle.tree_laws.proofs.Forests.{Walked, walk-start, walk-turn, walk-end}
 use borrow.Author.Needs.{needs}
 use Rattle.union_find.proofs.find.Statement.{statement}
 use Rattle.union_find.proofs.find.Tie as tie

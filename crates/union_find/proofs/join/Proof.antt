@@ -1,5 +1,5 @@
 -- `union_find::join` meets its contract.
-use Rattle.topology.proofs.Marks.{link-in}
+use Rattle.tree_laws.proofs.Marks.{link-in}
 use lib.ListN.{length-set}
 use native.Mathlib.Omega.{arith}
 use borrow.Author.Needs.{needs}

@@ -1,5 +1,5 @@
 -- `union_find::mark` meets its contract.
-use Rattle.topology.proofs.Marks.{mark-none, mark-some}
+use Rattle.tree_laws.proofs.Marks.{mark-none, mark-some}
 use native.Mathlib.Omega.{arith}
 use borrow.Author.Needs.{needs}
 use Rattle.union_find.proofs.mark.Statement.{statement}

@@ -1,5 +1,5 @@
 -- `union_find::merge` meets its contract.
-use Rattle.topology.proofs.Marks.{merge-left, merge-right, merge-both}
+use Rattle.tree_laws.proofs.Marks.{merge-left, merge-right, merge-both}
 use borrow.Author.Needs.{needs}
 use Rattle.union_find.proofs.merge.Statement.{statement}
 use Rattle.union_find.proofs.merge.Tie as tie

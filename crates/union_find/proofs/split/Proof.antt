@@ -1,5 +1,5 @@
 -- `union_find::split` meets its contract.
-use Rattle.topology.proofs.Forests.{split-end, split-up}
+use Rattle.tree_laws.proofs.Forests.{split-end, split-up}
 use native.Mathlib.Omega.{arith}
 use borrow.Author.Needs.{needs}
 use Rattle.union_find.proofs.split.Statement.{statement}

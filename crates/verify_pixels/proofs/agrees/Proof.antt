@@ -1,5 +1,5 @@
 -- `verify_pixels::agrees` meets its contract.
-use Rattle.topology.proofs.Checks.{agrees-none, agrees-same, agrees-not}
+use Rattle.tree_laws.proofs.Checks.{agrees-none, agrees-same, agrees-not}
 use native.Mathlib.Omega.{arith}
 use borrow.Author.Needs.{needs}
 use Rattle.verify_pixels.proofs.agrees.Statement.{statement}

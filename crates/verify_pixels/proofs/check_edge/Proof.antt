@@ -1,7 +1,7 @@
 -- `verify_pixels::check_edge` meets its contract.
 use Rattle.verify_pixels.proofs.Answers.{joint-is}
-use Rattle.topology.proofs.Checks.{look-bounds, look-parents, look-skip, look-same, look-join, look-below, look-above, look-differs-below, look-differs-above}
-use Rattle.topology.proofs.Chains.{comes-is}
+use Rattle.tree_laws.proofs.Checks.{look-bounds, look-parents, look-skip, look-same, look-join, look-below, look-above, look-differs-below, look-differs-above}
+use Rattle.tree_laws.proofs.Chains.{comes-is}
 use borrow.Author.Tests.{not-true, not-false}
 use mathlib.Core.Path.{refl}
 use native.Mathlib.Omega.{arith}

@@ -1,7 +1,7 @@
 -- `verify_pixels::check_join` meets its contract.
 use Rattle.verify_pixels.proofs.Answers.{agrees-is, joint-at}
-use Rattle.topology.proofs.Looks.{names-more}
-use Rattle.topology.proofs.Checks.{joint-left, joint-right, joint-lo, joint-hi, joint-both}
+use Rattle.tree_laws.proofs.Looks.{names-more}
+use Rattle.tree_laws.proofs.Checks.{joint-left, joint-right, joint-lo, joint-hi, joint-both}
 use borrow.Author.Tests.{not-true, not-false}
 use mathlib.Core.Path.{refl}
 use native.Mathlib.Omega.{arith}

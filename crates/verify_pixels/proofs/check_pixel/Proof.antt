@@ -1,7 +1,7 @@
 -- `verify_pixels::check_pixel` meets its contract.
 use Rattle.picture.specs.Pictures.{pictureOf}
-use Rattle.topology.proofs.Looks.{Looking, passed-yes, passed-not, checking-placed, checking-parents, look-start, look-ready, look-turn, look-differs, look-end, look-pass}
-use Rattle.topology.proofs.Walks.{listed-cell}
+use Rattle.tree_laws.proofs.Looks.{Looking, passed-yes, passed-not, checking-placed, checking-parents, look-start, look-ready, look-turn, look-differs, look-end, look-pass}
+use Rattle.tree_laws.proofs.Walks.{listed-cell}
 use mathlib.Core.Path.{sym, _∙_}
 use native.Mathlib.Omega.{arith}
 use Prim.Native.Nat.{_-_}

@@ -1,8 +1,8 @@
 -- `verify_pixels::check_pixels` meets its contract.
 use Rattle.verify_pixels.proofs.Answers.{checking-at}
 use Rattle.picture.specs.Pictures.{pictureOf}
-use Rattle.topology.proofs.Looks.{passed-yes, passed-not}
-use Rattle.topology.proofs.Checks.{Checking}
+use Rattle.tree_laws.proofs.Looks.{passed-yes, passed-not}
+use Rattle.tree_laws.proofs.Checks.{Checking}
 use borrow.Author.Tests.{not-true, not-false}
 use native.Mathlib.Omega.{arith}
 use Prim.Native.Nat.{_-_, _*_, _≤_}

@@ -1,5 +1,5 @@
 -- `winner::assign` meets its contract: the leaf is stored, and the cells above it are played again.
-use Rattle.topology.proofs.WinnerSteps.{replay-start, replay-end}
+use Rattle.watershed_laws.proofs.WinnerSteps.{replay-start, replay-end}
 use borrow.Author.Needs.{needs}
 use Rattle.winner.proofs.assign.Statement.{statement}
 use Rattle.winner.proofs.assign.Tie as tie

@@ -1,7 +1,7 @@
 -- `winner::better` meets its contract: a missing candidate is last, and else the keys decide.
 use native.Mathlib.Omega.{arith}
 use mathlib.Core.Logic.{⊎-elim}
-use Rattle.topology.proofs.WinnerTree.{last, beats-key, better-left, better-right}
+use Rattle.watershed_laws.proofs.WinnerTree.{last, beats-key, better-left, better-right}
 use borrow.Author.Needs.{needs}
 use Rattle.winner.proofs.better.Statement.{statement}
 use Rattle.winner.proofs.better.Tie as tie

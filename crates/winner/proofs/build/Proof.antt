@@ -2,7 +2,7 @@
 use mathlib.Core.Path.{_≡_, subst}
 use Prim.Native.Nat.{_≤_}
 use native.Mathlib.Omega.{arith}
-use Rattle.topology.proofs.WinnerSteps.{Building, build-start, build-turn, winner-cell}
+use Rattle.watershed_laws.proofs.WinnerSteps.{Building, build-start, build-turn, winner-cell}
 use borrow.Author.Needs.{needs}
 use Rattle.winner.proofs.build.Statement.{statement}
 use Rattle.winner.proofs.build.Tie as tie

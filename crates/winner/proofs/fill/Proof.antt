@@ -2,7 +2,7 @@
 use mathlib.Core.Path.{_≡_, subst}
 use Prim.Native.Nat.{_-_, _≤_}
 use native.Mathlib.Omega.{arith}
-use Rattle.topology.proofs.WinnerSteps.{Filling, fill-turn}
+use Rattle.watershed_laws.proofs.WinnerSteps.{Filling, fill-turn}
 use borrow.Author.Needs.{needs}
 use Rattle.winner.proofs.fill.Statement.{statement}
 use Rattle.winner.proofs.fill.Tie as tie

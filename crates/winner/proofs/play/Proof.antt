@@ -1,6 +1,6 @@
 -- `winner::play` meets its contract: the cell is right, or set to the better of the two below.
 use mathlib.Core.Path.{refl}
-use Rattle.topology.proofs.WinnerTree.{same, moved}
+use Rattle.watershed_laws.proofs.WinnerTree.{same, moved}
 use borrow.Author.Needs.{needs}
 use Rattle.winner.proofs.play.Statement.{statement}
 use Rattle.winner.proofs.play.Tie as tie

@@ -1,7 +1,7 @@
 -- `winner::wake` meets its contract: the place is no candidate to be, is one, or becomes one.
 use mathlib.Core.Path.{refl}
 use mathlib.Core.Logic.{inl}
-use Rattle.topology.proofs.WinnerSteps.{woken-now}
+use Rattle.watershed_laws.proofs.WinnerSteps.{woken-now}
 use borrow.Author.Needs.{needs}
 use Rattle.winner.proofs.wake.Statement.{statement}
 use Rattle.winner.proofs.wake.Tie as tie

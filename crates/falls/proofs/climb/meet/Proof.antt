@@ -1,7 +1,7 @@
 -- `falls::climb::meet` meets its contract. The invariant is Climbed: a climb from the two nodes is on its way.
 use Prim.Native.Nat.{_-_, _*_, _<_}
 use native.Mathlib.Omega.{arith}
-use Rattle.topology.proofs.Stopping.{Climbed, climb-start, climb-left, climb-right, climb-above, climb-above-right, climb-within, climb-end}
+use Rattle.watershed_laws.proofs.Stopping.{Climbed, climb-start, climb-left, climb-right, climb-above, climb-above-right, climb-within, climb-end}
 use borrow.Author.Needs.{needs}
 use Rattle.falls.proofs.climb.meet.Statement.{statement}
 use Rattle.falls.proofs.climb.meet.Tie as tie

@@ -1,5 +1,5 @@
 -- `falls::climb::meeting` meets its contract: the climb from the nodes of two places, and the height where it meets.
-use Rattle.topology.proofs.Stopping.{climb-places, met-height}
+use Rattle.watershed_laws.proofs.Stopping.{climb-places, met-height}
 use borrow.Author.Needs.{needs}
 use Rattle.falls.proofs.climb.meeting.Statement.{statement}
 use Rattle.falls.proofs.climb.meeting.Tie as tie

@@ -1,5 +1,5 @@
 -- `falls::fall::lower` meets its contract: each return is a case of Lower.
-use Rattle.topology.proofs.Stopping.{stays, moves}
+use Rattle.watershed_laws.proofs.Stopping.{stays, moves}
 use borrow.Author.Needs.{needs}
 use Rattle.falls.proofs.fall.lower.Statement.{statement}
 use Rattle.falls.proofs.fall.lower.Tie as tie

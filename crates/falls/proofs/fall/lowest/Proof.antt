@@ -3,7 +3,7 @@ use mathlib.Core.Path.{_≡_}
 use Prim.Native.Nat.{_-_, _≤_}
 use native.Mathlib.Omega.{arith}
 use lib.ListN.{length}
-use Rattle.topology.proofs.Stopping.{Lowest, lowest-start, lowest-turn}
+use Rattle.watershed_laws.proofs.Stopping.{Lowest, lowest-start, lowest-turn}
 use borrow.Author.Needs.{needs}
 use Rattle.falls.proofs.fall.lowest.Statement.{statement}
 use Rattle.falls.proofs.fall.lowest.Tie as tie

@@ -1,7 +1,7 @@
 -- `falls::fall::raise` meets its contract: each return is a case of Raised.
 use native.Mathlib.Omega.{arith}
 use mathlib.Core.Logic.{inl, inr}
-use Rattle.topology.proofs.Stopping.{above, early, late}
+use Rattle.watershed_laws.proofs.Stopping.{above, early, late}
 use borrow.Author.Needs.{needs}
 use Rattle.falls.proofs.fall.raise.Statement.{statement}
 use Rattle.falls.proofs.fall.raise.Tie as tie

@@ -2,7 +2,7 @@
 use mathlib.Core.Path.{_≡_}
 use Prim.Native.Nat.{_-_, _≤_}
 use native.Mathlib.Omega.{arith}
-use Rattle.topology.proofs.Stopping.{Stopped, stop-start, stop-turn}
+use Rattle.watershed_laws.proofs.Stopping.{Stopped, stop-start, stop-turn}
 use borrow.Author.Needs.{needs}
 use Rattle.falls.proofs.fall.stop_at.Statement.{statement}
 use Rattle.falls.proofs.fall.stop_at.Tie as tie

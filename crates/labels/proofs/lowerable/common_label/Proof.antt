@@ -7,7 +7,7 @@ use native.Mathlib.Omega.{arith}
 use lib.ListN.{length, getD}
 use Rattle.picture.specs.Geometry.{neighboursOf}
 use Rattle.picture.proofs.Neighbours.{neighbour-at}
-use Rattle.topology.proofs.Agreeing.{Common, common-start, common-turn}
+use Rattle.labelling_laws.proofs.Agreeing.{Common, common-start, common-turn}
 use Rattle.picture.specs.Pictures.{pictureOf}
 use Rattle.picture.proofs.Neighbours.{listed-at}
 use Rattle.labels.proofs.lowerable.common_label.Statement.{statement}

@@ -1,6 +1,6 @@
 -- `tree::absorb::absorb` meets its contract.
 use Rattle.picture.specs.Pictures.{pictureOf}
-use Rattle.topology.proofs.Walks.{Joining, joining-start, joining-turn, joining-end, edge-ready, listed-cell, ready-placed, ready-parents}
+use Rattle.tree_laws.proofs.Walks.{Joining, joining-start, joining-turn, joining-end, edge-ready, listed-cell, ready-placed, ready-parents}
 use lib.ListN.{getD}
 use mathlib.Core.Path.{ap, _∙_}
 use native.Mathlib.Omega.{arith}

@@ -1,7 +1,7 @@
 -- `tree::absorb::absorb_edge` meets its contract.
-use Rattle.topology.proofs.Chains.{comes-is, edge-bounds, edge-parents, join-ready, done-skip, done-same, done-linked}
-use Rattle.topology.proofs.Absorbing.{below, above}
-use Rattle.topology.proofs.Forests.{block-same}
+use Rattle.tree_laws.proofs.Chains.{comes-is, edge-bounds, edge-parents, join-ready, done-skip, done-same, done-linked}
+use Rattle.tree_laws.proofs.Absorbing.{below, above}
+use Rattle.tree_laws.proofs.Forests.{block-same}
 use borrow.Author.Tests.{not-true, not-false}
 use native.Mathlib.Omega.{arith}
 use borrow.Author.Needs.{needs}

@@ -1,7 +1,7 @@
 -- `tree::absorb::absorb_level` meets its contract.
 use Rattle.picture.specs.Pictures.{pictureOf}
-use Rattle.topology.proofs.Walks.{Ready, ready-end}
-use Rattle.topology.proofs.Forests.{Block, block-same, block-then}
+use Rattle.tree_laws.proofs.Walks.{Ready, ready-end}
+use Rattle.tree_laws.proofs.Forests.{Block, block-same, block-then}
 use mathlib.Core.Path.{sym, _∙_}
 use native.Mathlib.Omega.{arith}
 use Prim.Native.Nat.{_-_, _*_}

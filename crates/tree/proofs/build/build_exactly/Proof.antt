@@ -1,8 +1,8 @@
 -- `tree::build::build_exactly` meets its contract.
 use Rattle.tree.proofs.Trees.{tree-settled}
 use Rattle.picture.specs.Pictures.{pictureOf}
-use Rattle.topology.proofs.Settling.{settle-ready, settled}
-use Rattle.topology.proofs.Buckets.{thread-ready, fits-of}
+use Rattle.tree_laws.proofs.Settling.{settle-ready, settled}
+use Rattle.tree_laws.proofs.Buckets.{thread-ready, fits-of}
 use borrow.Author.Needs.{needs}
 use Rattle.tree.proofs.build.build_exactly.Statement.{statement}
 use Rattle.tree.proofs.build.build_exactly.Tie as tie

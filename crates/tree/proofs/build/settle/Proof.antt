@@ -1,5 +1,5 @@
 -- `tree::build::settle` meets its contract.
-use Rattle.topology.proofs.Settling.{SettleWalk, settle-none, settle-bounds, settle-turn, settle-end}
+use Rattle.tree_laws.proofs.Settling.{SettleWalk, settle-none, settle-bounds, settle-turn, settle-end}
 use Prim.Native.Nat.{_-_}
 use borrow.Author.Needs.{needs}
 use Rattle.tree.proofs.build.settle.Statement.{statement}

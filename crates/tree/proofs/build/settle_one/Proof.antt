@@ -1,5 +1,5 @@
 -- `tree::build::settle_one` meets its contract.
-use Rattle.topology.proofs.Settling.{stays, settle-move}
+use Rattle.tree_laws.proofs.Settling.{stays, settle-move}
 use mathlib.Core.Path.{refl}
 use native.Mathlib.Omega.{arith}
 use borrow.Author.Needs.{needs}

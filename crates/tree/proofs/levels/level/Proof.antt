@@ -1,5 +1,5 @@
 -- `tree::levels::level` meets its contract.
-use Rattle.topology.proofs.Mapped.{between-ready, between-list, list-ready, name-ready, name-map, map-from-ready}
+use Rattle.tree_laws.proofs.Mapped.{between-ready, between-list, list-ready, name-ready, name-map, map-from-ready}
 use mathlib.Core.Path.{refl}
 use native.Mathlib.Omega.{arith}
 use borrow.Author.Needs.{needs}

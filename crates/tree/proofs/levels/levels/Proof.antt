@@ -1,7 +1,7 @@
 -- `tree::levels::levels` meets its contract.
 use Rattle.picture.specs.Pictures.{pictureOf}
-use Rattle.topology.proofs.Buckets.{head-next}
-use Rattle.topology.proofs.Mapped.{Between, between-same}
+use Rattle.tree_laws.proofs.Buckets.{head-next}
+use Rattle.tree_laws.proofs.Mapped.{Between, between-same}
 use mathlib.Core.Path.{sym, _∙_}
 use native.Mathlib.Omega.{arith}
 use Prim.Native.Nat.{_-_, _≤_}

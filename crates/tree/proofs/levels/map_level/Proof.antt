@@ -1,5 +1,5 @@
 -- `tree::levels::map_level` meets its contract.
-use Rattle.topology.proofs.Mapped.{MapWalk, map-none, map-ready, map-parents, map-bounds, map-more, map-less, map-whole}
+use Rattle.tree_laws.proofs.Mapped.{MapWalk, map-none, map-ready, map-parents, map-bounds, map-more, map-less, map-whole}
 use lib.ListN.{length}
 use native.Mathlib.Omega.{arith}
 use Prim.Native.Nat.{_-_}

@@ -1,5 +1,5 @@
 -- `tree::levels::number_level` meets its contract.
-use Rattle.topology.proofs.Mapped.{NameWalk, name-start, name-bounds, name-turn, name-end}
+use Rattle.tree_laws.proofs.Mapped.{NameWalk, name-start, name-bounds, name-turn, name-end}
 use Prim.Native.Nat.{_-_}
 use borrow.Author.Needs.{needs}
 use Rattle.tree.proofs.levels.number_level.Statement.{statement}

@@ -9,9 +9,9 @@ use lib.Seq.{getD-drop}
 use Rattle.picture.specs.Pictures.{Picture, places, pictureOf}
 use Rattle.picture.specs.Watersheds.{watershed}
 use Rattle.topology.proofs.Accepted.{accepted-is, places-bound}
-use Rattle.topology.proofs.Running.{Running, Nobody, measure}
-use Rattle.topology.proofs.Turns.{running-end}
-use Rattle.topology.proofs.Lending.{start-lent, start-back, size-back}
+use Rattle.watershed_laws.proofs.Running.{Running, Nobody, measure}
+use Rattle.watershed_laws.proofs.Turns.{running-end}
+use Rattle.watershed_laws.proofs.Lending.{start-lent, start-back, size-back}
 use Rattle.watershed.proofs.Held.{tree-holds}
 use borrow.Author.Needs.{needs}
 use Rattle.watershed.proofs.run.lower_all.Statement.{statement}

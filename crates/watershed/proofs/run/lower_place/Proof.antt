@@ -4,9 +4,9 @@ use Prim.Native.Nat.{_*_}
 use native.Mathlib.Omega.{arith}
 use lib.ListN.{getD, take, length-set}
 use Rattle.picture.specs.Pictures.{Picture, places, pictureOf}
-use Rattle.topology.proofs.Stopping.{Around, Lowest, Stopped, listed-around, around-places}
-use Rattle.topology.proofs.Running.{places-most, settle-stays}
-use Rattle.topology.proofs.Lending.{fall-winner, fall-lent, fall-back}
+use Rattle.watershed_laws.proofs.Stopping.{Around, Lowest, Stopped, listed-around, around-places}
+use Rattle.watershed_laws.proofs.Running.{places-most, settle-stays}
+use Rattle.watershed_laws.proofs.Lending.{fall-winner, fall-lent, fall-back}
 use borrow.Author.Needs.{needs}
 use Rattle.watershed.proofs.run.lower_place.Statement.{statement}
 use Rattle.watershed.proofs.run.lower_place.Tie as tie

@@ -1,13 +1,13 @@
 -- `watershed::run::turn` meets its contract: the winner's leaf is unset, and the winner settled.
 use Rattle.picture.specs.Pictures.{pictureOf}
-use Rattle.topology.proofs.Lending.{size-back}
+use Rattle.watershed_laws.proofs.Lending.{size-back}
 use mathlib.Core.Path.{refl}
 use mathlib.Core.Logic.{inr}
 use mathlib.Core.List.{[]}
 use native.Mathlib.Omega.{arith}
-use Rattle.topology.proofs.Running.{places-most}
-use Rattle.topology.proofs.Turns.{turn-place}
-use Rattle.topology.proofs.Lending.{start-lent, turn-winner, turn-back, turn-over}
+use Rattle.watershed_laws.proofs.Running.{places-most}
+use Rattle.watershed_laws.proofs.Turns.{turn-place}
+use Rattle.watershed_laws.proofs.Lending.{start-lent, turn-winner, turn-back, turn-over}
 use borrow.Author.Needs.{needs}
 use Rattle.watershed.proofs.run.turn.Statement.{statement}
 use Rattle.watershed.proofs.run.turn.Tie as tie

@@ -3,7 +3,7 @@ use mathlib.Core.Path.{_≡_, ap}
 use Prim.Native.Nat.{ℕ, _+_, _-_, _≤_}
 use native.Mathlib.Omega.{arith}
 use lib.ListN.{length, getD}
-use Rattle.topology.proofs.Copies.{Copied, copy-start, copy-turn, copy-all}
+use Rattle.lists.proofs.Copies.{Copied, copy-start, copy-turn, copy-all}
 use borrow.Author.Needs.{needs}
 use Rattle.watershed.proofs.whole.copy.Statement.{statement}
 use Rattle.watershed.proofs.whole.copy.Tie as tie

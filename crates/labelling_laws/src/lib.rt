@@ -1,0 +1,1 @@
+// No code: the laws behind floods, labels and minima, in proofs/.

@@ -1,0 +1,38 @@
+-- A list whose first i entries are written anew, one after the other.
+use mathlib.Core.Path.{_≡_, ap, _∙_}
+use mathlib.Core.List.{List, _∷_, _++_, map}
+use Prim.Native.Nat.{ℕ, zero, suc, _+_, _≤_, _<_}
+use native.Mathlib.Omega.{arith}
+use lib.ListN.{length, getD, drop, set, length-append, length-drop, length-map}
+use lib.Seq.{drop-cons, set-at}
+use Rattle.picture.specs.Lists.{range}
+use Rattle.lists.proofs.Lists.{length-range}
+
+module _ {A : Type 0} (f : ℕ → A) where
+  -- the values at the first i numbers, and behind them the list as it was
+  abbrev pub written : ℕ → List A → List A
+  written i xs = map f (range 0 i) ++ drop i xs
+
+  length-front : (i : ℕ) → length (map f (range 0 i)) ≡ i
+  length-front i = length-map (range 0 i) f ∙ length-range 0 i
+
+  pub length-written : (i : ℕ) (xs : List A) → i ≤ length xs → length (written i xs) ≡ length xs
+  length-written i xs h =
+      let a = length-append (map f (range 0 i)) (drop i xs) in
+      let b = length-front i in
+      let d = length-drop i xs in
+      omega arith
+
+  one-more : (x l : ℕ) (ys : List A) → map f (range x l) ++ (f (x + l) ∷ ys) ≡ map f (range x (suc l)) ++ ys
+  one-more x zero ys = let e : x + 0 ≡ x = omega arith in ap (λ (y : ℕ). f y ∷ ys) e
+  one-more x (suc l) ys =
+      let e : x + suc l ≡ suc x + l = omega arith in
+      ap (λ (zs : List A). f x ∷ zs) (ap (λ (y : ℕ). map f (range (suc x) l) ++ (f y ∷ ys)) e ∙ one-more (suc x) l ys)
+
+  -- the next value is stored
+  pub written-next : (i : ℕ) (xs : List A) → i < length xs → set (written i xs) i (f i) ≡ written (suc i) xs
+  written-next i xs h =
+      let e : i ≡ 0 + i = omega arith in
+      ap (λ (ys : List A). set (map f (range 0 i) ++ ys) i (f i)) (drop-cons xs i (f 0) h) ∙
+      (set-at (map f (range 0 i)) (getD xs i (f 0)) (drop (suc i) xs) (f i) i (length-front i) ∙
+      (ap (λ (y : ℕ). map f (range 0 i) ++ (f y ∷ drop (suc i) xs)) e ∙ one-more 0 i (drop (suc i) xs)))

@@ -1,0 +1,8 @@
+-- Laws of tests and lists: Booleans, selections, ranges, rising lists, indices, positions, copies.
+pub mod Tests
+pub mod Lists
+pub mod Rising
+pub mod Numbers
+pub mod Positions
+pub mod Filling
+pub mod Copies

@@ -1,0 +1,246 @@
+-- Laws of the list functions that the definitions share: membership, selection, tallies, ranges, stores.
+use mathlib.Core.Path.{_≡_, refl, sym, ap, subst, _∙_}
+use mathlib.Core.Bool.{Bool, true, false, _&&_, false≢true}
+use mathlib.Core.Logic.{_⊎_, inl, inr, ⊎-elim, _≢_, by-cases}
+use mathlib.Core.List.{List, [], _∷_, _++_, map, List·Memᴰ, List·Memᴰ·head, List·Memᴰ·tail, List·Memᴰ·not-nil, List·Memᴰ·cases-cons}
+use Prim.Native.Nat.{ℕ, zero, suc, _+_, _≤_, _<_}
+use native.Mathlib.Decide.{ℕ-discrete}
+use native.Mathlib.Omega.{arith}
+use lib.Dec.{eqb}
+use lib.ListN.{length, getD, set}
+use lib.Seq.{getD-set-same, getD-set-other}
+use borrow.Author.Tests.{eqb-true, eq-eqb, ne-eqb}
+use Rattle.picture.specs.Lists.{pick, any, all, tally, select, range, isIn}
+use Rattle.lists.proofs.Tests.{and-left, and-right, and-both, or-left, or-right, or-cases, on-test, clash}
+
+module _ {A : Type 0} (t : A → Bool) where
+  pub any-mem : (l : List A) → any t l ≡ true → (x : A) × List·Memᴰ x l × (t x ≡ true)
+  any-mem [] h = absurd (false≢true h)
+  any-mem (x ∷ xs) h = step (λ r. any-mem xs r) (or-cases (t x) (any t xs) h)
+    where
+      step : (any t xs ≡ true → (y : A) × List·Memᴰ y xs × (t y ≡ true)) → (t x ≡ true) ⊎ (any t xs ≡ true) → (y : A) × List·Memᴰ y (x ∷ xs) × (t y ≡ true)
+      step r (inl e) = (x, List·Memᴰ·head refl, e)
+      step r (inr e) = let (y, m, f) = r e in (y, List·Memᴰ·tail m, f)
+
+  pub mem-any : {x : A} {l : List A} → List·Memᴰ x l → t x ≡ true → any t l ≡ true
+  mem-any (List·Memᴰ·head {x = y} {xs} e) h = or-left (t y) (any t xs) (subst (λ (z : A). t z ≡ true) e h)
+  mem-any (List·Memᴰ·tail {x = y} {xs} m) h = or-right (t y) (any t xs) (mem-any m h)
+
+  pub all-mem : {x : A} {l : List A} → all t l ≡ true → List·Memᴰ x l → t x ≡ true
+  all-mem h (List·Memᴰ·head {x = y} {xs} e) = subst (λ (z : A). t z ≡ true) (sym e) (and-left (t y) (all t xs) h)
+  all-mem h (List·Memᴰ·tail {x = y} {xs} m) = all-mem (and-right (t y) (all t xs) h) m
+
+  pub mem-all : (l : List A) → ((x : A) → List·Memᴰ x l → t x ≡ true) → all t l ≡ true
+  mem-all [] h = refl
+  mem-all (x ∷ xs) h = and-both (t x) (all t xs) (h x (List·Memᴰ·head refl)) (mem-all xs (λ y m. h y (List·Memᴰ·tail m)))
+
+  pub all-fails : (l : List A) → all t l ≡ false → (x : A) × List·Memᴰ x l × (t x ≡ false)
+  all-fails [] h = absurd (clash refl h)
+  all-fails (x ∷ xs) h =
+      on-test (t x)
+      (λ e.
+      let (y, m, f) = all-fails xs (sym (ap (λ (b : Bool). b && all t xs) e) ∙ h) in
+      (y, List·Memᴰ·tail m, f))
+      (λ e. (x, List·Memᴰ·head refl, e))
+
+  -- selection, an element at a time
+  pub select-in : (x : A) (xs : List A) → t x ≡ true → select t (x ∷ xs) ≡ x ∷ select t xs
+  select-in x xs e = ap (λ (b : Bool). pick b (x ∷ []) [] ++ select t xs) e
+
+  pub select-out : (x : A) (xs : List A) → t x ≡ false → select t (x ∷ xs) ≡ select t xs
+  select-out x xs e = ap (λ (b : Bool). pick b (x ∷ []) [] ++ select t xs) e
+
+  pub tally-in : (x : A) (xs : List A) → t x ≡ true → tally t (x ∷ xs) ≡ suc (tally t xs)
+  tally-in x xs e = ap (λ (b : Bool). pick b 1 0 + tally t xs) e ∙ omega arith
+
+  pub tally-out : (x : A) (xs : List A) → t x ≡ false → tally t (x ∷ xs) ≡ tally t xs
+  tally-out x xs e = ap (λ (b : Bool). pick b 1 0 + tally t xs) e ∙ omega arith
+
+  pub select-mem : {x : A} (l : List A) → List·Memᴰ x (select t l) → List·Memᴰ x l × (t x ≡ true)
+  select-mem [] m = absurd (List·Memᴰ·not-nil m)
+  select-mem {x} (y ∷ ys) m = step (λ r. select-mem ys r)
+    where
+      step : (List·Memᴰ x (select t ys) → List·Memᴰ x ys × (t x ≡ true)) → List·Memᴰ x (y ∷ ys) × (t x ≡ true)
+      step r =
+          on-test (t y)
+          (λ e.
+          ⊎-elim
+          (λ f. (List·Memᴰ·head f, subst (λ (z : A). t z ≡ true) (sym f) e))
+          (λ k. (List·Memᴰ·tail (r k .0), r k .1))
+          (List·Memᴰ·cases-cons (subst (λ (l : List A). List·Memᴰ x l) (select-in y ys e) m)))
+          (λ e. let k = subst (λ (l : List A). List·Memᴰ x l) (select-out y ys e) m in (List·Memᴰ·tail (r k .0), r k .1))
+
+  pub mem-select : {x : A} (l : List A) → List·Memᴰ x l → t x ≡ true → List·Memᴰ x (select t l)
+  mem-select [] m h = absurd (List·Memᴰ·not-nil m)
+  mem-select {x} (y ∷ ys) m h = step (λ r. mem-select ys r h) (List·Memᴰ·cases-cons m)
+    where
+      step : (List·Memᴰ x ys → List·Memᴰ x (select t ys)) → (x ≡ y) ⊎ List·Memᴰ x ys → List·Memᴰ x (select t (y ∷ ys))
+      step r (inl e) =
+          subst (λ (l : List A). List·Memᴰ x l) (sym (select-in y ys (subst (λ (z : A). t z ≡ true) e h))) (List·Memᴰ·head e)
+      step r (inr k) =
+          on-test (t y)
+          (λ e. subst (λ (l : List A). List·Memᴰ x l) (sym (select-in y ys e)) (List·Memᴰ·tail (r k)))
+          (λ e. subst (λ (l : List A). List·Memᴰ x l) (sym (select-out y ys e)) (r k))
+
+  pub length-select : (l : List A) → length (select t l) ≡ tally t l
+  length-select [] = refl
+  length-select (x ∷ xs) =
+      let r = length-select xs in
+      on-test (t x)
+      (λ e. ap length (select-in x xs e) ∙ (ap suc r ∙ sym (tally-in x xs e)))
+      (λ e. ap length (select-out x xs e) ∙ (r ∙ sym (tally-out x xs e)))
+
+  pub tally-length : (l : List A) → tally t l ≤ length l
+  tally-length [] = omega arith
+  tally-length (x ∷ xs) =
+      let r = tally-length xs in on-test (t x) (λ e. omega (arith, tally-in x xs e)) (λ e. omega (arith, tally-out x xs e))
+
+  -- a tally of none
+  pub tally-none : (l : List A) → ((x : A) → List·Memᴰ x l → t x ≡ false) → tally t l ≡ 0
+  tally-none [] h = refl
+  tally-none (x ∷ xs) h = tally-out x xs (h x (List·Memᴰ·head refl)) ∙ tally-none xs (λ y m. h y (List·Memᴰ·tail m))
+
+  pub none-tally : {x : A} (l : List A) → tally t l ≡ 0 → List·Memᴰ x l → t x ≡ true → ⊥
+  none-tally [] h m e = List·Memᴰ·not-nil m
+  none-tally {x} (y ∷ ys) h m e = step (λ k r. none-tally ys k r e) (List·Memᴰ·cases-cons m)
+    where
+      step : (tally t ys ≡ 0 → List·Memᴰ x ys → ⊥) → (x ≡ y) ⊎ List·Memᴰ x ys → ⊥
+      step r (inl f) = let g = tally-in y ys (subst (λ (z : A). t z ≡ true) f e) in omega arith
+      step r (inr k) =
+          on-test (t y) (λ g. let q = tally-in y ys g in omega arith) (λ g. r (sym (tally-out y ys g) ∙ h) k)
+
+module _ {A : Type 0} (s t : A → Bool) where
+  -- tests that agree on the members
+  pub tally-same : (l : List A) → ((x : A) → List·Memᴰ x l → s x ≡ t x) → tally s l ≡ tally t l
+  tally-same [] h = refl
+  tally-same (x ∷ xs) h =
+      let r = tally-same xs (λ y m. h y (List·Memᴰ·tail m)) in
+      let e = h x (List·Memᴰ·head refl) in
+      ap (λ (b : Bool). pick b 1 0 + tally s xs) e ∙ ap (λ (m : ℕ). pick (t x) 1 0 + m) r
+
+  pub tally-select : (l : List A) → tally t (select s l) ≡ tally (λ x. s x && t x) l
+  tally-select [] = refl
+  tally-select (x ∷ xs) =
+      let r = tally-select xs in
+      on-test (s x)
+      (λ e.
+      ap (tally t) (select-in s x xs e) ∙
+      (ap (λ (m : ℕ). pick (t x) 1 0 + m) r ∙
+      sym (ap (λ (b : Bool). pick (b && t x) 1 0 + tally (λ y. s y && t y) xs) e)))
+      (λ e.
+      ap (tally t) (select-out s x xs e) ∙
+      (r ∙ sym (tally-out (λ y. s y && t y) x xs (ap (λ (b : Bool). b && t x) e))))
+
+  -- a stronger test passes no more often, and if as often then alike
+  pub tally-stronger : (l : List A) → ((x : A) → s x ≡ true → t x ≡ true) → tally s l ≤ tally t l
+  tally-stronger [] h = omega arith
+  tally-stronger (x ∷ xs) h =
+      let r = tally-stronger xs h in
+      on-test (s x)
+      (λ e. let p = tally-in s x xs e in let q = tally-in t x xs (h x e) in omega arith)
+      (λ e.
+      let p = tally-out s x xs e in
+      on-test (t x) (λ g. let q = tally-in t x xs g in omega arith) (λ g. let q = tally-out t x xs g in omega arith))
+
+  pub tally-equal : (l : List A) → ((x : A) → s x ≡ true → t x ≡ true) → tally s l ≡ tally t l → {x : A} → List·Memᴰ x l → t x ≡ true → s x ≡ true
+  tally-equal [] h e m p = absurd (List·Memᴰ·not-nil m)
+  tally-equal (y ∷ ys) h e {x} m p = step (λ q r. tally-equal ys h q r p) (List·Memᴰ·cases-cons m)
+    where
+      less : tally s ys ≤ tally t ys
+      less = tally-stronger ys h
+
+      step : (tally s ys ≡ tally t ys → List·Memᴰ x ys → s x ≡ true) → (x ≡ y) ⊎ List·Memᴰ x ys → s x ≡ true
+      step r (inl f) =
+          on-test (s y)
+          (λ g. subst (λ (z : A). s z ≡ true) (sym f) g)
+          (λ g.
+          let a = tally-out s y ys g in
+          let b = tally-in t y ys (subst (λ (z : A). t z ≡ true) f p) in
+          absurd (omega (arith, less)))
+      step r (inr k) =
+          on-test (s y)
+          (λ g. let a = tally-in s y ys g in let b = tally-in t y ys (h y g) in r (omega arith) k)
+          (λ g.
+          let a = tally-out s y ys g in
+          on-test (t y)
+          (λ i. let b = tally-in t y ys i in absurd (omega (arith, less)))
+          (λ i. let b = tally-out t y ys i in r (omega arith) k))
+
+pub tally-map : {A B : Type 0} (t : B → Bool) (f : A → B) (l : List A) → tally t (map f l) ≡ tally (λ x. t (f x)) l
+tally-map t f [] = refl
+tally-map t f (x ∷ xs) = ap (λ (m : ℕ). pick (t (f x)) 1 0 + m) (tally-map t f xs)
+
+pub select-map : {A B : Type 0} (t : B → Bool) (f : A → B) (l : List A) → select t (map f l) ≡ map f (select (λ x. t (f x)) l)
+select-map t f [] = refl
+select-map {A} {B} t f (x ∷ xs) =
+    let r = select-map t f xs in
+    on-test (t (f x))
+    (λ e. select-in t (f x) (map f xs) e ∙ (ap (λ (l : List B). f x ∷ l) r ∙ sym (ap (map f) (select-in (λ y. t (f y)) x xs e))))
+    (λ e. select-out t (f x) (map f xs) e ∙ (r ∙ sym (ap (map f) (select-out (λ y. t (f y)) x xs e))))
+
+pub select-select : {A : Type 0} (s t : A → Bool) (l : List A) → select t (select s l) ≡ select (λ x. s x && t x) l
+select-select s t [] = refl
+select-select {A} s t (x ∷ xs) =
+    let r = select-select s t xs in
+    on-test (s x)
+    (λ e.
+    ap (select t) (select-in s x xs e) ∙
+    (ap (λ (l : List A). pick (t x) (x ∷ []) [] ++ l) r ∙
+    sym (ap (λ (b : Bool). pick (b && t x) (x ∷ []) [] ++ select (λ y. s y && t y) xs) e)))
+    (λ e.
+    ap (select t) (select-out s x xs e) ∙
+    (r ∙ sym (select-out (λ y. s y && t y) x xs (ap (λ (b : Bool). b && t x) e))))
+
+-- membership of numbers
+pub in-mem : (x : ℕ) (l : List ℕ) → isIn x l ≡ true → List·Memᴰ x l
+in-mem x l h = let (y, m, e) = any-mem (eqb x) l h in subst (λ (z : ℕ). List·Memᴰ z l) (sym (eqb-true x y e)) m
+
+pub mem-in : (x : ℕ) (l : List ℕ) → List·Memᴰ x l → isIn x l ≡ true
+mem-in x l m = mem-any (eqb x) m (eq-eqb x x refl)
+
+-- ranges
+pub length-range : (x l : ℕ) → length (range x l) ≡ l
+length-range x zero = refl
+length-range x (suc l) = ap suc (length-range (suc x) l)
+
+pub range-mem : {y : ℕ} (x l : ℕ) → List·Memᴰ y (range x l) → (x ≤ y) × (y < x + l)
+range-mem x zero m = absurd (List·Memᴰ·not-nil m)
+range-mem {y} x (suc l) m = step (λ r. range-mem (suc x) l r) (List·Memᴰ·cases-cons m)
+  where
+    step : (List·Memᴰ y (range (suc x) l) → (suc x ≤ y) × (y < suc x + l)) → (y ≡ x) ⊎ List·Memᴰ y (range (suc x) l) → (x ≤ y) × (y < x + suc l)
+    step r (inl e) = omega arith
+    step r (inr k) = let q = r k in omega arith
+
+pub mem-range : {y : ℕ} (x l : ℕ) → x ≤ y → y < x + l → List·Memᴰ y (range x l)
+mem-range x zero a b = absurd (omega arith)
+mem-range {y} x (suc l) a b =
+    on-test (eqb y x)
+    (λ e. List·Memᴰ·head (eqb-true y x e))
+    (λ e. let d : ¬ (y ≡ x) = λ q. clash (eq-eqb y x q) e in List·Memᴰ·tail (mem-range (suc x) l (omega arith) (omega arith)))
+
+-- the elements of a mapped range
+pub getD-map-range : {A : Type 0} (f : ℕ → A) (d : A) (x l i : ℕ) → i < l → getD (map f (range x l)) i d ≡ f (x + i)
+getD-map-range f d x zero i h = absurd (omega arith)
+getD-map-range f d x (suc l) zero h = let e : x ≡ x + 0 = omega arith in ap f e
+getD-map-range f d x (suc l) (suc i) h =
+    let e : suc x + i ≡ x + suc i = omega arith in getD-map-range f d (suc x) l i (omega arith) ∙ ap f e
+
+-- an entry after a store: the value stored, or the entry from before
+pub set-cases : (l : List ℕ) (x v y : ℕ) → x < length l → ((y ≡ x) × (getD (set l x v) y 0 ≡ v)) ⊎ ((y ≢ x) × (getD (set l x v) y 0 ≡ getD l y 0))
+set-cases l x v y h =
+    by-cases (ℕ-discrete y x)
+    (λ e. inl (e, ap (λ (z : ℕ). getD (set l x v) z 0) e ∙ getD-set-same l x v 0 h))
+    (λ e. inr (e, getD-set-other l x y v 0 e))
+
+-- another value in the place of an a: there is one a less
+pub tally-set : (a : ℕ) (l : List ℕ) (y v : ℕ) → y < length l → getD l y 0 ≡ a → v ≢ a → suc (tally (eqb a) (set l y v)) ≡ tally (eqb a) l
+tally-set a [] y v h e d = absurd (omega arith)
+tally-set a (x ∷ xs) zero v h e d =
+    let p = tally-in (eqb a) x xs (eq-eqb a x (sym e)) in
+    let q = tally-out (eqb a) v xs (ne-eqb a v (λ f. d (sym f))) in
+    omega arith
+tally-set a (x ∷ xs) (suc y) v h e d =
+    let r = tally-set a xs y v (omega arith) e d in
+    on-test (eqb a x)
+    (λ f. let p = tally-in (eqb a) x xs f in let q = tally-in (eqb a) x (set xs y v) f in omega arith)
+    (λ f. let p = tally-out (eqb a) x xs f in let q = tally-out (eqb a) x (set xs y v) f in omega arith)

@@ -1,0 +1,1 @@
+// No code: laws of tests and lists, in proofs/.

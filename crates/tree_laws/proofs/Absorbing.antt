@@ -1,0 +1,323 @@
+-- The pixels of one height join the classes, a place and a neighbour at a time.
+use mathlib.Core.Path.{_≡_, refl, sym, ap, subst, _∙_}
+use mathlib.Core.Logic.{_⊎_, inl, inr, ⊎-elim, by-cases, _≢_}
+use mathlib.Core.List.{List}
+use Prim.Native.Nat.{ℕ, suc, _+_, _≤_, _<_}
+use native.Mathlib.Decide.{ℕ-discrete}
+use native.Mathlib.Omega.{arith}
+use lib.ListN.{length, getD, set, length-set}
+use Rattle.picture.specs.Pictures.{Picture, places, valueAt}
+use Rattle.picture.specs.Geometry.{neighboursIn}
+use Rattle.picture.specs.Trees.{nodes, nodeAt, fatherOf, mapOf}
+use Rattle.picture.proofs.Neighbours.{neighbour-at, neighbour-index}
+use Rattle.topology.proofs.Connected.{conn-source, conn-target, conn-trans, conn-edge}
+use Rattle.topology.proofs.Adjacency.{Adj, At, Joined, adj-sym, joined-sym}
+use Rattle.topology.proofs.Accepted.{Accepted, byte-at, places-bound}
+use Rattle.topology.proofs.Nodes.{nodes-few}
+use Rattle.tree_laws.proofs.Beneath.{beneath-number}
+use Rattle.tree_laws.proofs.Levels.{put, relink, relink-moved, relink-kept, State, nothing, single, several, Level, Upto, Edges, edges-lower, Merged, met, met-number, linked}
+use Rattle.tree_laws.proofs.Counts.{soFar}
+use Rattle.tree_laws.proofs.Forests.{Forest, Found, root-cell, forest-link}
+use Rattle.tree_laws.proofs.Marks.{Names}
+
+-- the cells hold the classes at height k, with the neighbours up to x joined
+pub record Classes (p : Picture) (k x : ℕ) (l : List ℕ) (fa : ℕ → ℕ) : Type 0 where
+  pub root : ℕ → ℕ
+  pub st : ℕ → ℕ
+  pub size : length l ≡ places p
+  pub forest : Forest l root st
+  pub level : Level p k (soFar p k) root st fa
+  pub edges : Edges p k x root
+
+-- x, with the root r, is joined to the first j of its neighbours
+pub record Near (p : Picture) (k x j r : ℕ) (l : List ℕ) (fa : ℕ → ℕ) : Type 0 where
+  pub root : ℕ → ℕ
+  pub st : ℕ → ℕ
+  pub size : length l ≡ places p
+  pub low : k ≤ 255
+  pub forest : Forest l root st
+  pub level : Level p k (soFar p k) root st fa
+  pub edges : Edges p k x root
+  pub within : x < places p
+  pub value : valueAt p x ≡ k
+  pub is : root x ≡ r
+  pub seen : (i : ℕ) → i < j → Upto p k x (getD (neighboursIn p x) i 0) → root (getD (neighboursIn p x) i 0) ≡ root x
+
+-- y is the neighbour j of x
+pub record Edge (p : Picture) (x j y : ℕ) : Type 0 where
+  pub listed : j < length (neighboursIn p x)
+  pub is : y ≡ getD (neighboursIn p x) j 0
+
+-- two roots, the smaller first
+pub data Ordered (q r : ℕ) : ℕ → ℕ → Type 0 where
+  below : q < r → Ordered q r q r
+  above : r < q → Ordered q r r q
+
+-- what the link of two roots at x asks
+pub record Linkable (x q r : ℕ) (l : List ℕ) : Type 0 where
+  pub few : length l ≤ 1600
+  pub place : x < length l
+  pub in-q : q < length l
+  pub in-r : r < length l
+  pub name-q : Names (length l) (getD l q 0)
+  pub name-r : Names (length l) (getD l r 0)
+
+module _ (p : Picture) (ok : Accepted p) (k x : ℕ) where
+  pub edge-touch : (j y : ℕ) → Edge p x j y → (y < places p) × Adj p x y
+  edge-touch j y e =
+      subst (λ (z : ℕ). (z < places p) × Adj p x z) (sym (e .is)) (neighbour-at p x j (e .listed))
+
+  pub edge-within : (j y : ℕ) (pixels l : List ℕ) → Edge p x j y → p .pixels ≡ pixels → length l ≡ places p → (y < length pixels) × (y < length l)
+  edge-within j y pixels l e is cells =
+      let (b, t) = edge-touch j y e in
+      let size = ok .size in
+      let same = ap length is in
+      (omega arith, omega arith)
+
+  pub near-start : (r : ℕ) (l m : List ℕ) (fa : ℕ → ℕ) → Classes p k x l fa → x < places p → valueAt p x ≡ k → Found l x r m → Near p k x 0 r m fa
+  near-start r l m fa c b v f =
+      record {
+        root = c .root;
+        st = c .st;
+        size = f .size ∙ c .size;
+        low = let h = byte-at (p .pixels) (ok .bytes) x in omega arith;
+        forest = f .keeps (c .root) (c .st) (c .forest);
+        level = c .level;
+        edges = c .edges;
+        within = b;
+        value = v;
+        is = f .is (c .root) (c .st) (c .forest);
+        seen = λ i h. absurd (omega arith);
+      }
+
+  -- all neighbours: the edges of x are done
+  pub near-end : (r : ℕ) (l : List ℕ) (fa : ℕ → ℕ) → Near p k x (length (neighboursIn p x)) r l fa → Classes p k (suc x) l fa
+  near-end r l fa n =
+      record {
+        root = n .root;
+        st = n .st;
+        size = n .size;
+        forest = n .forest;
+        level = n .level;
+        edges =
+            record {
+              same =
+                  λ y z a b t.
+                  by-cases (ℕ-discrete y x)
+                  (λ e.
+                  by-cases (ℕ-discrete z x)
+                  (λ g. ap (n .root) (e ∙ sym g))
+                  (λ g. ap (n .root) e ∙ sym (done z (before z g b) (subst (λ (u : ℕ). Adj p u z) e t))))
+                  (λ d.
+                  by-cases (ℕ-discrete z x)
+                  (λ g. done y (before y d a) (adj-sym p y x (subst (λ (u : ℕ). Adj p y u) g t)) ∙ ap (n .root) (sym g))
+                  (λ g. n .edges .same y z (before y d a) (before z g b) t));
+            };
+      }
+    where
+      before : (y : ℕ) → y ≢ x → Upto p k (suc x) y → Upto p k x y
+      before y d u =
+          record { within = u .within; passed = ⊎-elim (λ h. inl h) (λ h. let g = h .1 in inr (h .0, omega arith)) (u .passed) }
+
+      done : (y : ℕ) → Upto p k x y → Adj p x y → n .root y ≡ n .root x
+      done y u t =
+          let (i, b, e) = neighbour-index p x y (ok .wide) (u .within) t in
+          ap (n .root) (sym e) ∙ n .seen i b (subst (Upto p k x) (sym e) u)
+
+  module _ (j r : ℕ) (l : List ℕ) (fa : ℕ → ℕ) (n : Near p k x j r l fa) where
+    seen-next : (new : ℕ → ℕ) → ((y z : ℕ) → n .root y ≡ n .root z → new y ≡ new z) → (y : ℕ) → Edge p x j y → (Upto p k x y → new y ≡ new x) →
+        (i : ℕ) → i < suc j → Upto p k x (getD (neighboursIn p x) i 0) → new (getD (neighboursIn p x) i 0) ≡ new x
+    seen-next new same y e f i b u =
+        by-cases (ℕ-discrete i j)
+        (λ q.
+        let g : getD (neighboursIn p x) i 0 ≡ y = ap (λ (a : ℕ). getD (neighboursIn p x) a 0) q ∙ sym (e .is) in
+        ap new g ∙ f (subst (Upto p k x) g u))
+        (λ d. same (getD (neighboursIn p x) i 0) x (n .seen i (omega arith) u))
+
+    -- the next neighbour is still to come or has the same root
+    near-next : (m : List ℕ) → length m ≡ length l → Forest m (n .root) (n .st) → (y : ℕ) → Edge p x j y → (Upto p k x y → n .root y ≡ n .root x) → Near p k x (suc j) r m fa
+    near-next m size forest y e f =
+        record {
+          root = n .root;
+          st = n .st;
+          size = size ∙ n .size;
+          low = n .low;
+          forest = forest;
+          level = n .level;
+          edges = n .edges;
+          within = n .within;
+          value = n .value;
+          is = n .is;
+          seen = seen-next (n .root) (λ a b q. q) y e f;
+        }
+
+    pub near-skip : (y : ℕ) → Edge p x j y → (Upto p k x y → ⊥) → Near p k x (suc j) r l fa
+    near-skip y e d = near-next l refl (n .forest) y e (λ u. absurd (d u))
+
+    -- a root's cell is a state
+    near-names : (m : List ℕ) → length m ≡ length l → Forest m (n .root) (n .st) → (y : ℕ) → At p k y → n .root y ≡ y → Names (length m) (getD m y 0)
+    near-names m size forest y s e =
+        let b : y < length m = let a = s .within in let g = n .size in omega arith in
+        let h = root-cell forest y b e in
+        let t = forest .state y b h in
+        record { root = h; node = λ q. by (n .level .state y s e) t q }
+      where
+        by : State p k (n .root) y (n .st y) → getD m y 0 ≡ n .st y → getD m y 0 < 65534 → getD m y 0 < 2048 + length m
+        by (nothing a f) t q = absurd (omega arith)
+        by (several z w a c d f g h) t q = absurd (omega arith)
+        by (single z c d a f) t q =
+            let g = beneath-number p k z (let h = n .low in omega arith) c in
+            let h = nodes-few p in
+            let i = n .size in
+            omega arith
+
+    at-x : At p k x
+    at-x = record { within = n .within; low = let v = n .value in omega arith }
+
+    module _ (y : ℕ) (u : Upto p k x y) (t : Adj p x y) where
+      at-y : At p k y
+      at-y = record { within = u .within; low = ⊎-elim (λ h. omega arith) (λ h. let g = h .0 in omega arith) (u .passed) }
+
+      root-x : (n .root (n .root x) ≡ n .root x) × At p k (n .root x)
+      root-x = (n .level .fixed x (n .within), conn-target (n .level .own x at-x))
+
+      root-y : (n .root (n .root y) ≡ n .root y) × At p k (n .root y)
+      root-y = (n .level .fixed y (u .within), conn-target (n .level .own y at-y))
+
+      joined-roots : Joined p k (n .root x) (n .root y)
+      joined-roots =
+          conn-trans (joined-sym p k (n .level .own x at-x))
+          (conn-trans (conn-edge at-x t at-y) (n .level .own y at-y))
+
+      module _ {m : List ℕ} {q : ℕ} (f : Found l y q m) where
+        root-of-y : n .root y ≡ q
+        root-of-y = f .is (n .root) (n .st) (n .forest)
+
+        forest : Forest m (n .root) (n .st)
+        forest = f .keeps (n .root) (n .st) (n .forest)
+
+        pub near-same : Edge p x j y → q ≡ r → Near p k x (suc j) r m fa
+        near-same e g = near-next m (f .size) forest y e (λ h. root-of-y ∙ (g ∙ sym (n .is)))
+
+        pub near-linkable : Linkable x q r m
+        near-linkable =
+            let size = f .size in
+            let same = n .size in
+            let most = places-bound p ok in
+            let within = n .within in
+            let x-is = n .is in
+            let y-is = root-of-y in
+            let in-x = root-x .1 .within in
+            let in-y = root-y .1 .within in
+            record {
+              few = omega arith;
+              place = omega arith;
+              in-q = omega arith;
+              in-r = omega arith;
+              name-q = subst (λ (a : ℕ). Names (length m) (getD m a 0)) root-of-y (near-names m (f .size) forest (n .root y) (root-y .1) (root-y .0));
+              name-r = subst (λ (a : ℕ). Names (length m) (getD m a 0)) (n .is) (near-names m (f .size) forest (n .root x) (root-x .1) (root-x .0));
+            }
+
+      -- the two roots, the smaller first
+      module _ {m : List ℕ} {q lo hi : ℕ} (f : Found l y q m) (o : Ordered q r lo hi) where
+        less : lo < hi
+        less = by o
+          where
+            by : {a b : ℕ} → Ordered q r a b → a < b
+            by (below h) = h
+            by (above h) = h
+
+        ends : ((n .root x ≡ lo) × (n .root y ≡ hi)) ⊎ ((n .root x ≡ hi) × (n .root y ≡ lo))
+        ends = by o
+          where
+            by : {a b : ℕ} → Ordered q r a b → ((n .root x ≡ a) × (n .root y ≡ b)) ⊎ ((n .root x ≡ b) × (n .root y ≡ a))
+            by (below h) = inr (n .is, root-of-y f)
+            by (above h) = inl (n .is, root-of-y f)
+
+        both : Joined p k lo hi × Joined p k x lo
+        both =
+            ⊎-elim
+            (λ h. (
+              subst (λ (b : ℕ). Joined p k lo b) (h .1) (subst (λ (a : ℕ). Joined p k a (n .root y)) (h .0) joined-roots),
+              subst (λ (a : ℕ). Joined p k x a) (h .0) (n .level .own x at-x),
+            ))
+            (λ h.
+            let c : Joined p k lo hi =
+            subst (λ (b : ℕ). Joined p k lo b) (h .0) (subst (λ (a : ℕ). Joined p k a (n .root x)) (h .1) (joined-sym p k joined-roots))
+            in
+            (c, conn-trans (subst (λ (a : ℕ). Joined p k x a) (h .0) (n .level .own x at-x)) (joined-sym p k c)))
+            ends
+
+        lo-root : n .root lo ≡ lo
+        lo-root =
+            ⊎-elim
+            (λ h. subst (λ (a : ℕ). n .root a ≡ a) (h .0) (root-x .0))
+            (λ h. subst (λ (a : ℕ). n .root a ≡ a) (h .1) (root-y .0))
+            ends
+
+        hi-root : n .root hi ≡ hi
+        hi-root =
+            ⊎-elim
+            (λ h. subst (λ (a : ℕ). n .root a ≡ a) (h .1) (root-y .0))
+            (λ h. subst (λ (a : ℕ). n .root a ≡ a) (h .0) (root-x .0))
+            ends
+
+        hi-in : hi < length m
+        hi-in = let b = conn-target (both .0) .within in let g = n .size in omega (arith, b, g, f .size)
+
+        small : lo < 2048
+        small = let b = conn-source (both .0) .within in let g = places-bound p ok in omega arith
+
+        lo-state : getD m lo 0 ≡ n .st lo
+        lo-state = forest f .state lo (omega (arith, hi-in, less)) (root-cell (forest f) lo (omega (arith, hi-in, less)) lo-root)
+
+        hi-state : getD m hi 0 ≡ n .st hi
+        hi-state = forest f .state hi hi-in (root-cell (forest f) hi hi-in hi-root)
+
+        same-class : (a b : ℕ) → n .root a ≡ n .root b → relink (n .root) lo hi a ≡ relink (n .root) lo hi b
+        same-class a b q =
+            by-cases (ℕ-discrete (n .root b) hi)
+            (λ g. relink-moved (n .root) lo hi a (q ∙ g) ∙ sym (relink-moved (n .root) lo hi b g))
+            (λ d. relink-kept (n .root) lo hi a (λ g. d (sym q ∙ g)) ∙ (q ∙ sym (relink-kept (n .root) lo hi b d)))
+
+        x-now : relink (n .root) lo hi x ≡ lo
+        x-now = ⊎-elim (λ h. relink-kept (n .root) lo hi x (λ q. let g = h .0 in omega (arith, less)) ∙ h .0) (λ h. relink-moved (n .root) lo hi x (h .0)) ends
+
+        y-now : relink (n .root) lo hi y ≡ lo
+        y-now = ⊎-elim (λ h. relink-moved (n .root) lo hi y (h .1)) (λ h. relink-kept (n .root) lo hi y (λ q. let g = h .1 in omega (arith, less)) ∙ h .1) ends
+
+        -- the father of a node that one of the two roots says
+        pub near-met :
+            (i : ℕ) → i < 1600 → getD m lo 0 ≢ 65535 → getD m hi 0 ≢ 65535 → (getD m lo 0 ≡ 2048 + i) ⊎ (getD m hi 0 ≡ 2048 + i) →
+            (i < length (nodes p)) × (fatherOf p (nodeAt p i) ≡ mapOf p x)
+        near-met i b da db e =
+            let g : (n .st lo ≡ 2048 + i) ⊎ (n .st hi ≡ 2048 + i) = ⊎-elim (λ q. inl (sym lo-state ∙ q)) (λ q. inr (sym hi-state ∙ q)) e in
+            let lower = edges-lower p k x (n .root) (let h = n .low in omega arith) (n .edges) in (
+              met-number p ok k (n .low) (soFar p k) x lo hi (n .root) (n .st) fa (n .level) lower less lo-root hi-root (both .0) (both .1) (n .value) i b g,
+              met p ok k (n .low) (soFar p k) x lo hi (n .root) (n .st) fa (n .level) lower less lo-root hi-root (both .0) (both .1) (n .value) i b
+                  (λ q. da (lo-state ∙ q)) (λ q. db (hi-state ∙ q)) g,
+            )
+
+        -- the two roots are linked
+        pub near-linked :
+            (s : ℕ) (fb : ℕ → ℕ) → 2048 ≤ s → Merged x (getD m lo 0) (getD m hi 0) s fa fb → Edge p x j y →
+            Near p k x (suc j) lo (set (set m hi lo) lo s) fb
+        near-linked s fb big merged e =
+            record {
+              root = relink (n .root) lo hi;
+              st = put (n .st) lo s;
+              size = length-set (set m hi lo) lo s ∙ (length-set m hi lo ∙ (f .size ∙ n .size));
+              low = n .low;
+              forest = forest-link m lo hi s (n .root) (n .st) (forest f) less hi-in small lo-root hi-root big;
+              level =
+                  linked p ok k (n .low) (soFar p k) x lo hi (n .root) (n .st) fa (n .level)
+                  (edges-lower p k x (n .root) (let h = n .low in omega arith) (n .edges))
+                  less lo-root hi-root (both .0) (both .1) (n .value) s fb
+                  (subst (λ (a : ℕ). Merged x a (n .st hi) s fa fb) lo-state
+                  (subst (λ (a : ℕ). Merged x (getD m lo 0) a s fa fb) hi-state merged));
+              edges = record { same = λ a b c d g. same-class a b (n .edges .same a b c d g) };
+              within = n .within;
+              value = n .value;
+              is = x-now;
+              seen = seen-next (relink (n .root) lo hi) same-class y e (λ h. y-now ∙ sym x-now);
+            }

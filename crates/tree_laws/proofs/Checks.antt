@@ -1,0 +1,269 @@
+-- A lent tree is checked while the pixels of a height join the classes: at each link the fathers of the nodes that meet.
+use mathlib.Core.Path.{_≡_, refl, sym, ap, subst, _∙_}
+use mathlib.Core.Bool.{Bool, true, false}
+use mathlib.Core.Logic.{_⊎_, inl, inr, ⊎-elim, by-cases, _≢_}
+use mathlib.Core.List.{List}
+use Prim.Native.Nat.{ℕ, suc, _+_, _-_, _≤_, _<_}
+use native.Mathlib.Decide.{ℕ-discrete}
+use native.Mathlib.Omega.{arith}
+use lib.ListN.{length, getD, set, length-set}
+use Rattle.picture.specs.Pictures.{Picture, places}
+use Rattle.picture.specs.Trees.{nodes, nodeAt, fatherOf, mapOf}
+use Rattle.lists.proofs.Tests.{clash}
+use Rattle.topology.proofs.Accepted.{Accepted}
+use Rattle.tree_laws.proofs.Levels.{put, put-same, put-other, Merged, left, right, both}
+use Rattle.tree_laws.proofs.Forests.{Found, Parents, forest-parents}
+use Rattle.tree_laws.proofs.Marks.{Names}
+use Rattle.tree_laws.proofs.Absorbing.{Classes, Near, Edge, Ordered, below, above, Linkable, edge-touch, edge-within, near-skip, near-same, near-linkable, near-linked, near-met}
+use Rattle.tree_laws.proofs.Chains.{Comes, upto-of}
+
+-- the lent entries of two lists contradict the tree: a node's father is the node of a pixel, and their entries differ
+pub record Differs (p : Picture) (fs m : List ℕ) : Type 0 where
+  pub at : ℕ
+  pub pixel : ℕ
+  pub number : at < length (nodes p)
+  pub place : pixel < places p
+  pub father : fatherOf p (nodeAt p at) ≡ mapOf p pixel
+  pub differs : getD fs at 0 ≢ getD m pixel 0
+
+-- each entry that is a pixel has been compared
+pub record Agree (fa : ℕ → ℕ) (fs m : List ℕ) : Type 0 where
+  pub same : (i : ℕ) → i < 1600 → (fa i ≡ 65535) ⊎ (getD fs i 0 ≡ getD m (fa i) 0)
+
+-- the pixels of height k before x have joined, and the fathers met so far agree
+pub record Checking (p : Picture) (k x : ℕ) (l fs m : List ℕ) : Type 0 where
+  pub ok : Accepted p
+  pub fa : ℕ → ℕ
+  pub classes : Classes p k x l fa
+  pub agree : Agree fa fs m
+
+pub record NearBy (p : Picture) (k x j r : ℕ) (l fs m : List ℕ) : Type 0 where
+  pub fa : ℕ → ℕ
+  pub near : Near p k x j r l fa
+  pub agree : Agree fa fs m
+
+-- the entry of the node that a state names agrees with the pixel's
+pub record Agrees (s x : ℕ) (fs m : List ℕ) (b : Bool) : Type 0 where
+  pub yes : b ≡ true → (i : ℕ) → i < 1600 → s ≡ 2048 + i → getD fs i 0 ≡ getD m x 0
+  pub never : b ≡ false → (s < 65534) × (getD fs (s - 2048) 0 ≢ getD m x 0)
+
+pub data MergedBy (x a b s : ℕ) (fs m : List ℕ) : Type 0 where
+  by-left : a ≡ 65535 → s ≡ b → MergedBy x a b s fs m
+  by-right : b ≡ 65535 → s ≡ a → MergedBy x a b s fs m
+  by-both :
+      a ≢ 65535 → b ≢ 65535 → s ≡ 65534 →
+      ((i : ℕ) → i < 1600 → (a ≡ 2048 + i) ⊎ (b ≡ 2048 + i) → getD fs i 0 ≡ getD m x 0) → MergedBy x a b s fs m
+
+-- what a checked link leaves: the link, or a difference
+pub data Joint (x lo hi : ℕ) (l fs m : List ℕ) (o : List ℕ) : Bool → Type 0 where
+  linked : (s : ℕ) → 2048 ≤ s → o ≡ set (set l hi lo) lo s → MergedBy x (getD l lo 0) (getD l hi 0) s fs m → Joint x lo hi l fs m o true
+  differs :
+      (i : ℕ) → i < 1600 → getD l lo 0 ≢ 65535 → getD l hi 0 ≢ 65535 → (getD l lo 0 ≡ 2048 + i) ⊎ (getD l hi 0 ≡ 2048 + i) →
+      getD fs i 0 ≢ getD m x 0 → length o ≡ length l → Joint x lo hi l fs m o false
+
+-- the entries with x at the node that a state names
+marked : ℕ → ℕ → (ℕ → ℕ) → ℕ → ℕ
+marked s x fa i = put fa (s - 2048) x i
+
+merged-by :
+    (x a b s : ℕ) (fs m : List ℕ) (fa : ℕ → ℕ) → 2048 ≤ a → 2048 ≤ b → MergedBy x a b s fs m → Agree fa fs m →
+    (fb : ℕ → ℕ) × Merged x a b s fa fb × Agree fb fs m
+unfolding marked
+merged-by x a b s fs m fa ra rb (by-left e q) g = (fa, left e q (λ i h. refl), g)
+merged-by x a b s fs m fa ra rb (by-right e q) g = (fa, right e q (λ i h. refl), g)
+merged-by x a b s fs m fa ra rb (by-both da db q f) g = (
+  marked b x (marked a x fa),
+  both da db q hit miss,
+  record {
+    same =
+        λ i h.
+        by-cases (ℕ-discrete b (2048 + i))
+        (λ e. inr (f i h (inr e) ∙ ap (λ (z : ℕ). getD m z 0) (sym (hit i h (inr e)))))
+        (λ d.
+        by-cases (ℕ-discrete a (2048 + i))
+        (λ e. inr (f i h (inl e) ∙ ap (λ (z : ℕ). getD m z 0) (sym (hit i h (inl e)))))
+        (λ t.
+        let r = miss i h t d in
+        ⊎-elim (λ z. inl (r ∙ z)) (λ z. inr (z ∙ ap (λ (y : ℕ). getD m y 0) (sym r))) (g .same i h)));
+  },
+)
+  where
+    own : (s : ℕ) (fa : ℕ → ℕ) (i : ℕ) → 2048 ≤ s → s ≡ 2048 + i → marked s x fa i ≡ x
+    own s fa i r e = put-same fa (s - 2048) x i (omega arith)
+
+    other : (s : ℕ) (fa : ℕ → ℕ) (i : ℕ) → 2048 ≤ s → s ≢ 2048 + i → marked s x fa i ≡ fa i
+    other s fa i r d = put-other fa (s - 2048) x i (λ e. d (omega arith))
+
+    hit : (i : ℕ) → i < 1600 → (a ≡ 2048 + i) ⊎ (b ≡ 2048 + i) → marked b x (marked a x fa) i ≡ x
+    hit i h e =
+        by-cases (ℕ-discrete b (2048 + i))
+        (λ z. own b (marked a x fa) i rb z)
+        (λ z. other b (marked a x fa) i rb z ∙ ⊎-elim (λ y. own a fa i ra y) (λ y. absurd (z y)) e)
+
+    miss : (i : ℕ) → i < 1600 → a ≢ 2048 + i → b ≢ 2048 + i → marked b x (marked a x fa) i ≡ fa i
+    miss i h d e = other b (marked a x fa) i rb e ∙ other a fa i ra d
+
+pub agrees-none : (s x : ℕ) (fs m : List ℕ) → 65534 ≤ s → Agrees s x fs m true
+agrees-none s x fs m h = record { yes = λ e i b q. absurd (omega arith); never = λ e. absurd (clash refl e) }
+
+pub agrees-same : (s x t : ℕ) (fs m : List ℕ) → t ≡ s → 2048 ≤ s → getD fs (t - 2048) 0 ≡ getD m x 0 → Agrees s x fs m true
+agrees-same s x t fs m e r h =
+    record {
+      yes = λ q i b g. let z : i ≡ t - 2048 = omega arith in ap (λ (y : ℕ). getD fs y 0) z ∙ h;
+      never = λ q. absurd (clash refl q);
+    }
+
+pub agrees-not : (s x t : ℕ) (fs m : List ℕ) → t ≡ s → s < 65534 → (getD fs (t - 2048) 0 ≡ getD m x 0 → ⊥) → Agrees s x fs m false
+agrees-not s x t fs m e b h =
+    record {
+      yes = λ q. absurd (clash q refl);
+      never = λ q. (b, λ g. h (ap (λ (y : ℕ). getD fs (y - 2048) 0) e ∙ g));
+    }
+
+module _ (x lo hi n : ℕ) (l fs m : List ℕ) (few : n ≤ 1600) (na : Names n (getD l lo 0)) (nb : Names n (getD l hi 0)) where
+  pub joint-left : (s : ℕ) → s ≡ getD l hi 0 → getD l lo 0 ≡ 65535 → Joint x lo hi l fs m (set (set l hi lo) lo s) true
+  joint-left s q e = linked s (let r = nb .root in omega arith) refl (by-left e q)
+
+  pub joint-right : (s : ℕ) → s ≡ getD l lo 0 → getD l hi 0 ≡ 65535 → Joint x lo hi l fs m (set (set l hi lo) lo s) true
+  joint-right s q e = linked s (let r = na .root in omega arith) refl (by-right e q)
+
+  module _ (da : getD l lo 0 ≢ 65535) (db : getD l hi 0 ≢ 65535) where
+    pub joint-lo : Agrees (getD l lo 0) x fs m false → Joint x lo hi l fs m l false
+    joint-lo a =
+        let (b, d) = a .never refl in
+        let r = na .root in
+        let q = na .node b in
+        differs (getD l lo 0 - 2048) (omega arith) da db (inl (omega arith)) d refl
+
+    pub joint-hi : Agrees (getD l hi 0) x fs m false → Joint x lo hi l fs m l false
+    joint-hi a =
+        let (b, d) = a .never refl in
+        let r = nb .root in
+        let q = nb .node b in
+        differs (getD l hi 0 - 2048) (omega arith) da db (inr (omega arith)) d refl
+
+    pub joint-both : Agrees (getD l lo 0) x fs m true → Agrees (getD l hi 0) x fs m true → Joint x lo hi l fs m (set (set l hi lo) lo 65534) true
+    joint-both a b =
+        linked 65534 (omega arith) refl
+        (by-both da db refl (λ i h. ⊎-elim (λ e. a .yes refl i h e) (λ e. b .yes refl i h e)))
+
+-- x is joined to some of its neighbours, and y is the next
+pub record LookReady (pixels : List ℕ) (k x r y : ℕ) (l fs m : List ℕ) : Type 0 where
+  pub p : Picture
+  pub j : ℕ
+  pub ok : Accepted p
+  pub is : p .pixels ≡ pixels
+  pub edge : Edge p x j y
+  pub near : NearBy p k x j r l fs m
+
+-- then x is joined to y too, or the lent lists differ from the tree: q is the root, or the number of cells
+pub record Looked (pixels : List ℕ) (k x r y : ℕ) (l fs m : List ℕ) (q : ℕ) (o : List ℕ) : Type 0 where
+  pub size : length o ≡ length l
+  pub near :
+      (p : Picture) (j : ℕ) → Accepted p → p .pixels ≡ pixels → Edge p x j y → NearBy p k x j r l fs m → q < length l →
+      NearBy p k x (suc j) q o fs m
+  pub differs :
+      (p : Picture) (j : ℕ) → Accepted p → p .pixels ≡ pixels → Edge p x j y → NearBy p k x j r l fs m → length l ≤ q → Differs p fs m
+
+module _ (pixels : List ℕ) (k x r y : ℕ) (l fs m : List ℕ) where
+  root-in : (p : Picture) (j : ℕ) → Accepted p → NearBy p k x j r l fs m → r < length l
+  root-in p j ok n =
+      let f = n .near .level .first x (n .near .within) in
+      let e = n .near .is in
+      let b = n .near .within in
+      let s = n .near .size in
+      omega arith
+
+  pub look-bounds : LookReady pixels k x r y l fs m → (y < length pixels) × (y < length l)
+  look-bounds e = edge-within (e .p) (e .ok) k x (e .j) y pixels l (e .edge) (e .is) (e .near .near .size)
+
+  pub look-parents : LookReady pixels k x r y l fs m → Parents l
+  look-parents e = forest-parents (e .near .near .forest)
+
+  pub look-skip : LookReady pixels k x r y l fs m → Comes k x y (getD pixels y 0) false → Looked pixels k x r y l fs m r l
+  look-skip ready c =
+      record {
+        size = refl;
+        near =
+            λ p j ok e g n b.
+            record {
+              fa = n .fa;
+              near =
+                  near-skip p ok k x j r l (n .fa) (n .near) y g
+                  (λ u. c .never refl (subst (λ (v : List ℕ). (getD v y 0 < k) ⊎ ((getD v y 0 ≡ k) × (y < x))) e (u .passed)));
+              agree = n .agree;
+            };
+        differs = λ p j ok e g n b. absurd (let h = root-in p j ok n in omega arith);
+      }
+
+  module _ (c : Comes k x y (getD pixels y 0) true) (o : List ℕ) (q : ℕ) (f : Found l y q o) where
+    pub look-same : q ≡ r → Looked pixels k x r y l fs m r o
+    look-same h =
+        record {
+          size = f .size;
+          near =
+              λ p j ok e g n b.
+              let (s, t) = edge-touch p ok k x j y g in
+              record { fa = n .fa; near = near-same p ok k x j r l (n .fa) (n .near) y (upto-of p e s c) t f g h; agree = n .agree };
+          differs = λ p j ok e g n b. absurd (let i = root-in p j ok n in omega arith);
+        }
+
+    linkable : (p : Picture) (j : ℕ) → Accepted p → p .pixels ≡ pixels → Edge p x j y → NearBy p k x j r l fs m → Linkable x q r o
+    linkable p j ok e g n =
+        let (s, t) = edge-touch p ok k x j y g in
+        near-linkable p ok k x j r l (n .fa) (n .near) y (upto-of p e s c) t f
+
+    pub look-join : LookReady pixels k x r y l fs m → Linkable x q r o
+    look-join e = linkable (e .p) (e .j) (e .ok) (e .is) (e .edge) (e .near)
+
+    -- the names of the two roots, the smaller first
+    names : {lo hi : ℕ} → Ordered q r lo hi → Linkable x q r o → Names (length o) (getD o lo 0) × Names (length o) (getD o hi 0)
+    names (below h) a = (a .name-q, a .name-r)
+    names (above h) a = (a .name-r, a .name-q)
+
+    most : {lo hi : ℕ} → Ordered q r lo hi → lo ≤ r
+    most (below h) = omega arith
+    most (above h) = omega arith
+
+    look-linked : {lo hi : ℕ} (u : List ℕ) → Ordered q r lo hi → Joint x lo hi o fs m u true → Looked pixels k x r y l fs m lo u
+    look-linked {lo} {hi} u h (linked s big e g) =
+        record {
+          size = ap length e ∙ (length-set (set o hi lo) lo s ∙ (length-set o hi lo ∙ f .size));
+          near =
+              λ p j ok i a n z.
+              let (w, t) = edge-touch p ok k x j y a in
+              let (na, nb) = names h (linkable p j ok i a n) in
+              let (fb, merged, agree) = merged-by x (getD o lo 0) (getD o hi 0) s fs m (n .fa) (na .root) (nb .root) g (n .agree) in
+              record {
+                fa = fb;
+                near =
+                    subst (λ (v : List ℕ). Near p k x (suc j) lo v fb) (sym e)
+                    (near-linked p ok k x j r l (n .fa) (n .near) y (upto-of p i w c) t f h s fb big merged a);
+                agree = agree;
+              };
+          differs = λ p j ok i a n z. absurd (let w = root-in p j ok n in omega (arith, most h));
+        }
+
+    look-differs : {lo hi : ℕ} (u : List ℕ) (z : ℕ) → Ordered q r lo hi → z ≡ length u → Joint x lo hi o fs m u false → Looked pixels k x r y l fs m z u
+    look-differs u z h e (differs i b da db a d s) =
+        record {
+          size = s ∙ f .size;
+          near = λ p j ok i a n v. absurd (let g = f .size in omega arith);
+          differs =
+              λ p j ok g t n v.
+              let (w, touch) = edge-touch p ok k x j y t in
+              let (num, father) = near-met p ok k x j r l (n .fa) (n .near) y (upto-of p g w c) touch f h i b da db a in
+              record { at = i; pixel = x; number = num; place = n .near .within; father = father; differs = d };
+        }
+
+    pub look-below : (u : List ℕ) → q < r → q < length l → Joint x q r o fs m u true → Looked pixels k x r y l fs m q u
+    look-below u h b = look-linked u (below h)
+
+    pub look-above : (u : List ℕ) → r < q → Joint x r q o fs m u true → Looked pixels k x r y l fs m r u
+    look-above u h = look-linked u (above h)
+
+    pub look-differs-below : (u : List ℕ) (z : ℕ) → q < r → z ≡ length u → Joint x q r o fs m u false → Looked pixels k x r y l fs m z u
+    look-differs-below u z h = look-differs u z (below h)
+
+    pub look-differs-above : (u : List ℕ) (z : ℕ) → r < q → z ≡ length u → Joint x r q o fs m u false → Looked pixels k x r y l fs m z u
+    look-differs-above u z h = look-differs u z (above h)

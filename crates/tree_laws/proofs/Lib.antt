@@ -1,0 +1,20 @@
+-- The component tree, built and checked a height at a time: union-find, the classes of places, the lists of new nodes.
+pub mod Beneath
+pub mod Levels
+pub mod Counts
+pub mod Numbering
+pub mod LastFathers
+pub mod Forests
+pub mod Marks
+pub mod Absorbing
+pub mod Chains
+pub mod Walks
+pub mod Insertion
+pub mod Listing
+pub mod ListWalks
+pub mod Naming
+pub mod Mapped
+pub mod Buckets
+pub mod Settling
+pub mod Checks
+pub mod Looks

@@ -1,0 +1,126 @@
+-- The walk of the check over the pixels of a height.
+use mathlib.Core.Path.{_≡_, refl, sym, ap, subst, _∙_}
+use mathlib.Core.Bool.{Bool, true, false}
+use mathlib.Core.Logic.{inl, inr, ⊎-elim, by-cases, _≢_}
+use mathlib.Core.List.{List}
+use Prim.Native.Nat.{ℕ, suc, _+_, _≤_, _<_}
+use native.Mathlib.Numerals.{add-one}
+use native.Mathlib.Decide.{ℕ-discrete}
+use native.Mathlib.Omega.{arith}
+use lib.ListN.{length, getD}
+use Rattle.picture.specs.Pictures.{Picture, valueAt}
+use Rattle.picture.specs.Geometry.{neighboursIn, Placed}
+use Rattle.lists.proofs.Tests.{clash}
+use Rattle.topology.proofs.Accepted.{Accepted}
+use Rattle.tree_laws.proofs.Levels.{Upto}
+use Rattle.tree_laws.proofs.Forests.{Found, Parents, forest-parents}
+use Rattle.tree_laws.proofs.Marks.{Names}
+use Rattle.tree_laws.proofs.Absorbing.{Near, near-start, near-end}
+use Rattle.tree_laws.proofs.Checks.{Differs, Checking, NearBy, LookReady, Looked}
+
+-- x is joined to the first i of its neighbours
+pub record Looking (p : Picture) (k x i r : ℕ) (l fs m : List ℕ) : Type 0 where
+  pub ok : Accepted p
+  pub most : i ≤ length (neighboursIn p x)
+  pub by-near : NearBy p k x i r l fs m
+
+-- what the check of a pixel, or of all before x, leaves
+pub record Passed (p : Picture) (k x : ℕ) (l fs m : List ℕ) (b : Bool) : Type 0 where
+  pub yes : b ≡ true → Checking p k x l fs m
+  pub never : b ≡ false → Differs p fs m
+
+pub names-more : {n m s : ℕ} → n ≤ m → Names n s → Names m s
+names-more h a = record { root = a .root; node = λ b. let q = a .node b in omega arith }
+
+pub passed-yes : (p : Picture) (k x : ℕ) (l fs m : List ℕ) → Checking p k x l fs m → Passed p k x l fs m true
+passed-yes p k x l fs m c = record { yes = λ e. c; never = λ e. absurd (clash refl e) }
+
+pub passed-not : (p : Picture) (k x : ℕ) (l fs m : List ℕ) → Differs p fs m → Passed p k x l fs m false
+passed-not p k x l fs m d = record { yes = λ e. absurd (clash e refl); never = λ e. d }
+
+module _ (p : Picture) (k x : ℕ) where
+  pub checking-placed : (l fs m : List ℕ) → Checking p k x l fs m → x < length l → Placed (p .width) (p .height) x
+  checking-placed l fs m c b =
+      record { some = c .ok .wide; wide = c .ok .narrow; high = c .ok .short; inside = let e = c .classes .size in omega arith }
+
+  pub checking-parents : (l fs m : List ℕ) → Checking p k x l fs m → Parents l
+  checking-parents l fs m c = forest-parents (c .classes .forest)
+
+  pub look-start : (r : ℕ) (l o fs m : List ℕ) → Checking p k x l fs m → x < length l → valueAt p x ≡ k → Found l x r o → Looking p k x 0 r o fs m
+  look-start r l o fs m c b v f =
+      record {
+        ok = c .ok;
+        most = omega arith;
+        by-near =
+            record {
+              fa = c .fa;
+              near = near-start p (c .ok) k x r l o (c .fa) (c .classes) (let e = c .classes .size in omega arith) v f;
+              agree = c .agree;
+            };
+      }
+
+  module _ (i r y : ℕ) (l fs m : List ℕ) (a : Looking p k x i r l fs m) (b : i < length (neighboursIn p x)) (e : y ≡ getD (neighboursIn p x) i 0) where
+    pub look-ready : LookReady (p .pixels) k x r y l fs m
+    look-ready =
+        record { p = p; j = i; ok = a .ok; is = refl; edge = record { listed = b; is = e }; near = a .by-near }
+
+    module _ (q : ℕ) (o : List ℕ) (s : Looked (p .pixels) k x r y l fs m q o) where
+      pub look-turn : q < length o → Looking p k x (i + 1) q o fs m
+      look-turn h =
+          let z = s .size in
+          record {
+            ok = a .ok;
+            most = omega arith;
+            by-near =
+                subst (λ (j : ℕ). NearBy p k x j q o fs m) (sym (add-one i))
+                (s .near p i (a .ok) refl (record { listed = b; is = e }) (a .by-near) (omega arith));
+          }
+
+      pub look-differs : length o ≤ q → Differs p fs m
+      look-differs h =
+          let z = s .size in s .differs p i (a .ok) refl (record { listed = b; is = e }) (a .by-near) (omega arith)
+
+  pub look-end : (i r : ℕ) (l fs m : List ℕ) → Looking p k x i r l fs m → length (neighboursIn p x) ≤ i → Checking p k (x + 1) l fs m
+  look-end i r l fs m a h =
+      let n = a .by-near in
+      let g = a .most in
+      let all : i ≡ length (neighboursIn p x) = omega arith in
+      subst (λ (z : ℕ). Checking p k z l fs m) (sym (add-one x))
+      (record {
+        ok = a .ok;
+        fa = n .fa;
+        classes = near-end p (a .ok) k x r l (n .fa) (subst (λ (j : ℕ). Near p k x j r l (n .fa)) all (n .near));
+        agree = n .agree;
+      })
+
+  -- a pixel of another value
+  pub look-pass : (l fs m : List ℕ) → Checking p k x l fs m → valueAt p x ≢ k → Checking p k (x + 1) l fs m
+  look-pass l fs m c d =
+      let s = c .classes in
+      subst (λ (z : ℕ). Checking p k z l fs m) (sym (add-one x))
+      (record {
+        ok = c .ok;
+        fa = c .fa;
+        classes =
+            record {
+              root = s .root;
+              st = s .st;
+              size = s .size;
+              forest = s .forest;
+              level = s .level;
+              edges = record { same = λ y z u v t. s .edges .same y z (back y u) (back z v) t };
+            };
+        agree = c .agree;
+      })
+    where
+      back : (y : ℕ) → Upto p k (suc x) y → Upto p k x y
+      back y u =
+          record {
+            within = u .within;
+            passed =
+                ⊎-elim (λ h. inl h)
+                (λ h.
+                let g = h .1 in
+                by-cases (ℕ-discrete y x) (λ e. absurd (d (ap (valueAt p) (sym e) ∙ h .0))) (λ e. inr (h .0, omega arith)))
+                (u .passed);
+          }

@@ -1,0 +1,355 @@
+-- The walks that number the listed roots of a height and map its pixels; what holds between two heights.
+use mathlib.Core.Path.{_≡_, refl, sym, ap, subst, _∙_}
+use mathlib.Core.Logic.{inl, inr, ⊎-elim, by-cases, _≢_}
+use mathlib.Core.List.{List}
+use Prim.Native.Nat.{ℕ, suc, _+_, _-_, _*_, _≤_, _<_}
+use native.Mathlib.Numerals.{add-one}
+use native.Mathlib.Decide.{ℕ-discrete, decLt}
+use native.Mathlib.Omega.{arith}
+use lib.ListN.{length, getD, set, length-set}
+use lib.Seq.{getD-set-same, getD-set-other}
+use Rattle.picture.specs.Pictures.{Picture, places, valueAt}
+use Rattle.picture.specs.Trees.{nodes, mapOf}
+use Rattle.topology.proofs.Accepted.{Accepted, places-bound}
+use Rattle.topology.proofs.Nodes.{nodes-few}
+use Rattle.topology.proofs.Descent.{under, map-under}
+use Rattle.tree_laws.proofs.Levels.{Level, Upto}
+use Rattle.tree_laws.proofs.Counts.{soFar, so-few}
+use Rattle.tree_laws.proofs.Forests.{Forest, Found, Block, block-set, Parents, forest-parents}
+use Rattle.tree_laws.proofs.Absorbing.{Classes}
+use Rattle.tree_laws.proofs.Chains.{fathersIn, mapIn, Next, After, Threads, upto-skip, classes-skip}
+use Rattle.tree_laws.proofs.Walks.{Ready}
+use Rattle.tree_laws.proofs.Listing.{firstsIn, NodesIn, Listing, level-fathers, list-start}
+use Rattle.tree_laws.proofs.ListWalks.{ListFrom, ListReady}
+use Rattle.tree_laws.proofs.Naming.{Naming, Mapping, naming-start, naming-turn, naming-few, naming-end}
+
+-- the heights below k are done: c nodes, their heights, first places and entries of fathers, the map below, the chains above
+pub record Between (p : Picture) (k c : ℕ) (l w : List ℕ) : Type 0 where
+  pub ok : Accepted p
+  pub room : length w ≡ 4 * places p
+  pub count : c ≡ soFar p k
+  pub nodes : NodesIn p c w
+  pub classes : Classes p k 0 l (fathersIn p w)
+  pub threads : Threads p k 0 (mapIn p w)
+
+-- some picture's list is whole
+pub record NameReady (k c d : ℕ) (l w : List ℕ) : Type 0 where
+  pub p : Picture
+  pub listing : Listing p k c d (places p) l w
+
+-- the root listed at i has its number
+pub record NamedOne (k i : ℕ) (l w m v : List ℕ) : Type 0 where
+  pub cells : m ≡ set l (getD w (3 * length l + i) 0) (2048 + i)
+  pub work : v ≡ set (set w i k) (length l + i) 65535
+
+pub record NameWalk (k c d i : ℕ) (l w m v : List ℕ) : Type 0 where
+  pub from : c ≤ i
+  pub most : i ≤ d
+  pub size : length m ≡ length l
+  pub same : length v ≡ length w
+  pub naming : (p : Picture) → Listing p k c d (places p) l w → Naming p k c d i m w v
+
+-- what the step asks
+pub record NameBounds (i : ℕ) (l w : List ℕ) : Type 0 where
+  pub few : length l ≤ 1600
+  pub within : i < length l
+  pub room : length w ≡ 4 * length l
+  pub root : getD w (3 * length l + i) 0 < length l
+
+pub name-start : (k c d : ℕ) (l w : List ℕ) → NameReady k c d l w → NameWalk k c d c l w l w
+name-start k c d l w r =
+    record {
+      from = omega arith;
+      most = r .listing .order;
+      size = refl;
+      same = refl;
+      naming = λ p s. naming-start p k c d (places p) l w s (omega arith);
+    }
+
+pub name-bounds : (k c d i : ℕ) (l w m v : List ℕ) → NameReady k c d l w → NameWalk k c d i l w m v → i < d → NameBounds i m v
+name-bounds k c d i l w m v r s h = by (r .p) (s .naming (r .p) (r .listing))
+  where
+    by : (p : Picture) → Naming p k c d i m w v → NameBounds i m v
+    by p n =
+        let few = naming-few p k c d i m w v n in
+        let a = places-bound p (n .ok) in
+        let e = n .size in
+        let z = n .room in
+        let f = n .listed .place i (s .from) h .within in
+        let q = n .rest (3 * places p + i) (λ t. omega arith) (λ t. omega arith) in
+        let at : getD v (3 * length m + i) 0 ≡ getD v (3 * places p + i) 0 = ap (λ (t : ℕ). getD v (3 * t + i) 0) e in
+        record { few = omega arith; within = omega arith; room = omega arith; root = omega arith }
+
+pub name-turn : (k c d i : ℕ) (l w m v o u : List ℕ) → NameWalk k c d i l w m v → i < d → NamedOne k i m v o u → NameWalk k c d (i + 1) l w o u
+name-turn k c d i l w m v o u s h t =
+    let f = s .from in
+    record {
+      from = omega arith;
+      most = omega arith;
+      size = ap length (t .cells) ∙ (length-set m (getD v (3 * length m + i) 0) (2048 + i) ∙ s .size);
+      same = ap length (t .work) ∙ (length-set (set v i k) (length m + i) 65535 ∙ (length-set v i k ∙ s .same));
+      naming =
+          λ p g.
+          let n = s .naming p g in
+          let at : getD v (3 * length m + i) 0 ≡ firstsIn p v i = ap (λ (z : ℕ). getD v (3 * z + i) 0) (n .size) in
+          subst (λ (a : List ℕ). Naming p k c d (i + 1) a w u) (sym (t .cells))
+          (subst (λ (a : List ℕ). Naming p k c d (i + 1) (set m (getD v (3 * length m + i) 0) (2048 + i)) w a) (sym (t .work))
+          (subst
+          (λ (z : ℕ). Naming p k c d (i + 1) (set m (getD v (3 * length m + i) 0) (2048 + i)) w (set (set v i k) (z + i) 65535))
+          (sym (n .size))
+          (naming-turn p k c d i (getD v (3 * length m + i) 0) m w v n (s .from) h at)));
+    }
+
+-- the pixels of the height before x are mapped; x is the next, or beyond the picture
+pub record MapFrom (p : Picture) (k d x : ℕ) (l w : List ℕ) : Type 0 where
+  pub mapping : Mapping p k d x l w
+  pub is : x < places p → valueAt p x ≡ k
+
+pub record MapReady (x : ℕ) (l w : List ℕ) : Type 0 where
+  pub p : Picture
+  pub k : ℕ
+  pub d : ℕ
+  pub from : MapFrom p k d x l w
+
+-- the pixel x gets the node that its root r says, and q is the next pixel
+pub record MappedOne (x q : ℕ) (l w m v : List ℕ) : Type 0 where
+  pub r : ℕ
+  pub found : Found l x r m
+  pub work : v ≡ set w (2 * length l + x) (getD m r 0 - 2048)
+  pub next : q ≡ getD w (2 * length l + x) 0
+
+pub record MapWalk (x : ℕ) (l w : List ℕ) (y : ℕ) (m v : List ℕ) : Type 0 where
+  pub size : length m ≡ length l
+  pub same : length v ≡ length w
+  pub from : (p : Picture) (k d : ℕ) → MapFrom p k d x l w → MapFrom p k d y m v
+
+pub map-none : (x : ℕ) (l w : List ℕ) → MapWalk x l w x l w
+map-none x l w = record { size = refl; same = refl; from = λ p k d s. s }
+
+pub map-ready : (x y : ℕ) (l w m v : List ℕ) → MapReady x l w → MapWalk x l w y m v → MapReady y m v
+map-ready x y l w m v r s = record { p = r .p; k = r .k; d = r .d; from = s .from (r .p) (r .k) (r .d) (r .from) }
+
+pub map-parents : (x : ℕ) (l w : List ℕ) → MapReady x l w → Parents l
+map-parents x l w r = forest-parents (r .from .mapping .forest)
+
+pub map-bounds : (x : ℕ) (l w : List ℕ) → MapReady x l w → length w ≡ 4 * length l
+map-bounds x l w r = let a = r .from .mapping .room in let b = r .from .mapping .size in omega arith
+
+module _ (p : Picture) (k d x q : ℕ) (l w m v : List ℕ) (s : MapFrom p k d x l w) (b : x < places p) (t : MappedOne x q l w m v) where
+  abbrev g : Mapping p k d x l w
+  g = s .mapping
+
+  value : valueAt p x ≡ k
+  value = s .is b
+
+  at : 2 * length l + x ≡ 2 * places p + x
+  at = let e = g .size in omega arith
+
+  next : Next p k (suc x) q
+  next =
+      subst (λ (z : ℕ). Next p k (suc x) z) (sym (t .next ∙ ap (λ (z : ℕ). getD w z 0) at))
+      (subst (λ (j : ℕ). Next p j (suc x) (mapIn p w x)) value
+      (g .threads .linked x (record { within = b; later = inr (value, omega arith) })))
+
+  work : v ≡ set w (2 * places p + x) (getD m (t .r) 0 - 2048)
+  work = t .work ∙ ap (λ (z : ℕ). set w z (getD m (t .r) 0 - 2048)) at
+
+  room : 2 * places p + x < length w
+  room = let e = g .room in omega (arith, b)
+
+  forest : Forest m (g .root) (g .st)
+  forest = t .found .keeps (g .root) (g .st) (g .forest)
+
+  says-x : getD m (t .r) 0 - 2048 ≡ mapOf p x
+  says-x =
+      let f = t .found in
+      let r = f .is (g .root) (g .st) (g .forest) in
+      let a = forest .state (t .r) (let z = f .size in let y = f .within in omega arith) (f .top) in
+      let c = g .says x (record { within = b; low = let z = value in omega arith }) in
+      let e = ap (g .st) r in
+      let h : mapOf p x ≡ under p k x = map-under p x ∙ ap (λ (j : ℕ). under p j x) value in
+      omega arith
+
+  mapped-x : mapIn p v x ≡ mapOf p x
+  mapped-x =
+      ap (λ (a : List ℕ). getD a (2 * places p + x) 0) work ∙
+      (getD-set-same w (2 * places p + x) (getD m (t .r) 0 - 2048) 0 room ∙ says-x)
+
+  block : Block (places p) (2 * places p) w v
+  block = subst (Block (places p) (2 * places p) w) (sym work) (block-set (places p) (2 * places p) w x (getD m (t .r) 0 - 2048) b)
+
+  mapped-other : (y : ℕ) → y ≢ x → mapIn p v y ≡ mapIn p w y
+  mapped-other y e =
+      ap (λ (a : List ℕ). getD a (2 * places p + y) 0) work ∙
+      getD-set-other w (2 * places p + x) (2 * places p + y) (getD m (t .r) 0 - 2048) 0 (λ z. e (omega arith))
+
+  pub map-rises : x < q
+  map-rises = let f = next .from in omega arith
+
+  pub map-turn : MapFrom p k d q m v
+  map-turn =
+      let few = so-few-of in
+      record {
+        mapping =
+            record {
+              ok = g .ok;
+              room = block .size ∙ g .room;
+              count = g .count;
+              nodes =
+                  record {
+                    heights = λ i h. block .other i (inl (omega (arith, few))) ∙ g .nodes .heights i h;
+                    firsts = λ i h. block .other (3 * places p + i) (inr (omega arith)) ∙ g .nodes .firsts i h;
+                  };
+              root = g .root;
+              st = g .st;
+              size = t .found .size ∙ g .size;
+              forest = forest;
+              level =
+                  level-fathers p (suc k) d (g .root) (g .st) (fathersIn p w) (fathersIn p v) (g .level)
+                  (λ i h. block .other (places p + i) (inl (omega (arith, few))));
+              edges = g .edges;
+              says = g .says;
+              threads = record { mapped = mapped; linked = linked };
+            };
+        is = next .is;
+      }
+    where
+      so-few-of : d ≤ places p
+      so-few-of = let a = g .level .few in let c = nodes-few p in omega arith
+
+      mapped : (y : ℕ) → Upto p k q y → mapIn p v y ≡ mapOf p y
+      mapped y u =
+          by-cases (ℕ-discrete y x)
+          (λ e. subst (λ (z : ℕ). mapIn p v z ≡ mapOf p z) (sym e) mapped-x)
+          (λ e.
+          mapped-other y e ∙
+          g .threads .mapped y
+          (let z = upto-skip p k (suc x) q y next u in
+          record { within = z .within; passed = ⊎-elim (λ h. inl h) (λ h. let i = h .1 in inr (h .0, omega arith)) (z .passed) }))
+
+      linked : (y : ℕ) → After p k q y → Next p (valueAt p y) (suc y) (mapIn p v y)
+      linked y a =
+          let rises = map-rises in
+          let e : y ≢ x = λ z. ⊎-elim (λ h. let i = ap (valueAt p) z in omega (arith, value)) (λ h. let i = h .1 in omega arith) (a .later) in
+          subst (λ (z : ℕ). Next p (valueAt p y) (suc y) z) (sym (mapped-other y e))
+          (g .threads .linked y
+          (record { within = a .within; later = ⊎-elim (λ h. inl h) (λ h. let i = h .1 in inr (h .0, omega arith)) (a .later) }))
+
+pub map-more : (x y q : ℕ) (l w m v o u : List ℕ) → MapWalk x l w y m v → y < length m → MappedOne y q m v o u → MapWalk x l w q o u
+map-more x y q l w m v o u s b t =
+    record {
+      size = t .found .size ∙ s .size;
+      same = ap length (t .work) ∙ (length-set v (2 * length m + y) (getD o (t .r) 0 - 2048) ∙ s .same);
+      from =
+          λ p k d a.
+          let g = s .from p k d a in
+          map-turn p k d y q m v o u g (let e = g .mapping .size in omega arith) t;
+    }
+
+pub map-less : (y q : ℕ) (m v o u : List ℕ) → MapReady y m v → y < length m → MappedOne y q m v o u → y < q
+map-less y q m v o u r b t =
+    map-rises (r .p) (r .k) (r .d) y q m v o u (r .from) (let e = r .from .mapping .size in omega arith) t
+
+-- the whole chain is mapped: on to the next height
+pub map-end : (p : Picture) (k d x : ℕ) (l w : List ℕ) → MapFrom p k d x l w → places p ≤ x → Between p (suc k) d l w
+map-end p k d x l w s h =
+    let g = s .mapping in
+    record {
+      ok = g .ok;
+      room = g .room;
+      count = g .count;
+      nodes = g .nodes;
+      classes =
+          record {
+            root = g .root;
+            st = g .st;
+            size = g .size;
+            forest = g .forest;
+            level = subst (λ (j : ℕ). Level p (suc k) j (g .root) (g .st) (fathersIn p w)) (g .count) (g .level);
+            edges = g .edges;
+          };
+      threads =
+          record {
+            mapped =
+                λ y u.
+                let b = u .within in
+                g .threads .mapped y
+                (record {
+                  within = b;
+                  passed =
+                      ⊎-elim
+                      (λ i. by-cases (decLt (valueAt p y) k) (λ j. inl j) (λ j. inr (omega arith, omega arith)))
+                      (λ i. absurd (let z = i .1 in omega arith))
+                      (u .passed);
+                });
+            linked =
+                λ y a.
+                g .threads .linked y
+                (record { within = a .within; later = inl (⊎-elim (λ i. omega arith) (λ i. let z = i .0 in omega arith) (a .later)) });
+          };
+    }
+
+-- the start of a height
+pub between-ready : (p : Picture) (k c x : ℕ) (l w : List ℕ) → Between p k c l w → Next p k 0 x → Ready p k x l w
+between-ready p k c x l w b n =
+    record {
+      ok = b .ok;
+      room = b .room;
+      classes = classes-skip p k 0 x l (fathersIn p w) n (b .classes);
+      threads = b .threads;
+      is = n .is;
+    }
+
+-- after the height's pixels have joined, the list begins
+pub between-list :
+    (p : Picture) (k c x : ℕ) (l w m v : List ℕ) → k ≤ 255 → Between p k c l w → Next p k 0 x → Ready p k (places p) m v → Block (places p) (places p) w v →
+    ListFrom p k c c x m v
+between-list p k c x l w m v low b n r block =
+    let e = b .count in
+    let a = so-few p k (omega arith) in
+    let h = nodes-few p in
+    record {
+      listing =
+          list-start p k c x m v r low (b .count)
+          (record {
+            heights = λ i g. block .other i (inl (omega arith)) ∙ b .nodes .heights i g;
+            firsts = λ i g. block .other (3 * places p + i) (inr (omega arith)) ∙ b .nodes .firsts i g;
+          })
+          n;
+      is = n .is;
+    }
+
+-- the pixels of a chain are mapped
+pub record MapWhole (x : ℕ) (l w m v : List ℕ) : Type 0 where
+  pub between : (p : Picture) (k d : ℕ) → MapFrom p k d x l w → Between p (k + 1) d m v
+
+pub map-whole : (x y : ℕ) (l w m v : List ℕ) → MapWalk x l w y m v → length m ≤ y → MapWhole x l w m v
+map-whole x y l w m v s h =
+    record {
+      between =
+          λ p k d a.
+          let g = s .from p k d a in
+          subst (λ (j : ℕ). Between p j d m v) (sym (add-one k))
+          (map-end p k d y m v g (let e = g .mapping .size in omega arith));
+    }
+
+-- the list of a height is numbered: the map begins
+pub name-map :
+    (p : Picture) (k c d x : ℕ) (l w m v : List ℕ) → Listing p k c d (places p) l w → NameWalk k c d d l w m v → Next p k 0 x → MapFrom p k d x m v
+name-map p k c d x l w m v s n h = record { mapping = naming-end p k c d x m w v (n .naming p s) h; is = h .is }
+
+pub list-ready : {p : Picture} {k c d x : ℕ} {l w : List ℕ} → ListFrom p k c d x l w → ListReady c d x l w
+list-ready {p} {k} s = record { p = p; k = k; from = s }
+
+pub name-ready : {p : Picture} {k c d x : ℕ} {l w : List ℕ} → Listing p k c d x l w → x ≡ places p → NameReady k c d l w
+name-ready {p} {k} {c} {d} {x} {l} {w} s e = record { p = p; listing = subst (λ (y : ℕ). Listing p k c d y l w) e s }
+
+pub map-from-ready : {p : Picture} {k d x : ℕ} {l w : List ℕ} → MapFrom p k d x l w → MapReady x l w
+map-from-ready {p} {k} {d} s = record { p = p; k = k; d = d; from = s }
+
+pub name-end : (k c d i : ℕ) (l w m v : List ℕ) → NameWalk k c d i l w m v → d ≤ i → NameWalk k c d d l w m v
+name-end k c d i l w m v s h =
+    let a = s .most in subst (λ (j : ℕ). NameWalk k c d j l w m v) (let e : i ≡ d = omega arith in e) s
+
+pub between-same : (p : Picture) (j k c : ℕ) (l w : List ℕ) → Between p j c l w → j ≡ k → Between p k c l w
+between-same p j k c l w b e = subst (λ (i : ℕ). Between p i c l w) e b

@@ -1,0 +1,96 @@
+-- What a link writes: the state of the joined class, and the pixel as the entry of the fathers of the nodes that met.
+use mathlib.Core.Path.{_≡_, refl, sym, ap, subst, _∙_}
+use mathlib.Core.Logic.{⊎-elim, by-cases, _≢_}
+use mathlib.Core.List.{List}
+use Prim.Native.Nat.{ℕ, _+_, _-_, _*_, _≤_, _<_}
+use native.Mathlib.Decide.{ℕ-discrete}
+use native.Mathlib.Omega.{arith}
+use lib.ListN.{length, getD, set}
+use lib.Seq.{getD-set-same, getD-set-other}
+use Rattle.tree_laws.proofs.Levels.{Merged, left, right, both}
+use Rattle.tree_laws.proofs.Forests.{Block, block-same, block-then, block-set}
+
+-- a state: one of the two marks, or the name of a node below n
+pub record Names (n s : ℕ) : Type 0 where
+  pub root : 2048 ≤ s
+  pub node : s < 65534 → s < 2048 + n
+
+-- x at the entry of the node that the state names, in the block of n cells from n on
+pub record Marked (n s x : ℕ) (w v : List ℕ) : Type 0 where
+  pub block : Block n n w v
+  pub hit : (i : ℕ) → i < n → s ≡ 2048 + i → s < 65534 → getD v (n + i) 0 ≡ x
+  pub miss : (i : ℕ) → s ≢ 2048 + i → getD v (n + i) 0 ≡ getD w (n + i) 0
+
+pub record MergedIn (n x a b s : ℕ) (w v : List ℕ) : Type 0 where
+  pub block : Block n n w v
+  pub root : 2048 ≤ s
+  pub merged : n ≤ 1600 → Merged x a b s (λ i. getD w (n + i) 0) (λ i. getD v (n + i) 0)
+
+-- the class of hi hung below lo
+pub record LinkedIn (x lo hi : ℕ) (l m w v : List ℕ) : Type 0 where
+  pub state : ℕ
+  pub root : 2048 ≤ state
+  pub block : Block (length l) (length l) w v
+  pub cells : m ≡ set (set l hi lo) lo state
+  pub merged :
+      (n : ℕ) → n ≡ length l → Merged x (getD l lo 0) (getD l hi 0) state (λ i. getD w (n + i) 0) (λ i. getD v (n + i) 0)
+
+pub mark-none : (n s x : ℕ) (w : List ℕ) → 65534 ≤ s → Marked n s x w w
+mark-none n s x w h =
+    record { block = block-same n n w; hit = λ i b e g. absurd (omega arith); miss = λ i d. refl }
+
+pub mark-some : (n s x t : ℕ) (w : List ℕ) → t ≡ s → Names n s → s < 65534 → 2 * n ≤ length w → Marked n s x w (set w (n + (t - 2048)) x)
+mark-some n s x t w e h b room =
+    let r = h .root in
+    let q = h .node b in
+    record {
+      block = block-set n n w (t - 2048) x (omega arith);
+      hit =
+          λ i c g k.
+          let at : n + i ≡ n + (t - 2048) = omega arith in
+          ap (λ (j : ℕ). getD (set w (n + (t - 2048)) x) j 0) at ∙
+          getD-set-same w (n + (t - 2048)) x 0 (omega arith);
+      miss = λ i d. getD-set-other w (n + (t - 2048)) (n + i) x 0 (λ g. d (omega arith));
+    }
+
+pub merge-left : (n x a b : ℕ) (w : List ℕ) → Names n b → a ≡ 65535 → MergedIn n x a b b w w
+merge-left n x a b w h e =
+    record { block = block-same n n w; root = h .root; merged = λ g. left e refl (λ i c. refl) }
+
+pub merge-right : (n x a b : ℕ) (w : List ℕ) → Names n a → b ≡ 65535 → MergedIn n x a b a w w
+merge-right n x a b w h e =
+    record { block = block-same n n w; root = h .root; merged = λ g. right e refl (λ i c. refl) }
+
+pub merge-both :
+    (n x a b : ℕ) (w u v : List ℕ) → Names n a → Names n b → a ≢ 65535 → b ≢ 65535 → Marked n a x w u → Marked n b x u v →
+    MergedIn n x a b 65534 w v
+merge-both n x a b w u v ha hb da db p q =
+    record {
+      block = block-then n n w u v (p .block) (q .block);
+      root = omega arith;
+      merged =
+          λ few.
+          both da db refl
+          (λ i c e.
+          by-cases (ℕ-discrete b (2048 + i))
+          (λ g. let k = hb .node (omega arith) in q .hit i (omega arith) g (omega arith))
+          (λ d.
+          q .miss i d ∙
+          ⊎-elim (λ g. let k = ha .node (omega arith) in p .hit i (omega arith) g (omega arith)) (λ g. absurd (d g)) e))
+          (λ i c d e. q .miss i e ∙ p .miss i d);
+    }
+
+pub link-in :
+    (x lo hi s : ℕ) (l w v : List ℕ) → length l ≤ 1600 → MergedIn (length l) x (getD l lo 0) (getD l hi 0) s w v →
+    LinkedIn x lo hi l (set (set l hi lo) lo s) w v
+link-in x lo hi s l w v few m =
+    record {
+      state = s;
+      root = m .root;
+      block = m .block;
+      cells = refl;
+      merged =
+          λ n e.
+          subst (λ (b : ℕ). Merged x (getD l lo 0) (getD l hi 0) s (λ i. getD w (b + i) 0) (λ i. getD v (b + i) 0)) (sym e)
+          (m .merged few);
+    }

@@ -1,0 +1,153 @@
+-- The walk along the chain of one height: each of its pixels joins the classes.
+use mathlib.Core.Path.{_≡_, refl, sym, ap, subst, _∙_}
+use mathlib.Core.Logic.{_⊎_, inl, inr, ⊎-elim}
+use mathlib.Core.List.{List}
+use Prim.Native.Nat.{ℕ, suc, _+_, _*_, _≤_, _<_}
+use native.Mathlib.Numerals.{add-one}
+use native.Mathlib.Omega.{arith}
+use lib.ListN.{length, getD, drop, List·getD-append}
+use Rattle.picture.specs.Pictures.{Picture, places, valueAt}
+use Rattle.picture.specs.Geometry.{neighboursIn, Placed, Listed}
+use Rattle.topology.proofs.Accepted.{Accepted}
+use Rattle.tree_laws.proofs.Levels.{Upto}
+use Rattle.tree_laws.proofs.Forests.{Found, Block, block-same, block-then, Parents, forest-parents}
+use Rattle.tree_laws.proofs.Absorbing.{Classes, Near, near-start, near-end}
+use Rattle.tree_laws.proofs.Chains.{fathersIn, mapIn, Next, Threads, classes-skip, EdgeReady, EdgeDone}
+
+-- the pixels of height k before x have joined the classes; x is the next one, or beyond the picture
+pub record Ready (p : Picture) (k x : ℕ) (l w : List ℕ) : Type 0 where
+  pub ok : Accepted p
+  pub room : length w ≡ 4 * places p
+  pub classes : Classes p k x l (fathersIn p w)
+  pub threads : Threads p k 0 (mapIn p w)
+  pub is : x < places p → valueAt p x ≡ k
+
+-- one pixel further
+pub record Absorbed (p : Picture) (k x r : ℕ) (m w v : List ℕ) : Type 0 where
+  pub ready : Ready p k r m v
+  pub more : x < r
+  pub block : Block (places p) (places p) w v
+
+-- the pixel x is joined to the first i of its neighbours
+pub record Joining (p : Picture) (k x i r : ℕ) (l w v : List ℕ) : Type 0 where
+  pub ok : Accepted p
+  pub room : length v ≡ 4 * places p
+  pub most : i ≤ length (neighboursIn p x)
+  pub near : Near p k x i r l (fathersIn p v)
+  pub block : Block (places p) (places p) w v
+
+pub ready-parents : {p : Picture} {k x : ℕ} {l w : List ℕ} → Ready p k x l w → Parents l
+ready-parents r = forest-parents (r .classes .forest)
+
+pub threads-block : (p : Picture) (k x b : ℕ) (w v : List ℕ) → Threads p k x (mapIn p w) → Block (places p) b w v → (b + places p ≤ 2 * places p) ⊎ (3 * places p ≤ b) → Threads p k x (mapIn p v)
+threads-block p k x b w v t k′ o =
+    record {
+      mapped = λ y u. same y (u .within) ∙ t .mapped y u;
+      linked = λ y a. subst (λ (z : ℕ). Next p (valueAt p y) (suc y) z) (sym (same y (a .within))) (t .linked y a);
+    }
+  where
+    same : (y : ℕ) → y < places p → getD v (2 * places p + y) 0 ≡ getD w (2 * places p + y) 0
+    same y h = k′ .other (2 * places p + y) (⊎-elim (λ a. inr (omega arith)) (λ a. inl (omega arith)) o)
+
+module _ (p : Picture) (k x : ℕ) where
+  pub joining-start : (r : ℕ) (l m w : List ℕ) → Ready p k x l w → x < places p → Found l x r m → Joining p k x 0 r m w w
+  joining-start r l m w a b f =
+      record {
+        ok = a .ok;
+        room = a .room;
+        most = omega arith;
+        near = near-start p (a .ok) k x r l m (fathersIn p w) (a .classes) b (a .is b) f;
+        block = block-same (places p) (places p) w;
+      }
+
+  pub edge-ready : (i r y : ℕ) (l w v : List ℕ) → Joining p k x i r l w v → i < length (neighboursIn p x) → y ≡ getD (neighboursIn p x) i 0 → EdgeReady (p .pixels) k x r y l v
+  edge-ready i r y l w v a b e =
+      record {
+        p = p;
+        j = i;
+        ok = a .ok;
+        room = a .room;
+        is = refl;
+        edge = record { listed = b; is = e };
+        near = a .near;
+      }
+
+  pub joining-turn :
+      (i r y q : ℕ) (l m w v u : List ℕ) → Joining p k x i r l w v → i < length (neighboursIn p x) → y ≡ getD (neighboursIn p x) i 0 →
+      EdgeDone (p .pixels) k x r y l v q m u → Joining p k x (i + 1) q m w u
+  joining-turn i r y q l m w v u a b e d =
+      let block = subst (λ (n : ℕ). Block n n v u) (a .near .size) (d .block) in
+      record {
+        ok = a .ok;
+        room = block .size ∙ a .room;
+        most = omega arith;
+        near =
+            subst (λ (j : ℕ). Near p k x j q m (fathersIn p u)) (sym (add-one i))
+            (d .near p i (a .ok) refl (record { listed = b; is = e }) (a .near));
+        block = block-then (places p) (places p) w v u (a .block) block;
+      }
+
+  pub joining-end :
+      (i r q : ℕ) (l w v o : List ℕ) → Joining p k x i r l w v → length (neighboursIn p x) ≤ i → Ready p k x o w →
+      q ≡ getD v (2 * places p + x) 0 → Absorbed p k x q l w v
+  joining-end i r q l w v o a b s e =
+      let t = threads-block p k 0 (places p) w v (s .threads) (a .block) (inl (omega arith)) in
+      let n = a .near in
+      let next =
+      subst (λ (z : ℕ). Next p k (suc x) z) (sym e)
+      (subst (λ (j : ℕ). Next p j (suc x) (getD v (2 * places p + x) 0)) (n .value)
+      (t .linked x (record { within = n .within; later = inr (n .value, omega arith) })))
+      in
+      let m = a .most in
+      let all : i ≡ length (neighboursIn p x) = omega arith in
+      record {
+        ready =
+            record {
+              ok = a .ok;
+              room = a .room;
+              classes =
+                  classes-skip p k (suc x) q l (fathersIn p v) next
+                  (near-end p (a .ok) k x r l (fathersIn p v) (subst (λ (j : ℕ). Near p k x j r l (fathersIn p v)) all n));
+              threads = t;
+              is = next .is;
+            };
+        more = let f = next .from in omega arith;
+        block = a .block;
+      }
+
+-- a neighbour as the cells list it
+pub listed-cell : {ns cells after : List ℕ} {r : ℕ} → Listed ns cells r after → (i : ℕ) → i < r → getD after i 0 ≡ getD ns i 0
+listed-cell {ns} {cells} {after} {r} s i b =
+    ap (λ (l : List ℕ). getD l i 0) (s .whole) ∙
+    List·getD-append ns (drop r cells) 0 i (let e = s .count in omega arith)
+
+pub ready-placed : (p : Picture) (k x : ℕ) (l w : List ℕ) → Ready p k x l w → x < length l → Placed (p .width) (p .height) x
+ready-placed p k x l w r b =
+    record {
+      some = r .ok .wide;
+      wide = r .ok .narrow;
+      high = r .ok .short;
+      inside = let e = r .classes .size in omega arith;
+    }
+
+-- the chain of a height is done
+pub ready-end : (p : Picture) (k x : ℕ) (l w : List ℕ) → Ready p k x l w → places p ≤ x → Ready p k (places p) l w
+ready-end p k x l w r b =
+    record {
+      ok = r .ok;
+      room = r .room;
+      classes =
+          record {
+            root = r .classes .root;
+            st = r .classes .st;
+            size = r .classes .size;
+            forest = r .classes .forest;
+            level = r .classes .level;
+            edges = record { same = λ y z u v t. r .classes .edges .same y z (further y u) (further z v) t };
+          };
+      threads = r .threads;
+      is = λ h. absurd (omega arith);
+    }
+  where
+    further : (y : ℕ) → Upto p k (places p) y → Upto p k x y
+    further y u = record { within = u .within; passed = ⊎-elim (λ h. inl h) (λ h. let g = h .1 in inr (h .0, omega arith)) (u .passed) }

@@ -1,0 +1,1 @@
+// No code: the laws behind union_find, tree and verify, in proofs/.

@@ -1,0 +1,110 @@
+-- The run in one slice of cells: the tree in front, the winner tree behind it, which is lent and comes back.
+use mathlib.Core.Path.{_≡_, sym, ap, subst, _∙_}
+use mathlib.Core.List.{List, _++_, append-nil}
+use Prim.Native.Nat.{ℕ, _+_, _-_, _*_, _≤_, _<_}
+use native.Mathlib.Omega.{arith}
+use lib.ListN.{length, getD, take, drop, set, length-set, length-drop, drop-of-length-le}
+use lib.Seq.{take-all, take-at, drop-at, length-take-le, take-set-lt, drop-set-lt, getD-take, getD-drop}
+use borrow.Rule.Slice.PartMut.{midOf, putMid, same-len-mid}
+use Rattle.picture.specs.Pictures.{Picture, places, withPixels}
+use Rattle.topology.proofs.Accepted.{Accepted}
+use Rattle.watershed_laws.proofs.WinnerTree.{Winner}
+use Rattle.watershed_laws.proofs.WinnerSteps.{Assigned, Building, Waking}
+use Rattle.watershed_laws.proofs.Stopping.{Lowest, Stopped, Around}
+use Rattle.watershed_laws.proofs.Running.{Running, Nobody, Settling, Settled, Turning, Turned, settle-falls, settle-woken}
+use Rattle.watershed_laws.proofs.Turns.{Holds, running-start, turn-settling, turn-done}
+
+-- the cells from e on, lent and back
+module _ (l : List ℕ) (e : ℕ) where
+  lent : midOf e (length l - e) l ≡ drop e l
+  lent = take-all (length l - e) (drop e l) (omega (arith, length-drop e l))
+
+  -- what comes back lies behind, and what lies in front is as it was
+  pub back-drop : (t : List ℕ) → e ≤ length l → drop e (putMid e (length l - e) l t) ≡ t
+  back-drop t h =
+      let b : length (drop e l) ≤ length l - e = omega (arith, length-drop e l) in
+      drop-at (take e l) (t ++ drop (length l - e) (drop e l)) e (length-take-le e l h) ∙
+      (ap (λ (z : List ℕ). t ++ z) (drop-of-length-le (drop e l) b) ∙ append-nil t)
+
+  pub back-take : (t : List ℕ) → e ≤ length l → take e (putMid e (length l - e) l t) ≡ take e l
+  back-take t h = take-at (take e l) (t ++ drop (length l - e) (drop e l)) e (length-take-le e l h)
+
+module _ (f : Picture) (g l : List ℕ) where
+  abbrev e : ℕ
+  e = 3 * places f
+
+  -- the start: the winner tree is built
+  pub start-lent : length l ≡ 5 * places f → length (midOf e (length l - e) l) ≡ 2 * places f
+  start-lent size = ap length (lent l e) ∙ (length-drop e l ∙ omega arith)
+
+  pub size-back : (t : List ℕ) → length l ≡ 5 * places f → length t ≡ 2 * places f → length (putMid e (length l - e) l t) ≡ 5 * places f
+  size-back t size q = same-len-mid e (length l - e) l t (q ∙ sym (start-lent size)) ∙ size
+
+  pub start-back :
+      (t : List ℕ) → length l ≡ 5 * places f → Accepted (withPixels f g) → Holds (withPixels f g) (take e l) → Building (places f) g t 1 →
+      Running f g (take e (putMid e (length l - e) l t)) (drop e (putMid e (length l - e) l t)) Nobody
+  start-back t size ok h b =
+      let i : e ≤ length l = omega arith in
+      rw (back-take l e t i, back-drop l e t i) (running-start f g (take e l) t ok h b)
+
+  -- a turn: the winner is taken away
+  module _ (x : ℕ) (p : Turning f g (take e l) (drop e l) x) (size : length l ≡ 5 * places f) where
+    pub turn-winner : Winner (places f) g (midOf e (length l - e) l) 1 0
+    turn-winner = rw (lent l e) (p .running .winner)
+
+    assigned : (t : List ℕ) → Assigned (places f) g (midOf e (length l - e) l) x 65535 t → Assigned (places f) g (drop e l) x 65535 t
+    assigned t a = subst (λ (u : List ℕ). Assigned (places f) g u x 65535 t) (lent l e) a
+
+    pub turn-back :
+        (t : List ℕ) → Assigned (places f) g (midOf e (length l - e) l) x 65535 t →
+        Settling f g (take e (putMid e (length l - e) l t)) (drop e (putMid e (length l - e) l t)) x
+    turn-back t a =
+        let i : e ≤ length l = omega arith in
+        rw (back-take l e t i, back-drop l e t i) (turn-settling f g (take e l) (drop e l) x p t (assigned t a))
+
+    pub turn-over :
+        (t : List ℕ) → Assigned (places f) g (midOf e (length l - e) l) x 65535 t →
+        (g₁ l₁ : List ℕ) → Settled f g (drop e (putMid e (length l - e) l t)) g₁ (take e l₁) (drop e l₁) →
+        (r : ℕ) → r ≡ getD l₁ (e + 1) 0 → Turned f g (drop e l) g₁ (take e l₁) (drop e l₁) r
+    turn-over t a g₁ l₁ s r q =
+        let i : e ≤ length l = omega arith in
+        turn-done f g (take e l) (drop e l) x p t (assigned t a) g₁ (take e l₁) (drop e l₁)
+        (subst (λ (u : List ℕ). Settled f g u g₁ (take e l₁) (drop e l₁)) (back-drop l e t i) s)
+        r (q ∙ sym (getD-drop e l₁ 1 0))
+
+  -- a fall: the map's entry is stored, and neighbours are woken
+  module _ (x : ℕ) (p : Settling f g (take e l) (drop e l) x) (size : length l ≡ 5 * places f) (ys : List ℕ) (m low s : ℕ)
+      (around : Around f x ys m) (lowest : Lowest (places f) g x ys m low)
+      (stopped : Stopped (places f) g (take e l) low (getD g x 0) ys m s) (falls : s < getD g x 0) where
+    abbrev stored : List ℕ
+    stored = set l (2 * places f + x) (getD l (2 * places f + low) 0)
+
+    in-front : 2 * places f + x < e
+    in-front = let h = p .within in omega arith
+
+    stored-size : length stored ≡ 5 * places f
+    stored-size = length-set l (2 * places f + x) (getD l (2 * places f + low) 0) ∙ size
+
+    stored-lent : midOf e (length stored - e) stored ≡ drop e l
+    stored-lent = lent stored e ∙ drop-set-lt e l (2 * places f + x) (getD l (2 * places f + low) 0) in-front
+
+    stored-take : take e stored ≡ set (take e l) (2 * places f + x) (getD (take e l) (2 * places f + low) 0)
+    stored-take =
+        let h = lowest .within in
+        take-set-lt e l (2 * places f + x) (getD l (2 * places f + low) 0) in-front ∙
+        ap (λ (v : ℕ). set (take e l) (2 * places f + x) v) (sym (getD-take e l (2 * places f + low) 0 (omega arith)))
+
+    pub fall-winner : Winner (places f) (set g x s) (midOf e (length stored - e) stored) 1 0
+    fall-winner = rw stored-lent (settle-falls f g (take e l) (drop e l) x p ys m low s around lowest stopped falls .winner)
+
+    pub fall-lent : length (midOf e (length stored - e) stored) ≡ 2 * places f
+    fall-lent = ap length stored-lent ∙ p .running .leaves
+
+    pub fall-back :
+        (t : List ℕ) → Waking (places f) (set g x s) (midOf e (length stored - e) stored) s (getD g x 0) ys t m →
+        Settled f g (drop e l) (set g x s) (take e (putMid e (length stored - e) stored t)) (drop e (putMid e (length stored - e) stored t))
+    fall-back t w =
+        let i : e ≤ length stored = omega (arith, stored-size) in
+        rw (back-take stored e t i, back-drop stored e t i, stored-take)
+        (settle-woken f g (take e l) (drop e l) x p ys m low s around lowest stopped falls t
+        (subst (λ (u : List ℕ). Waking (places f) (set g x s) u s (getD g x 0) ys t m) stored-lent w))

@@ -1,0 +1,189 @@
+-- The turns of the run: it starts with every place a candidate, a turn takes the winner away and settles it, and it ends at the watershed.
+use mathlib.Core.Path.{_≡_, sym, ap, subst, _∙_}
+use mathlib.Core.Bool.{true}
+use mathlib.Core.Logic.{inl, inr, ⊎-elim, by-cases}
+use mathlib.Core.List.{List, [], _∷_}
+use Prim.Native.Nat.{ℕ, suc, _+_, _*_, _≤_, _<_}
+use native.Mathlib.Nat.{mul-le-mul}
+use native.Mathlib.Decide.{ℕ-discrete}
+use native.Mathlib.Omega.{arith}
+use lib.ListN.{length, getD, set}
+use Rattle.picture.specs.Lists.{total}
+use Rattle.picture.specs.Pictures.{Picture, places, valueAt, withPixels}
+use Rattle.picture.specs.Trees.{nodes, nodeAt, fatherOf, mapOf}
+use Rattle.picture.specs.Watersheds.{lowerable, watershed}
+use Rattle.topology.proofs.Adjacency.{Adj}
+use Rattle.topology.proofs.Accepted.{Accepted, byte-at}
+use Rattle.topology.proofs.Nodes.{nodes-few}
+use Rattle.topology.proofs.Fathers.{map-found}
+use Rattle.topology.proofs.Climb.{father-of, father-greater}
+use Rattle.topology.proofs.Water.{Leads, less, ties}
+use Rattle.watershed_laws.proofs.Oracle.{Drops}
+use Rattle.watershed_laws.proofs.TreeOracle.{tree-oracle}
+use Rattle.watershed_laws.proofs.Falls.{First, watershed-end}
+use Rattle.watershed_laws.proofs.WinnerTree.{Beats, last, less as beats-less, ties as beats-ties, winner-beats, winner-place, candidates, candidates-most, candidates-fewer}
+use Rattle.watershed_laws.proofs.WinnerSteps.{Assigned, Building}
+use Rattle.watershed_laws.proofs.Running.{Running, Nobody, nobody, Settling, Settled, Turning, Turned, measure, places-most, total-less, running-with}
+
+-- the cells hold heights, fathers and map of the tree of p
+pub record Holds (p : Picture) (tree : List ℕ) : Type 0 where
+  pub size : length tree ≡ 3 * places p
+  pub heights : (i : ℕ) → i < length (nodes p) → getD tree i 0 ≡ nodeAt p i .height
+  pub fathers : (i : ℕ) → i < length (nodes p) → getD tree (places p + i) 0 ≡ fatherOf p (nodeAt p i)
+  pub map : (x : ℕ) → x < places p → getD tree (2 * places p + x) 0 ≡ mapOf p x
+
+module _ (f : Picture) (g tree t : List ℕ) where
+  abbrev p : Picture
+  p = withPixels f g
+
+  -- at the start
+  pub running-start : Accepted p → Holds p tree → Building (places f) g t 1 → Running f g tree t Nobody
+  running-start ok h b =
+      record {
+        filled = mul-le-mul (ok .wide) (ok .tall);
+        some = ok .wide;
+        wide = ok .narrow;
+        high = ok .short;
+        size = ok .size;
+        bytes = byte-at g (ok .bytes);
+        climbs =
+            record {
+              size = h .size;
+              count = length (nodes p);
+              few = nodes-few p;
+              rises =
+                  λ i l.
+                  let e = h .fathers i (omega arith) in
+                  let c = father-of p ok i l in
+                  let d = father-greater p ok i (omega arith) c in
+                  (omega arith, omega arith);
+              mapped = λ x l. let e = h .map x l in let c = map-found p ok x l in omega arith;
+            };
+        oracle =
+            record {
+              meets =
+                  λ y z k j l q.
+                  tree-oracle p ok (λ i. getD tree i 0) (λ i. getD tree (places f + i) 0) (λ x. getD tree (2 * places f + x) 0)
+                  (h .heights) (h .fathers) (h .map) .meets y z k j l
+                  (record { node = q .node; meet = q .meet; height = q .height });
+            };
+        leaves = b .size;
+        winner = b .winner;
+        awake = λ y l e. inl (b .full y l);
+      }
+
+  module _ (run : Running f g tree t Nobody) where
+    most : places f ≤ 1600
+    most = places-most f (run .wide) (run .high)
+
+    -- at the end
+    pub running-end : getD t 1 0 ≡ 65535 → watershed (withPixels f g) ≡ withPixels f g
+    running-end e = watershed-end (withPixels f g) none
+      where
+        none : (y : ℕ) → y < places f → lowerable (withPixels f g) y ≡ true → ⊥
+        none y b l = ⊎-elim (λ q. beaten q (winner-beats (places f) g t (run .winner) y b)) (λ (n : Nobody y). nobody n) (run .awake y b l)
+          where
+            beaten : getD t (places f + y) 0 ≡ y → Beats g (getD t 1 0) (getD t (places f + y) 0) → ⊥
+            beaten q (last h) = let k = most in omega arith
+            beaten q (beats-less d h) = d e
+            beaten q (beats-ties d h i) = d e
+
+  module _ (x : ℕ) (p : Turning f g tree t x) where
+    abbrev run₁ : Running f g tree t Nobody
+    run₁ = p .running
+
+    place : (x < places f) × (getD t (places f + x) 0 ≡ x)
+    place =
+        let e = p .top in
+        let (a, b) = winner-place (places f) g t (run₁ .winner) (run₁ .filled) (λ q. p .candidate (e ∙ q)) in
+        (omega arith, subst (λ (z : ℕ). getD t (places f + z) 0 ≡ z) (sym e) b)
+
+    -- the winner is a place, and leads the lowerable ones
+    pub turn-place : x < places f
+    turn-place = place .0
+
+    leads : First (withPixels f g) x
+    unfolding First
+    leads y b l =
+        ⊎-elim
+        (λ q. before q (winner-beats (places f) g t (run₁ .winner) y b))
+        (λ (n : Nobody y). nobody n)
+        (run₁ .awake y b l)
+      where
+        before : getD t (places f + y) 0 ≡ y → Beats g (getD t 1 0) (getD t (places f + y) 0) → Leads (withPixels f g) x y
+        before q (last h) = absurd (let k = most run₁ in omega arith)
+        before q (beats-less d h) =
+            less
+            (subst (λ (z : ℕ). getD g z 0 < getD g y 0) (sym (p .top))
+            (subst (λ (z : ℕ). getD g (getD t 1 0) 0 < getD g z 0) q h))
+        before q (beats-ties d h i) =
+            let e = p .top in
+            ties
+            (subst (λ (z : ℕ). getD g z 0 ≡ getD g y 0) (sym e)
+            (subst (λ (z : ℕ). getD g (getD t 1 0) 0 ≡ getD g z 0) q h))
+            (omega arith)
+
+    -- the winner is taken away
+    pub turn-settling : (t₁ : List ℕ) → Assigned (places f) g t x 65535 t₁ → Settling f g tree t₁ x
+    turn-settling t₁ a =
+        record {
+          running =
+              running-with run₁ (a .size) (a .winner)
+              (λ y b l.
+              by-cases (ℕ-discrete y x)
+              (λ q. inr q)
+              (λ q. ⊎-elim (λ e. inl (a .other y b q ∙ e)) (λ (n : Nobody y). nobody n) (run₁ .awake y b l)));
+          within = turn-place;
+          unset = a .own;
+          first = leads;
+        }
+
+    pub turn-done :
+        (t₁ : List ℕ) → Assigned (places f) g t x 65535 t₁ →
+        (g₂ tree₂ t₂ : List ℕ) → Settled f g t₁ g₂ tree₂ t₂ →
+        (r : ℕ) → r ≡ getD t₂ 1 0 → Turned f g t g₂ tree₂ t₂ r
+    unfolding measure
+    turn-done t₁ a g₂ tree₂ t₂ q r e =
+        record {
+          running = q .running;
+          water = q .water;
+          top = e;
+          less =
+              ⊎-elim
+              (λ h. let c = candidates-most (places f) t₂ (places f) in let k = most run₁ in omega arith)
+              (λ (u, v).
+              let (inside, own) = place in
+              let c =
+              candidates-fewer (places f) t t₁ x (λ z. p .candidate (sym own ∙ z)) (a .own) (a .other) (places f) (omega arith) inside
+              in
+              let w = ap total u in
+              let z = ap (λ (l : List ℕ). candidates (places f) l (places f)) v in
+              omega arith)
+              (q .less);
+        }
+
+-- a run of c falls from the pixels xs to ys
+pub data Falls (f : Picture) (xs : List ℕ) : ℕ → List ℕ → Type 0 where
+  start : Falls f xs 0 xs
+  fall :
+      {c : ℕ} {ys : List ℕ} (x low s : ℕ) → Falls f xs c ys → length ys ≡ places f →
+      Drops (places f) (Adj f) (valueAt (withPixels f ys)) x low s → Falls f xs (suc c) (set ys x s)
+
+-- there are no more falls than the sum of the pixels
+pub falls-total : (f : Picture) (xs : List ℕ) {c : ℕ} {ys : List ℕ} → Falls f xs c ys → c + total ys ≤ total xs
+falls-total f xs start = omega arith
+falls-total f xs (fall {c = c} {ys = ys} x low s h e d) =
+    let r = falls-total f xs h in
+    let b = d .within in
+    let q = total-less ys x s (omega arith) (d .falls) in
+    omega arith
+
+total-bytes : (xs : List ℕ) → ((i : ℕ) → getD xs i 0 ≤ 255) → total xs ≤ 255 * length xs
+total-bytes [] h = omega arith
+total-bytes (x ∷ xs) h = let r = total-bytes xs (λ i. h (suc i)) in let q : x ≤ 255 = h 0 in omega arith
+
+-- at most 255 falls a pixel
+pub falls-most :
+    (f : Picture) (xs : List ℕ) {c : ℕ} {ys : List ℕ} → ((i : ℕ) → getD xs i 0 ≤ 255) → length xs ≡ places f →
+    Falls f xs c ys → c ≤ 255 * places f
+falls-most f xs b e h = let r = falls-total f xs h in let q = total-bytes xs b in omega arith

@@ -1,0 +1,1 @@
+// No code: the laws behind winner, falls and watershed, in proofs/.
