@@ -5,9 +5,7 @@ use mathlib.Core.Logic.{⊎-elim, _↔_}
 use mathlib.Core.List.{List, [], _∷_, _++_, map}
 use Prim.Native.Nat.{ℕ, suc, _≤_, _<_}
 use native.Mathlib.Omega.{arith}
-use lib.ListN.{length, getD, drop, length-map, List·getD-append}
-use lib.Seq.{ext-getD}
-use lib.Dec.{eqb}
+use lib.ListN.{length, getD, drop, List·getD-append}
 use borrow.Author.Tests.{eq-eqb}
 use Rattle.picture.specs.Lists.{pick, tally, range}
 use Rattle.picture.specs.Pictures.{Picture, places, allBytes, isPicture}
@@ -16,7 +14,7 @@ use Rattle.picture.specs.Trees.{nodes, nodeAt, fatherOf, treeOf}
 use Rattle.picture.specs.Patches.{patchAt}
 use Rattle.picture.specs.Kept.{partners, Kept}
 use Rattle.lists.proofs.Tests.{and-both}
-use Rattle.lists.proofs.Lists.{tally-map, tally-same, length-range, range-mem, getD-map-range}
+use Rattle.lists.proofs.Lists.{tally-map, tally-same, range-mem, by-index}
 use Rattle.topology.proofs.Nodes.{node-is}
 use Rattle.topology.proofs.Fathers.{father-found}
 use Rattle.topology.proofs.Accepted.{accepted-is}
@@ -30,14 +28,6 @@ use Rattle.board.specs.Answers.{answeredNode, TreesKept}
 use Rattle.board.proofs.Demands.{leftBy, accepted-of-call, demand-3-of-call}
 use Rattle.board.proofs.LentTrees.{no-places-fault, no-checked-fault}
 
--- a list by its indices
-by-index : {A : Type 0} (d : A) (l : List A) → map (λ i. getD l i d) (range 0 (length l)) ≡ l
-by-index d l =
-    let n = length-map (range 0 (length l)) (λ i. getD l i d) ∙ length-range 0 (length l) in
-    ext-getD d (map (λ i. getD l i d) (range 0 (length l))) l n
-    (λ i h.
-    getD-map-range (λ i. getD l i d) d 0 (length l) i (omega arith) ∙ ap (λ (j : ℕ). getD l j d) {y = i} (omega arith))
-
 -- an entry of a list that a call without a fault left in front of another
 in-front : (f : ℕ) (xs old new : List ℕ) → f ≡ 0 → new ≡ afterCall f (over xs old) old → (i : ℕ) → i < length xs → getD new i 0 ≡ getD xs i 0
 in-front f xs old new z e i h =
@@ -47,7 +37,7 @@ in-front f xs old new z e i h =
 -- such a list begins with the other
 begins-append : (xs ys : List ℕ) → begins xs (xs ++ ys) ≡ true
 begins-append [] ys = refl
-begins-append (x ∷ xs) ys = and-both (eqb x x) _ (eq-eqb x x refl) (begins-append xs ys)
+begins-append (x ∷ xs) ys = and-both (eq-eqb x x refl) (begins-append xs ys)
 
 begins-front : (f : ℕ) (xs old new : List ℕ) → f ≡ 0 → new ≡ afterCall f (over xs old) old → begins xs new ≡ true
 begins-front f xs old new z e =
@@ -202,11 +192,11 @@ unfolding isTree
 answered-is-tree p hs hs′ fs fs′ ss ss′ m m′ q q′ r says z =
     let f = treeFaultOf p hs fs ss m q in
     let e = sym (says .answer .number) ∙ z in
-    and-both (eqb (r .value) (length (nodes p))) _
+    and-both
     (eq-eqb (r .value) (length (nodes p)) (answered-count p hs hs′ fs fs′ ss ss′ m m′ q q′ r says z))
-    (and-both (begins (treeOf p .heights) hs′) _ (begins-front f (treeOf p .heights) hs hs′ e (says .heights))
-    (and-both (begins (treeOf p .fathers) fs′) _ (begins-front f (treeOf p .fathers) fs fs′ e (says .fathers))
-    (and-both (begins (treeOf p .firsts) ss′) _ (begins-front f (treeOf p .firsts) ss ss′ e (says .firsts))
+    (and-both (begins-front f (treeOf p .heights) hs hs′ e (says .heights))
+    (and-both (begins-front f (treeOf p .fathers) fs fs′ e (says .fathers))
+    (and-both (begins-front f (treeOf p .firsts) ss ss′ e (says .firsts))
     (begins-front f (treeOf p .map) m m′ e (says .map)))))
 
 -- the calls together: an unrefused watershed call, and the tree and the pass that the calls answer for the picture and for the bytes it left

@@ -3,12 +3,11 @@ use mathlib.Core.Path.{_≡_, refl, sym, ap, ap₂, subst, _∙_}
 use mathlib.Core.Bool.{Bool, true, false, _||_, not}
 use mathlib.Core.Logic.{_≢_}
 use mathlib.Core.List.{List, [], _∷_}
-use Prim.Native.Nat.{ℕ, zero, suc, _+_, _-_, _≤_, _<_}
+use Prim.Native.Nat.{ℕ, zero, suc, _-_, _≤_, _<_}
 use native.Mathlib.Omega.{arith}
 use lib.Dec.{eqb, leb}
-use lib.ListN.{length, getD, drop}
-use lib.Seq.{drop-drop}
-use borrow.Author.Tests.{eqb-true, eq-eqb, leb-false}
+use lib.ListN.{length, getD}
+use borrow.Author.Tests.{eqb-true, eq-eqb, leb-false, not-false}
 use Rattle.picture.specs.Pictures.{Picture, places, isPicture}
 use Rattle.picture.specs.Components.{pass}
 use Rattle.picture.specs.Trees.{nodes, treeOf}
@@ -40,7 +39,7 @@ at-begins : (xs ys : List ℕ) → length xs ≤ length ys → ((i : ℕ) → i 
 at-begins [] ys h f = refl
 at-begins (x ∷ xs) [] h f = absurd (omega arith)
 at-begins (x ∷ xs) (y ∷ ys) h f =
-    and-both (eqb x y) _ (eq-eqb x y (sym (f 0 (omega arith)))) (at-begins xs ys (omega arith) (λ i l. f (suc i) (omega arith)))
+    and-both (eq-eqb x y (sym (f 0 (omega arith)))) (at-begins xs ys (omega arith) (λ i l. f (suc i) (omega arith)))
 
 -- the same for a list xs of n entries
 entries : (xs ys : List ℕ) (n : ℕ) → length xs ≡ n → begins xs ys ≡ true → (i : ℕ) → i < n → getD ys i 0 ≡ getD xs i 0
@@ -76,12 +75,12 @@ module _ (p : Picture) (count : ℕ) (hs fs ss m : List ℕ) where
     entries-tree t =
         let n = length (nodes p) in
         let few = nodes-few p in
-        and-both (eqb count n) _ (eq-eqb count n (t .total))
-        (and-both (begins (treeOf p .heights) hs) _
+        and-both (eq-eqb count n (t .total))
+        (and-both
         (begun (treeOf p .heights) hs n (length-heights p) (omega (arith, few, lent .heights refl)) (λ i h. t .heights i h ∙ sym (heights-at p i h)))
-        (and-both (begins (treeOf p .fathers) fs) _
+        (and-both
         (begun (treeOf p .fathers) fs n (length-fathers p) (omega (arith, few, lent .fathers refl)) (λ i h. t .fathers i h ∙ sym (fathers-at p i h)))
-        (and-both (begins (treeOf p .firsts) ss) _
+        (and-both
         (begun (treeOf p .firsts) ss n (length-firsts p) (omega (arith, few, lent .firsts refl)) (λ i h. t .firsts i h ∙ sym (firsts-at p i h)))
         (begun (treeOf p .map) m (places p) (length-map-of p) (lent .map refl) (λ x h. t .map x h ∙ sym (map-at p x h))))))
 
@@ -107,10 +106,6 @@ module _ (p : Picture) (count : ℕ) (hs fs ss m : List ℕ) where
       let z = first-zero f (when (not (isTree p count hs fs ss m)) 11) e in
       (z .0, not-false (isTree p count hs fs ss m) (when-zero 10 (not (isTree p count hs fs ss m)) (z .1)))
     where
-      not-false : (b : Bool) → not b ≡ false → b ≡ true
-      not-false true g = refl
-      not-false false g = absurd (clash refl g)
-
 -- the fault of two places
 module _ (n x y : ℕ) where
   pub places-both : when (leb n x || leb n y) 10 ≡ 0 → (x < n) × (y < n)
@@ -193,13 +188,6 @@ pass-ready p count hs fs ss m x y l e bx by =
 
 pub pass-low : (p : Picture) (x y : ℕ) → isPicture p ≡ true → x < places p → y < places p → pass p x y ≤ 255
 pass-low p x y ok bx by = pass-byte p (accepted-is p ok) x y bx by
-
--- lists that are equal from a on are so from b on
-pub drop-more : (a b : ℕ) (l m : List ℕ) → a ≤ b → drop a l ≡ drop a m → drop b l ≡ drop b m
-drop-more a b l m h e =
-    let s : a + (b - a) ≡ b = omega arith in
-    ap (λ (i : ℕ). drop i l) (sym s) ∙
-    (sym (drop-drop (b - a) a l) ∙ (ap (drop (b - a)) e ∙ (drop-drop (b - a) a m ∙ ap (λ (i : ℕ). drop i m) s)))
 
 -- the lists and the work of a call with no fault have room for the tree
 pub tree-rooms : (p : Picture) (hs fs ss m q : List ℕ) → Admitted p (length q) → places p ≤ shortest hs fs ss m → Rooms (places p) hs fs ss m q

@@ -12,11 +12,11 @@ use Rattle.picture.specs.Lists.{range}
 use Rattle.picture.specs.Pictures.{Picture, places}
 use Rattle.picture.specs.Patches.{Patch, patches, patchAt, lineCount, centre}
 use Rattle.lists.proofs.Lists.{tally-length, length-range}
+use Rattle.lists.proofs.Cuts.{take-rest}
 use Rattle.topology.proofs.Accepted.{Accepted, places-bound}
 use Rattle.topology.proofs.PatchFigures.{bottom-number}
 use Rattle.topology.proofs.PatchSums.{sumAt, sum-in, sum-out, patch-begins, count-few, patch-size}
 use Rattle.cells.specs.Blocks.{blockEntry}
-use Rattle.p5.proofs.Answers.{rest-is}
 use Rattle.patches.specs.Figures.{noPatch, Figures}
 use Rattle.hold_lines.specs.Figures.{flat, lineAt, Lists}
 use Rattle.hold_lines.specs.Lines.{headLines}
@@ -54,10 +54,10 @@ abbrev pub from : ℕ → List ℕ → List ℕ
 from b l = take (length l - b) (drop b l)
 
 from-at : (b i : ℕ) (l : List ℕ) → getD (from b l) i 0 ≡ blockEntry l b i
-from-at b i l = ap (λ (m : List ℕ). getD m i 0) (rest-is b l) ∙ getD-drop b l i 0
+from-at b i l = ap (λ (m : List ℕ). getD m i 0) (take-rest b l) ∙ getD-drop b l i 0
 
 from-length : (b : ℕ) (l : List ℕ) → length (from b l) ≡ length l - b
-from-length b l = ap length (rest-is b l) ∙ length-drop b l
+from-length b l = ap length (take-rest b l) ∙ length-drop b l
 
 -- the line pixels are places
 pub line-few : (p : Picture) → lineCount p ≤ places p

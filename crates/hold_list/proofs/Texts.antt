@@ -10,12 +10,12 @@ use lib.Seq.{getD-drop}
 use borrow.Author.Tests.{eq-eqb, ne-eqb, lt-ltb, le-ltb}
 use Rattle.picture.specs.Pictures.{Picture, withPixels, isPicture, pictureOf}
 use Rattle.picture.specs.Watersheds.{watershed}
+use Rattle.lists.proofs.Cuts.{take-rest}
 use Rattle.topology.proofs.Accepted.{accepted-is, is-accepted, at-byte}
 use Rattle.topology.proofs.Water.{watershed-shape}
 use Rattle.topology.proofs.Demand.{demand-3}
 use Rattle.p5.specs.Files.{readFile, numberOf, headerOf}
 use Rattle.p5.proofs.Accepted.{accepted-number}
-use Rattle.p5.proofs.Answers.{rest-is}
 use Rattle.hold_lines.specs.Lines.{refusedLine}
 use Rattle.hold_list.specs.HoldText.{patchList, holdList, pictureIn, holdText}
 
@@ -57,7 +57,7 @@ module _ (f : List ℕ) where
       (w h o : ℕ) → w ≡ headerOf (readFile f) .width → h ≡ headerOf (readFile f) .height → o ≡ headerOf (readFile f) .offset →
       picture w h (take (length f - o) (drop o f)) ≡ pictureIn f
   read-picture w h o ew eh eo =
-      ap (picture w h) (rest-is o f ∙ ap (λ (i : ℕ). drop i f) eo) ∙
+      ap (picture w h) (take-rest o f ∙ ap (λ (i : ℕ). drop i f) eo) ∙
       ap₂ (λ (a b : ℕ). picture a b (drop (headerOf (readFile f) .offset) f)) ew eh
 
 -- bytes that are the pixels of the watershed of an accepted picture

@@ -1,6 +1,8 @@
 -- Laws of tests and lists: Booleans, selections, ranges, rising lists, indices, positions, copies.
 pub mod Tests
 pub mod Lists
+pub mod Sums
+pub mod Cuts
 pub mod Rising
 pub mod Numbers
 pub mod Positions

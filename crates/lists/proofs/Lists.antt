@@ -1,14 +1,14 @@
 -- Laws of the list functions that the definitions share: membership, selection, tallies, ranges, stores.
 use mathlib.Core.Path.{_≡_, refl, sym, ap, subst, _∙_}
-use mathlib.Core.Bool.{Bool, true, false, _&&_, false≢true}
+use mathlib.Core.Bool.{Bool, true, false, _&&_, _||_, false≢true}
 use mathlib.Core.Logic.{_⊎_, inl, inr, ⊎-elim, _≢_, by-cases}
 use mathlib.Core.List.{List, [], _∷_, _++_, map, List·Memᴰ, List·Memᴰ·head, List·Memᴰ·tail, List·Memᴰ·not-nil, List·Memᴰ·cases-cons}
 use Prim.Native.Nat.{ℕ, zero, suc, _+_, _≤_, _<_}
 use native.Mathlib.Decide.{ℕ-discrete}
 use native.Mathlib.Omega.{arith}
 use lib.Dec.{eqb}
-use lib.ListN.{length, getD, set}
-use lib.Seq.{getD-set-same, getD-set-other}
+use lib.ListN.{length, getD, set, length-map}
+use lib.Seq.{getD-set-same, getD-set-other, ext-getD}
 use borrow.Author.Tests.{eqb-true, eq-eqb, ne-eqb}
 use Rattle.picture.specs.Lists.{pick, any, all, tally, select, range, isIn}
 use Rattle.lists.proofs.Tests.{and-left, and-right, and-both, or-left, or-right, or-cases, on-test, clash}
@@ -23,8 +23,8 @@ module _ {A : Type 0} (t : A → Bool) where
       step r (inr e) = let (y, m, f) = r e in (y, List·Memᴰ·tail m, f)
 
   pub mem-any : {x : A} {l : List A} → List·Memᴰ x l → t x ≡ true → any t l ≡ true
-  mem-any (List·Memᴰ·head {x = y} {xs} e) h = or-left (t y) (any t xs) (subst (λ (z : A). t z ≡ true) e h)
-  mem-any (List·Memᴰ·tail {x = y} {xs} m) h = or-right (t y) (any t xs) (mem-any m h)
+  mem-any (List·Memᴰ·head {x = y} {xs} e) h = or-left (any t xs) (subst (λ (z : A). t z ≡ true) e h)
+  mem-any (List·Memᴰ·tail {x = y} {xs} m) h = or-right (t y) (mem-any m h)
 
   pub all-mem : {x : A} {l : List A} → all t l ≡ true → List·Memᴰ x l → t x ≡ true
   all-mem h (List·Memᴰ·head {x = y} {xs} e) = subst (λ (z : A). t z ≡ true) (sym e) (and-left (t y) (all t xs) h)
@@ -32,7 +32,7 @@ module _ {A : Type 0} (t : A → Bool) where
 
   pub mem-all : (l : List A) → ((x : A) → List·Memᴰ x l → t x ≡ true) → all t l ≡ true
   mem-all [] h = refl
-  mem-all (x ∷ xs) h = and-both (t x) (all t xs) (h x (List·Memᴰ·head refl)) (mem-all xs (λ y m. h y (List·Memᴰ·tail m)))
+  mem-all (x ∷ xs) h = and-both (h x (List·Memᴰ·head refl)) (mem-all xs (λ y m. h y (List·Memᴰ·tail m)))
 
   pub all-fails : (l : List A) → all t l ≡ false → (x : A) × List·Memᴰ x l × (t x ≡ false)
   all-fails [] h = absurd (clash refl h)
@@ -244,3 +244,30 @@ tally-set a (x ∷ xs) (suc y) v h e d =
     on-test (eqb a x)
     (λ f. let p = tally-in (eqb a) x xs f in let q = tally-in (eqb a) x (set xs y v) f in omega arith)
     (λ f. let p = tally-out (eqb a) x xs f in let q = tally-out (eqb a) x (set xs y v) f in omega arith)
+
+-- an entry of a mapped list
+pub getD-map : {A B : Type 0} (f : A → B) (d : A) (e : B) (l : List A) (i : ℕ) → i < length l → getD (map f l) i e ≡ f (getD l i d)
+getD-map f d e [] i h = absurd (omega arith)
+getD-map f d e (x ∷ xs) zero h = refl
+getD-map f d e (x ∷ xs) (suc i) h = getD-map f d e xs i (omega arith)
+
+-- a list by its indices
+pub by-index : {A : Type 0} (d : A) (l : List A) → map (λ i. getD l i d) (range 0 (length l)) ≡ l
+by-index d l =
+    let n = length-map (range 0 (length l)) (λ i. getD l i d) ∙ length-range 0 (length l) in
+    ext-getD d (map (λ i. getD l i d) (range 0 (length l))) l n
+    (λ i h.
+    getD-map-range (λ i. getD l i d) d 0 (length l) i (omega arith) ∙ ap (λ (j : ℕ). getD l j d) {y = i} (omega arith))
+
+pub any-append : {A : Type 0} (t : A → Bool) (l m : List A) → any t (l ++ m) ≡ (any t l || any t m)
+any-append t [] m = refl
+any-append t (x ∷ xs) m =
+    on-test (t x)
+    (λ e. ap (λ (b : Bool). b || any t (xs ++ m)) e ∙ sym (ap (λ (b : Bool). b || any t xs || any t m) e))
+    (λ e.
+    ap (λ (b : Bool). b || any t (xs ++ m)) e ∙
+    (any-append t xs m ∙ sym (ap (λ (b : Bool). (b || any t xs) || any t m) e)))
+
+pub all-snoc : {A : Type 0} (t : A → Bool) (s : List A) (b : A) → all t s ≡ true → t b ≡ true → all t (s ++ b ∷ []) ≡ true
+all-snoc t [] b h e = and-both e refl
+all-snoc t (a ∷ s) b h e = and-both (and-left (t a) _ h) (all-snoc t s b (and-right (t a) _ h) e)

@@ -10,6 +10,7 @@ use lib.ListN.{length, getD}
 use Rattle.picture.specs.Lists.{tally}
 use Rattle.lists.proofs.Tests.{on-test, test-false}
 use Rattle.lists.proofs.Lists.{tally-in, tally-out, tally-none}
+use Rattle.lists.proofs.Rising.{Rising, none, more, rising-from}
 
 pub mem-index : {A : Type 0} (d : A) {x : A} {l : List A} → List·Memᴰ x l → (i : ℕ) × (i < length l) × (getD l i d ≡ x)
 mem-index d (List·Memᴰ·head e) = (0, omega arith, sym e)
@@ -94,3 +95,12 @@ pigeonhole (suc n) (suc m) R f u = let r = pigeonhole n m moved found single in 
     single i j z a b (inr r) (inl s) =
         absurd (let w = u j m last (omega arith) (omega arith) (subst (R j) (r .1) s) last-is in omega arith)
     single i j z a b (inr r) (inr s) = u i j n (omega arith) (omega arith) (r .0) (s .0)
+
+-- the entries of a rising list rise
+pub rising-at : {a : ℕ} {l : List ℕ} → Rising a l → (i j : ℕ) → i < j → j < length l → getD l i 0 < getD l j 0
+rising-at none i j h b = absurd (omega arith)
+rising-at (more {x = x} {xs} g r) zero zero h b = absurd (omega arith)
+rising-at (more {x = x} {xs} g r) zero (suc j) h b =
+    let q = rising-from r (index-mem 0 xs j (omega arith)) in omega arith
+rising-at (more {x = x} {xs} g r) (suc i) zero h b = absurd (omega arith)
+rising-at (more {x = x} {xs} g r) (suc i) (suc j) h b = rising-at r i j (omega arith) (omega arith)

@@ -152,3 +152,18 @@ index-none s m i (x ∷ xs) f =
     on-elim (λ (r : ℕ). r ≡ m) (s x)
     (λ e. absurd (clash e (f x (List·Memᴰ·head refl))))
     (λ e. index-none s m (suc i) xs (λ y k. f y (List·Memᴰ·tail k)))
+
+-- each number below a tally is the number of members before one that passes the test
+pub tally-reach : (t : ℕ → Bool) (m i : ℕ) → i < tally t (range 0 m) → (z : ℕ) × (z < m) × (t z ≡ true) × (tally t (range 0 z) ≡ i)
+tally-reach t zero i h = absurd (omega arith)
+tally-reach t (suc m) i h =
+    on-test (t m)
+    (λ e.
+    let q = tally-next-in t m e in
+    by-cases (decLt i (tally t (range 0 m)))
+    (λ l. let (z, b, p, r) = tally-reach t m i l in (z, omega arith, p, r))
+    (λ l. (m, omega arith, e, omega arith)))
+    (λ e.
+    let q = tally-next-out t m e in
+    let (z, b, p, r) = tally-reach t m i (omega arith) in
+    (z, omega arith, p, r))

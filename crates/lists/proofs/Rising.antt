@@ -2,7 +2,7 @@
 use mathlib.Core.Path.{_≡_, refl, sym, ap, ap₂, subst, _∙_}
 use mathlib.Core.Bool.{Bool, true, false, _||_, false≢true}
 use mathlib.Core.Logic.{_⊎_, inl, inr, ⊎-elim}
-use mathlib.Core.List.{List, [], _∷_, List·Memᴰ, List·Memᴰ·head, List·Memᴰ·not-nil, List·Memᴰ·cases-cons}
+use mathlib.Core.List.{List, [], _∷_, List·Memᴰ, List·Memᴰ·head, List·Memᴰ·not-nil, List·Memᴰ·cases-cons, map}
 use Prim.Native.Nat.{ℕ, zero, suc, _+_, _≤_, _<_}
 use native.Mathlib.Omega.{arith}
 use lib.Dec.{eqb}
@@ -145,3 +145,14 @@ tally-one x (suc l) t h =
           (λ f. absurd (clash (subst (λ (z : ℕ). t z ≡ true) (eqb-true y x f) p) e))
           (λ f. let d : ¬ (y ≡ x) = λ q. clash (eq-eqb y x q) f in o .only y (omega arith) (omega arith) p);
     })
+
+-- the values of a rising function on a range
+pub rising-map :
+    (f : ℕ → ℕ) (a c l : ℕ) → ((i : ℕ) → c ≤ i → i < c + l → a ≤ f i) → ((i j : ℕ) → c ≤ i → i < j → j < c + l → f i < f j) →
+    Rising a (map f (range c l))
+rising-map f a c zero g h = none
+rising-map f a c (suc l) g h =
+    more (g c (omega arith) (omega arith))
+    (rising-map f (suc (f c)) (suc c) l
+    (λ i b e. let q = h c i (omega arith) (omega arith) (omega arith) in omega arith)
+    (λ i j b e q. h i j (omega arith) e (omega arith)))

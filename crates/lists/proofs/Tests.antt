@@ -1,19 +1,9 @@
 -- Tests and what they say: the Boolean connectives, and cases on a test that a definition is stuck on.
 use mathlib.Core.Path.{_≡_, refl, sym, _∙_}
-use mathlib.Core.Bool.{Bool, true, false, _&&_, _||_, not, true≢false, false≢true}
-pub use Rattle.picture.proofs.Lists.{and-left, and-right, or-cases, on-pick}
-
-pub and-both : (a b : Bool) → a ≡ true → b ≡ true → (a && b) ≡ true
-and-both true b p q = q
-and-both false b p q = p
-
-pub or-left : (a b : Bool) → a ≡ true → (a || b) ≡ true
-or-left true b p = refl
-or-left false b p = absurd (false≢true p)
-
-pub or-right : (a b : Bool) → b ≡ true → (a || b) ≡ true
-or-right true b p = refl
-or-right false b p = p
+use mathlib.Core.Bool.{Bool, true, false, _&&_, _||_, not, true≢false}
+use mathlib.Core.Logic.{_⊎_, inl, inr}
+use borrow.Author.Tests.{not-true, not-false}
+pub use Rattle.picture.proofs.Lists.{and-left, and-right, and-both, or-cases, or-left, or-right, on-pick}
 
 pub not-of-false : (a : Bool) → a ≡ false → not a ≡ true
 not-of-false true h = absurd (true≢false h)
@@ -41,3 +31,22 @@ on-test false f g = g refl
 pub on-elim : {A : Type 0} (P : A → Type 0) (b : Bool) {x y : A} → (b ≡ true → P x) → (b ≡ false → P y) → P (elim b [ true ↦ x | false ↦ y ])
 on-elim P true f g = f refl
 on-elim P false f g = g refl
+
+-- a test and its negation
+pub not-both : (t : Bool) → t ≡ true → not t ≡ true → ⊥
+not-both t e f = clash e (not-true t f)
+
+pub either : {P : Type 0} (a b : Bool) → (a ≡ true → P) → (b ≡ true → P) → a || b ≡ true → P
+either true b f g e = f refl
+either false b f g e = g e
+
+pub and-fails : (a b : Bool) → a && b ≡ false → (a ≡ false) ⊎ (b ≡ false)
+and-fails true b e = inr e
+and-fails false b e = inl refl
+
+-- the test b passed or failed, from a flag r that is b and a branch on `!r`
+pub was-false : {r b : Bool} → r ≡ b → not r ≡ true → b ≡ false
+was-false {r} e t = sym e ∙ not-true r t
+
+pub was-true : {r b : Bool} → r ≡ b → not r ≡ false → b ≡ true
+was-true {r} e t = sym e ∙ not-false r t

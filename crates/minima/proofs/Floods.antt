@@ -3,18 +3,19 @@ use mathlib.Core.Path.{_≡_, refl, sym, ap, subst, _∙_}
 use mathlib.Core.Bool.{Bool, true, false}
 use mathlib.Core.Logic.{_≢_}
 use mathlib.Core.List.{List, [], _∷_}
-use Prim.Native.Nat.{ℕ, zero, suc, _+_, _-_, _≤_, _<_}
+use Prim.Native.Nat.{ℕ, suc, _+_, _-_, _≤_, _<_}
 use native.Mathlib.Numerals.{add-one}
 use native.Mathlib.Omega.{arith}
 use lib.Dec.{eqb}
 use lib.ListN.{length, getD, set, drop, length-set}
-use lib.Seq.{drop-cons, drop-nil, set-set, set-getD}
+use lib.Seq.{drop-cons, set-set, set-getD}
 use Rattle.picture.specs.Lists.{range}
 use Rattle.picture.specs.Pictures.{Picture, places, valueAt, isPicture}
 use Rattle.picture.specs.Geometry.{neighboursIn, Placed}
 use Rattle.picture.specs.Patches.{patches}
 use Rattle.picture.proofs.Neighbours.{neighbour-at, neighbours-touch}
 use Rattle.lists.proofs.Lists.{in-mem, tally-length, length-range}
+use Rattle.lists.proofs.Cuts.{drop-all}
 use Rattle.topology.proofs.Connected.{start, conn-target}
 use Rattle.topology.proofs.Adjacency.{Adj}
 use Rattle.labelling_laws.proofs.Zones.{Flat, Flooding, Flooded, flood-start, flood-pop, flood-done, flood-lower, flood-higher, flood-visited, flood-visit, flood-end}
@@ -77,12 +78,6 @@ module _ (pixels : List ℕ) (k y : ℕ) (cells : List ℕ) (s : Stack) (room : 
             subst (λ (t : ℕ). Flooding p k x before (set cells y (s .top)) y t (s .low) q zs) (sym (add-one (s .height)))
             (flood-visit p k x before cells (s .top) (s .height) (s .low) q y zs f r i (value-in p e ∙ h) m c d);
       }
-
--- nothing is left past the end
-drop-all : (i : ℕ) (l : List ℕ) → length l ≤ i → drop i l ≡ []
-drop-all i [] h = drop-nil i
-drop-all zero (x ∷ xs) h = absurd (omega arith)
-drop-all (suc i) (x ∷ xs) h = drop-all i xs (omega arith)
 
 module _ (p : Picture) (k q : ℕ) where
   pub spread-none : (zs cells : List ℕ) (s : Stack) → s .top ≢ 65535 → Spread p k q zs zs cells s cells s

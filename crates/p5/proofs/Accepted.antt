@@ -13,7 +13,7 @@ use Rattle.p5.specs.declared.file.Outcome.{Outcome}
 use Rattle.p5.specs.declared.file.Outcome.the-variants.{Accepted, NotP5, Malformed, SideOutside, LargestOutside, CountDiffers, PixelAbove}
 use Rattle.p5.specs.Files.{atMost, onHeader, onWalk, readFile, numberOf, headerOf}
 use Rattle.p5.specs.Shapes.{Inside, Accepts}
-use Rattle.p5.proofs.Tests.{and-both, and-left, and-right}
+use Rattle.lists.proofs.Tests.{and-both, and-left, and-right}
 use Rattle.p5.proofs.Leading.{leading-below, leading-full}
 use Rattle.p5.proofs.Answers.{pixels-fit, count-same, read-p5}
 use Rattle.p5.proofs.Shape.{headed-begins, headed-walk, headed-rest}

@@ -4,11 +4,9 @@ use mathlib.Core.Bool.{true, false, _&&_}
 use mathlib.Core.List.{List}
 use Prim.Native.Nat.{ℕ, _*_, _-_, _≤_, zero-le}
 use native.Mathlib.Nat.{mul-le-mul}
-use native.Mathlib.Omega.{arith}
 use borrow.Author.Tests.{leb-true, eq-eqb, ne-eqb}
 use lib.Dec.{eqb, leb}
-use lib.ListN.{length, take, drop, length-drop}
-use lib.Seq.{take-all}
+use lib.ListN.{length}
 use Rattle.picture.specs.Pictures.{sideFits}
 use Rattle.p5.specs.declared.header.Header.{Header}
 use Rattle.p5.specs.declared.header.Walk.{Walk}
@@ -17,7 +15,7 @@ use Rattle.p5.specs.declared.file.Outcome.{Outcome}
 use Rattle.p5.specs.declared.file.Outcome.the-variants.{Accepted, NotP5, Malformed, SideOutside, LargestOutside, CountDiffers, PixelAbove}
 use Rattle.p5.specs.Headers.{beginsP5, leading, walk}
 use Rattle.p5.specs.Files.{largestFits, atMost, onPixels, onHeader, onWalk, readFile, numberOf, headerOf, noHeader}
-use Rattle.p5.proofs.Tests.{on-pick, and-left, and-right}
+use Rattle.lists.proofs.Tests.{on-pick, and-left, and-right}
 use Rattle.p5.proofs.Walking.{offset-within}
 
 -- sides in range leave at most 1,600 places
@@ -25,10 +23,6 @@ pub area : (w h : ℕ) → sideFits w && sideFits h ≡ true → w * h ≤ 1600
 area w h e =
     mul-le-mul (leb-true w 40 (and-right (leb 1 w) _ (and-left (sideFits w) _ e)))
     (leb-true h 40 (and-right (leb 1 h) _ (and-right (sideFits w) _ e)))
-
--- the part of a list from a position on, as a slice of it is made
-pub rest-is : (p : ℕ) (f : List ℕ) → take (length f - p) (drop p f) ≡ drop p f
-rest-is p f = take-all (length f - p) (drop p f) (omega (arith, length-drop p f))
 
 module _ (h : Header) (s : List ℕ) where
   pub pixels-fit : leading (atMost (h .largest)) s ≡ length s → Accepted h ≡ onPixels h s

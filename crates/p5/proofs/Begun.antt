@@ -6,7 +6,8 @@ use Prim.Native.Nat.{ℕ, _+_, _≤_}
 use native.Mathlib.Nat.{add-zero}
 use native.Mathlib.Omega.{arith}
 use lib.ListN.{length, take, drop, length-append, length-drop}
-use lib.Seq.{take-at, take-add, length-take-le}
+use lib.Seq.{take-add, length-take-le}
+use Rattle.lists.proofs.Cuts.{take-part, part-within}
 use Rattle.p5.specs.declared.field.Field.the-variants.{Number, Unfit}
 use Rattle.p5.specs.declared.header.Walk.the-variants.{Stopped}
 use Rattle.p5.specs.Headers.{beginsP5, isDigit, decimalValue, gapEnd, numberAt}
@@ -66,15 +67,6 @@ begins-of v a b c more x y z e =
             offset = add-zero _;
           };
     }
-
--- what a part of a list takes with it
-take-part : (f : List ℕ) (p q : ℕ) (u s : List ℕ) → drop p f ≡ u ++ s → q ≡ p + length u → take q f ≡ take p f ++ u
-take-part f p q u s e l =
-    ap (λ (n : ℕ). take n f) l ∙ take-add p (length u) f
-    ∙ ap (λ (k : List ℕ). take p f ++ k) (ap (take (length u)) e ∙ take-at u s _ refl)
-
-part-within : (f : List ℕ) (p q : ℕ) (u s : List ℕ) → 1 ≤ length u → drop p f ≡ u ++ s → q ≡ p + length u → q ≤ length f
-part-within f p q u s some e l = omega (arith, length-drop p f, ap length e ∙ length-append u s)
 
 -- a number that stands in a file
 record Stood (f : List ℕ) (p q : ℕ) : Type 0 where

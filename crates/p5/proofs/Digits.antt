@@ -1,6 +1,6 @@
 -- Digits that have been read from a position on: what the loop of `digits_at` keeps.
 use mathlib.Core.Path.{_≡_, refl, sym, ap, _∙_}
-use mathlib.Core.Bool.{Bool, true}
+use mathlib.Core.Bool.{true}
 use mathlib.Core.List.{List, [], _∷_, _++_, append-assoc}
 use Prim.Native.Nat.{ℕ, _+_, _-_, _*_, _^_, _≤_, _<_}
 use native.Mathlib.Nat.{pow-suc, pow-le-pow-right, lt-of-lt-of-le, le-trans, add-zero}
@@ -12,10 +12,11 @@ use lib.Arith.{digits-lt}
 use lib.ListN.{length, getD, take, drop, length-append}
 use lib.Seq.{drop-cons, take-at}
 use Rattle.picture.specs.Lists.{pick, all}
+use Rattle.lists.proofs.Lists.{all-snoc}
 use Rattle.p5.specs.declared.field.Field.{Field}
 use Rattle.p5.specs.declared.field.Field.the-variants.{Number, Unfit}
 use Rattle.p5.specs.Headers.{leading, isDigit, decimalFrom, decimalValue, digitsAt}
-use Rattle.p5.proofs.Tests.{on-pick, and-both, and-left, and-right}
+use Rattle.lists.proofs.Tests.{on-pick, and-right}
 use Rattle.p5.proofs.Leading.{leading-append, leading-pass}
 
 -- `digits` stand from `at` up to `i` and have the value `value`
@@ -52,10 +53,6 @@ module _ (f : List ℕ) (p : ℕ) where
 decimal-snoc : (v : ℕ) (s : List ℕ) (b : ℕ) → decimalFrom v (s ++ b ∷ []) ≡ decimalFrom v s * 10 + (b - 48)
 decimal-snoc v [] b = refl
 decimal-snoc v (a ∷ s) b = decimal-snoc _ s b
-
-all-snoc : (t : ℕ → Bool) (s : List ℕ) (b : ℕ) → all t s ≡ true → t b ≡ true → all t (s ++ b ∷ []) ≡ true
-all-snoc t [] b h e = and-both e refl
-all-snoc t (a ∷ s) b h e = and-both (and-left (t a) _ h) (all-snoc t s b (and-right (t a) _ h) e)
 
 module _ (f : List ℕ) (at value i : ℕ) (d : Digits f at value i) where
   -- one more digit

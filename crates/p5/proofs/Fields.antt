@@ -11,7 +11,7 @@ use Rattle.p5.specs.declared.field.Field.{Field}
 use Rattle.p5.specs.declared.field.Field.the-variants.{Number, Unfit}
 use Rattle.p5.specs.Headers.{isDigit, leading, decimalValue, gapEnd, digitsAt, numberAt}
 use Rattle.p5.specs.Shapes.{Gap, Numeral}
-use Rattle.p5.proofs.Tests.{on-pick, and-left}
+use Rattle.lists.proofs.Tests.{on-pick, and-left}
 use Rattle.p5.proofs.Leading.{leading-le, leading-all, leading-append}
 use Rattle.p5.proofs.Gap.{gap-split, gap-join, number-some}
 use Rattle.p5.proofs.Digits.{digitCount, digits-few}

@@ -1,6 +1,6 @@
 -- Laws of the gap before a number, by the byte at its first position.
 use mathlib.Core.Path.{_≡_, refl, sym, ap, _∙_}
-use mathlib.Core.Bool.{Bool, true, false}
+use mathlib.Core.Bool.{Bool, true, false, false≢true}
 use mathlib.Core.List.{List, _∷_, _++_}
 use Prim.Native.Nat.{ℕ, _+_, _≤_, _<_}
 use native.Mathlib.Nat.{add-zero}
@@ -12,7 +12,7 @@ use lib.Seq.{drop-drop, length-take-le}
 use Rattle.p5.specs.declared.field.Field.the-variants.{Unfit}
 use Rattle.p5.specs.Headers.{isWhite, isDigit, leading, gapEnd, digitsAt, numberAt}
 use Rattle.p5.specs.Shapes.{Gap}
-use Rattle.p5.proofs.Tests.{either, clash}
+use Rattle.lists.proofs.Tests.{either}
 use Rattle.p5.proofs.Leading.{leading-le, leading-all, leading-append, leading-cut, reach-pass, reach-stop, reach-past}
 
 module _ (f : List ℕ) (i : ℕ) where
@@ -63,7 +63,7 @@ digit-white b e = only (isWhite b) refl
   where
     only : (c : Bool) → isWhite b ≡ c → isWhite b ≡ false
     only false t = t
-    only true t = absurd (clash (sym (white-digit b t) ∙ e))
+    only true t = absurd (false≢true (sym (white-digit b t) ∙ e))
 
 -- a gap before a digit is the whole gap
 pub gap-join : (f : List ℕ) (p : ℕ) {g : List ℕ} (b : ℕ) (s : List ℕ) → Gap g → drop p f ≡ g ++ b ∷ s → isDigit b ≡ true → gapEnd f p ≡ p + length g

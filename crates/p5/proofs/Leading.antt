@@ -1,6 +1,6 @@
 -- Laws of `leading`, the number of bytes at the front that pass a test.
 use mathlib.Core.Path.{_≡_, refl, sym, ap, _∙_}
-use mathlib.Core.Bool.{Bool, true, false}
+use mathlib.Core.Bool.{Bool, true, false, false≢true}
 use mathlib.Core.Logic.{⊎-elim}
 use mathlib.Core.List.{List, [], _∷_, _++_}
 use Prim.Native.Nat.{ℕ, zero, suc, _+_, _≤_, _<_, zero-le, suc-le-suc}
@@ -11,7 +11,7 @@ use lib.ListN.{length, getD, take, drop, length-drop, drop-of-length-le}
 use lib.Seq.{drop-cons, drop-append-le}
 use Rattle.picture.specs.Lists.{all}
 use Rattle.p5.specs.Headers.{leading}
-use Rattle.p5.proofs.Tests.{on-pick, and-both, and-left, and-right, clash}
+use Rattle.lists.proofs.Tests.{on-pick, and-both, and-left, and-right}
 
 module _ (t : ℕ → Bool) where
   pub leading-le : (s : List ℕ) → leading t s ≤ length s
@@ -47,7 +47,7 @@ module _ (t : ℕ → Bool) where
   -- where every byte passes, all are counted
   pub leading-full : (s : List ℕ) → ((i : ℕ) → i < length s → t (getD s i 0) ≡ true) → leading t s ≡ length s
   leading-full s h =
-      ⊎-elim (λ e. e) (λ l. absurd (clash (sym (leading-next s l) ∙ h _ l))) (eq-or-lt-of-le (leading-le s))
+      ⊎-elim (λ e. e) (λ l. absurd (false≢true (sym (leading-next s l) ∙ h _ l))) (eq-or-lt-of-le (leading-le s))
 
   -- bytes that pass, then others
   pub leading-append : (u s : List ℕ) → all t u ≡ true → leading t (u ++ s) ≡ length u + leading t s

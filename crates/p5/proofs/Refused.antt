@@ -1,6 +1,6 @@
 -- Each refusal number is answered if and only if its cause holds and no earlier one does.
 use mathlib.Core.Path.{_≡_, sym, ap, subst, _∙_}
-use mathlib.Core.Bool.{true, false, _&&_}
+use mathlib.Core.Bool.{true, false, _&&_, false≢true}
 use mathlib.Core.Logic.{_↔_, _⊎_, inl, inr, ⊎-elim}
 use mathlib.Core.List.{List}
 use Prim.Native.Nat.{ℕ, _+_, _*_, _≤_, _<_}
@@ -15,7 +15,7 @@ use Rattle.p5.specs.declared.file.Outcome.{Outcome}
 use Rattle.p5.specs.Headers.{beginsP5}
 use Rattle.p5.specs.Files.{largestFits, atMost, readFile, numberOf}
 use Rattle.p5.specs.Shapes.{Headed, Inside, Outside, Above, Cause, other, unheaded, side, largest, count, above}
-use Rattle.p5.proofs.Tests.{and-left, and-right, and-fails, clash}
+use Rattle.lists.proofs.Tests.{and-left, and-right, and-fails}
 use Rattle.p5.proofs.Shape.{p5-bytes, headed-begins, headed-walk, headed-rest}
 use Rattle.p5.proofs.Accepted.{inside}
 use Rattle.p5.proofs.Leading.{leading-below}
@@ -110,7 +110,7 @@ refusal : (f : List ℕ) (n : ℕ) → 1 ≤ n → Cause f n → NoneBelow f n �
 refusal f n some c b = record { cause = λ _. c; first = b; clean = λ e. absurd (omega arith) }
 
 summary : (f : List ℕ) (o : Outcome) → Verdict f o → Summary f (numberOf o)
-summary f o (not-p5 e) = refusal f 1 (omega arith) (other (λ t b. clash (sym e ∙ ap beginsP5 b))) (below₁ f)
+summary f o (not-p5 e) = refusal f 1 (omega arith) (other (λ t b. false≢true (sym e ∙ ap beginsP5 b))) (below₁ f)
 summary f o (stopped e g) =
     refusal f 2 (omega arith)
     (unheaded (λ h s k. let z : _≡_ {A = ℕ} 0 1 = cc (headed-walk f h s k) in omega arith))

@@ -1,6 +1,6 @@
 -- A walked header and the shape of the bytes that it stands on.
 use mathlib.Core.Path.{_≡_, sym, ap, ap₂, subst, _∙_}
-use mathlib.Core.Bool.{true, false}
+use mathlib.Core.Bool.{true, false, false≢true}
 use mathlib.Core.List.{List, [], _∷_, _++_}
 use Prim.Native.Nat.{ℕ, _+_, _<_}
 use native.Mathlib.Nat.{add-zero}
@@ -14,14 +14,14 @@ use Rattle.p5.specs.declared.header.Header.{Header}
 use Rattle.p5.specs.declared.header.Walk.the-variants.{Walked}
 use Rattle.p5.specs.Headers.{beginsP5, isWhite, isDigit, leading, walk}
 use Rattle.p5.specs.Shapes.{Gap, Headed}
-use Rattle.p5.proofs.Tests.{and-left, and-right, clash}
+use Rattle.lists.proofs.Tests.{and-left, and-right}
 use Rattle.p5.proofs.Gap.{white-digit}
 use Rattle.p5.proofs.Fields.{number-stands, drop-field, stands-number}
 use Rattle.p5.proofs.Walking.{Walking, walking, whole, end-white, white-within, walk-end}
 
 pub p5-bytes : (f : List ℕ) → beginsP5 f ≡ true → f ≡ 80 ∷ 53 ∷ drop 2 f
-p5-bytes [] e = absurd (clash e)
-p5-bytes (a ∷ []) e = absurd (clash (and-right (eqb a 80) false e))
+p5-bytes [] e = absurd (false≢true e)
+p5-bytes (a ∷ []) e = absurd (false≢true (and-right (eqb a 80) false e))
 p5-bytes (a ∷ b ∷ s) e = ap₂ (λ (x y : ℕ). x ∷ y ∷ s) (eqb-true a 80 (and-left (eqb a 80) _ e)) (eqb-true b 53 (and-right (eqb a 80) _ e))
 
 -- a walked header has the shape

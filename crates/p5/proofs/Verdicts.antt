@@ -17,7 +17,7 @@ use Rattle.p5.specs.declared.file.Outcome.the-variants.{Accepted, NotP5,
 use Rattle.p5.specs.Headers.{beginsP5, leading, walk}
 use Rattle.p5.specs.Files.{largestFits, atMost, onPixels, onHeader, onWalk, readFile}
 use Rattle.p5.specs.Shapes.{Headed, Above}
-use Rattle.p5.proofs.Tests.{on-pick}
+use Rattle.lists.proofs.Tests.{on-pick}
 use Rattle.p5.proofs.Leading.{leading-le, leading-next}
 use Rattle.p5.proofs.Shape.{walk-headed}
 

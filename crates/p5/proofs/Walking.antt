@@ -1,6 +1,6 @@
 -- Laws of the walk over the header.
 use mathlib.Core.Path.{_≡_, refl, sym, ap, subst, _∙_}
-use mathlib.Core.Bool.{Bool, true, false}
+use mathlib.Core.Bool.{Bool, true, false, false≢true}
 use mathlib.Core.List.{List}
 use Prim.Native.Nat.{ℕ, _+_, _≤_, _<_}
 use native.Mathlib.Omega.{arith}
@@ -13,7 +13,7 @@ use Rattle.p5.specs.declared.header.Header.{Header}
 use Rattle.p5.specs.declared.header.Walk.{Walk}
 use Rattle.p5.specs.declared.header.Walk.the-variants.{Walked, Stopped}
 use Rattle.p5.specs.Headers.{isWhite, endAt, numberAt, fromWidth, fromHeight, fromLargest, walk}
-use Rattle.p5.proofs.Tests.{on-pick, clash}
+use Rattle.lists.proofs.Tests.{on-pick}
 
 module _ (f : List ℕ) (w h m p : ℕ) where
   pub end-white : isWhite (getD f p 0) ≡ true → Walked (record { width = w; height = h; largest = m; offset = p + 1 }) ≡ endAt f w h m p
@@ -34,7 +34,7 @@ white-within f p e = within (ltb p (length f)) refl
   where
     within : (b : Bool) → ltb p (length f) ≡ b → p < length f
     within true t = ltb-true _ _ t
-    within false t = absurd (clash (sym (ap isWhite (List·getD-eq-default f 0 (ltb-false _ _ t))) ∙ e))
+    within false t = absurd (false≢true (sym (ap isWhite (List·getD-eq-default f 0 (ltb-false _ _ t))) ∙ e))
 
 -- the walk by the answers of the three numbers
 module _ (f : List ℕ) where

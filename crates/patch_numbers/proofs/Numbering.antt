@@ -87,7 +87,7 @@ module _ (n : ℕ) (work marks : List ℕ) where
   pub starts-true : (x : ℕ) → blockEntry work (3 * n) (blockEntry work (2 * n) x) ≡ x → getD marks (blockEntry work (2 * n) x) 0 ≡ 0 → starts n work marks x ≡ true
   unfolding starts
   starts-true x e z =
-      and-both (eqb (blockEntry work (3 * n) (blockEntry work (2 * n) x)) x) _ (eq-eqb _ _ e) (eq-eqb _ _ z)
+      and-both (eq-eqb _ _ e) (eq-eqb _ _ z)
 
   starts-other : (x : ℕ) → blockEntry work (3 * n) (blockEntry work (2 * n) x) ≢ x → starts n work marks x ≡ false
   unfolding starts

@@ -1,6 +1,5 @@
 -- Laws of decimal digits: how a number is written by its last digit, and how many digits it has.
 use mathlib.Core.Path.{_≡_, refl, sym, ap, _∙_}
-use mathlib.Core.Bool.{Bool, true, false}
 use mathlib.Core.Logic.{by-cases}
 use mathlib.Core.List.{List, [], _∷_, _++_, append-nil, append-assoc}
 use Prim.Native.Nat.{ℕ, zero, suc, _+_, _*_, _/_, _%_, _≤_, _<_}
@@ -9,11 +8,8 @@ use native.Mathlib.Omega.{arith}
 use lib.Dec.{ltb}
 use lib.ListN.{length, getD, take, length-append}
 use borrow.Author.Tests.{ltb-true, ltb-false}
+use Rattle.lists.proofs.Tests.{on-elim}
 use Rattle.text.specs.Decimal.{digitsBy, decimal, fields, spaced}
-
-on-elim : {A : Type 0} (P : A → Type 0) (b : Bool) {x y : A} → (b ≡ true → P x) → (b ≡ false → P y) → P (elim b [ true ↦ x | false ↦ y ])
-on-elim P true f g = f refl
-on-elim P false f g = g refl
 
 -- one digit
 digits-one : (l n : ℕ) → n < 10 → digitsBy (suc l) n ≡ (48 + n) ∷ []

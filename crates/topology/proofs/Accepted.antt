@@ -46,16 +46,16 @@ accepted-is p h =
 pub is-accepted : (p : Picture) → Accepted p → isPicture p ≡ true
 unfolding isPicture
 is-accepted p a =
-    and-both (eqb (p .adjacency) 4 || eqb (p .adjacency) 8) _
+    and-both
     (⊎-elim
-    (λ e. or-left (eqb (p .adjacency) 4) (eqb (p .adjacency) 8) (eq-eqb (p .adjacency) 4 e))
-    (λ e. or-right (eqb (p .adjacency) 4) (eqb (p .adjacency) 8) (eq-eqb (p .adjacency) 8 e))
+    (λ e. or-left (eqb (p .adjacency) 8) (eq-eqb (p .adjacency) 4 e))
+    (λ e. or-right (eqb (p .adjacency) 4) (eq-eqb (p .adjacency) 8 e))
     (a .adjacency))
-    (and-both (sideFits (p .width)) _
-    (and-both (leb 1 (p .width)) (leb (p .width) 40) (le-leb 1 (p .width) (a .wide)) (le-leb (p .width) 40 (a .narrow)))
-    (and-both (sideFits (p .height)) _
-    (and-both (leb 1 (p .height)) (leb (p .height) 40) (le-leb 1 (p .height) (a .tall)) (le-leb (p .height) 40 (a .short)))
-    (and-both (eqb (length (p .pixels)) (places p)) (allBytes (p .pixels))
+    (and-both
+    (and-both (le-leb 1 (p .width) (a .wide)) (le-leb (p .width) 40 (a .narrow)))
+    (and-both
+    (and-both (le-leb 1 (p .height) (a .tall)) (le-leb (p .height) 40 (a .short)))
+    (and-both
     (eq-eqb (length (p .pixels)) (places p) (a .size))
     (a .bytes))))
 
@@ -83,7 +83,7 @@ byte-at (x ∷ xs) h (suc i) = byte-at xs (and-right (ltb x 256) (allBytes xs) h
 pub at-byte : (xs : List ℕ) → ((i : ℕ) → getD xs i 0 ≤ 255) → allBytes xs ≡ true
 at-byte [] f = refl
 at-byte (x ∷ xs) f =
-    and-both (ltb x 256) (allBytes xs) (lt-ltb x 256 (let q : x ≤ 255 = f 0 in omega arith)) (at-byte xs (λ i. f (suc i)))
+    and-both (lt-ltb x 256 (let q : x ≤ 255 = f 0 in omega arith)) (at-byte xs (λ i. f (suc i)))
 
 pub above-at : (xs ys : List ℕ) → nowhereAbove xs ys ≡ true → (i : ℕ) → i < length xs → getD xs i 0 ≤ getD ys i 0
 above-at [] ys h i b = absurd (omega arith)
@@ -95,4 +95,4 @@ pub at-above : (xs ys : List ℕ) → length xs ≡ length ys → ((i : ℕ) →
 at-above [] ys e f = refl
 at-above (x ∷ xs) [] e f = absurd (omega arith)
 at-above (x ∷ xs) (y ∷ ys) e f =
-    and-both (leb x y) (nowhereAbove xs ys) (le-leb x y (f 0)) (at-above xs ys (omega arith) (λ i. f (suc i)))
+    and-both (le-leb x y (f 0)) (at-above xs ys (omega arith) (λ i. f (suc i)))

@@ -139,7 +139,7 @@ module _ (f : Picture) (xs : List ℕ) (k : ℕ) where
   pub keeps-complete : Keeps (places f) (Adj f) (valueAt f) (valueAt b) k → keepsAt f b k ≡ true
   unfolding keepsAt hosted guest
   keeps-complete e =
-      and-both (all hosted (components f k)) (all guest (components b k))
+      and-both
       (parts-all f k hosted
       (λ y s.
       eq-eqb (tally (λ d. allWithin (componentAt f k y) d) (components b k)) 1

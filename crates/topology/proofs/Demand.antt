@@ -55,14 +55,14 @@ passes-kept f xs keeps x y bx by px py = pass-same f a x y test 256 0
         (λ h.
         let s = section-at f k x bx (and-left (inSection f k x) (isIn y (componentAt f k x)) h) in
         let c = in-joined f k x y s (and-right (inSection f k x) (isIn y (componentAt f k x)) h) in
-        and-both (inSection a k x) (isIn y (componentAt a k x)) (at-section a k x (keeps k .subset x s))
+        and-both (at-section a k x (keeps k .subset x s))
         (joined-in a k (joined-kept f xs keeps c)))
         (λ h.
         let s = section-at a k x bx (and-left (inSection a k x) (isIn y (componentAt a k x)) h) in
         let c = in-joined a k x y s (and-right (inSection a k x) (isIn y (componentAt a k x)) h) in
         let sx : At f k x = record { within = bx; low = let e = kept x px in let l = s .low in omega arith } in
         let sy : At f k y = record { within = by; low = let e = kept y py in let l = conn-target c .low in omega arith } in
-        and-both (inSection f k x) (isIn y (componentAt f k x)) (at-section f k x sx)
+        and-both (at-section f k x sx)
         (joined-in f k (keeps k .separates x y sx sy c)))
 
 -- what demand 3 says, of a picture in the same frame that lowering can make and in which it ends

@@ -7,7 +7,7 @@ use native.Mathlib.Nat.{div-add-mod', mod-lt}
 use native.Mathlib.Decide.{ℕ-discrete}
 use native.Mathlib.Omega.{arith}
 use lib.Arith.{digits-div, digits-mod}
-use lib.Dec.{eqb, leb}
+use lib.Dec.{eqb}
 use borrow.Author.Tests.{eq-eqb, le-leb}
 use Rattle.picture.specs.Lists.{isIn}
 use Rattle.picture.specs.Pictures.{Picture, places, valueAt, distance, adjacent}
@@ -34,8 +34,8 @@ step-adjacent a w x y h =
     on-pick (λ (t : Bool). t ≡ true) (eqb a 4)
     (λ e. eq-eqb (c + r) 1 h)
     (λ e.
-    and-both (leb c 1) (leb r 1 && leb 1 (c + r)) (le-leb c 1 (omega arith))
-    (and-both (leb r 1) (leb 1 (c + r)) (le-leb r 1 (omega arith)) (le-leb 1 (c + r) (omega arith))))
+    and-both (le-leb c 1 (omega arith))
+    (and-both (le-leb r 1 (omega arith)) (le-leb 1 (c + r) (omega arith))))
 
 module _ (p : Picture) (wide : 1 ≤ p .width) where
   -- a place and the one on its left, and the one above it
@@ -111,7 +111,7 @@ pub pass-most : (p : Picture) (x y h : ℕ) → h ≤ 255 → Joined p h x y →
 unfolding pass
 pass-most p x y h b c =
     pass-below p x y h 256 0
-    (and-both (inSection p h x) (isIn y (componentAt p h x)) (at-section p h x (conn-source c)) (joined-in p h c))
+    (and-both (at-section p h x (conn-source c)) (joined-in p h c))
     (omega arith)
     (omega arith)
 

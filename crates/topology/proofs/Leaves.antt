@@ -84,7 +84,7 @@ module _ (p : Picture) where
 
   pub is-bottom : (x : ℕ) → At p (valueAt p x) x → firstAt p (valueAt p x) x ≡ x → leafAt p (valueAt p x) x ≡ true → bottom p x ≡ true
   unfolding bottom
-  is-bottom x s e l = and-both (isFirst p (valueAt p x) x) (leafAt p (valueAt p x) x) (is-first p (valueAt p x) x s e) l
+  is-bottom x s e l = and-both (is-first p (valueAt p x) x s e) l
 
   -- the first place of the minimum of a pixel
   pub first-bottom : (x : ℕ) → (s : At p (valueAt p x) x) → leafAt p (valueAt p x) x ≡ true → (bottom p (firstAt p (valueAt p x) x) ≡ true) × (valueAt p (firstAt p (valueAt p x) x) ≡ valueAt p x)

@@ -1,13 +1,13 @@
 -- The nodes of the tree: which components they are, each found by its number, no more of them than places.
 use mathlib.Core.Path.{_≡_, refl, sym, ap, ap₂, subst, _∙_}
-use mathlib.Core.Bool.{Bool, true, false, _&&_, not}
+use mathlib.Core.Bool.{Bool, false, _&&_, not}
 use mathlib.Core.Logic.{_⊎_, inl, inr, ⊎-elim}
 use mathlib.Core.List.{List, [], _∷_, _++_, map, map-map, List·Memᴰ, List·Memᴰ·not-nil, List·Memᴰ·append-cases, Memᴰ·append-left, Memᴰ·append-right, Memᴰ·map, Memᴰ·of-map}
 use Prim.Native.Nat.{ℕ, zero, suc, _+_, _≤_, _<_}
 use native.Mathlib.Omega.{arith}
 use lib.Dec.{eqb}
 use lib.ListN.{length, getD}
-use borrow.Author.Tests.{eqb-true, eq-eqb}
+use borrow.Author.Tests.{eqb-true, eq-eqb, not-true}
 use Rattle.picture.specs.Lists.{select, range}
 use Rattle.picture.specs.Pictures.{Picture, places, valueAt}
 use Rattle.picture.specs.Components.{componentAt}
@@ -57,10 +57,6 @@ module _ (p : Picture) where
       free : List ℕ → Bool
       free c = not (isBranch p k c)
 
-  not-true : (b : Bool) → not b ≡ true → b ≡ false
-  not-true true h = absurd (clash h refl)
-  not-true false h = refl
-
   mem-at : (k : ℕ) {n : Node} → k ≤ 255 → List·Memᴰ n (nodesAt p k) → IsNode p n
   unfolding isNode
   mem-at k {n} b m =
@@ -87,7 +83,7 @@ module _ (p : Picture) where
       (Memᴰ·map (node k)
       (mem-select (isNode p k) (range 0 (places p))
       (mem-range 0 (places p) (omega arith) (omega (arith, first-at p k y s .within)))
-      (and-both (isFirst p k z) (not (isBranch p k (componentAt p k z)))
+      (and-both
       (is-first p k z (first-at p k y s) (first-first p k y s))
       (not-of-false (isBranch p k (componentAt p k z))
       (ap (isBranch p k) (sym (component-same p k (first-joined p k y s))) ∙ h)))))
@@ -173,7 +169,7 @@ number-index (next {n = n} {ns} g s) b zero h =
     (λ e.
     absurd
     (clash
-    (and-both (eqb (n .height) (n .height)) (eqb (n .first) (n .first)) (eq-eqb (n .height) (n .height) refl) (eq-eqb (n .first) (n .first) refl))
+    (and-both (eq-eqb (n .height) (n .height) refl) (eq-eqb (n .first) (n .first) refl))
     e))
 number-index (next {n = n} {ns} g s) b (suc i) h =
     on-elim (λ (m : ℕ). m ≡ b + suc i) (eqb (n .height) (getD ns i (node 0 0) .height) && eqb (n .first) (getD ns i (node 0 0) .first))

@@ -54,7 +54,7 @@ module _ (f : Picture) (xs : List ℕ) (keeps : (k : ℕ) → Keeps (places f) (
     joined-partners : n .height ≡ m .height → Joined a (n .height) (n .first) (m .first) → partners f a n m ≡ true
     unfolding partners
     joined-partners e c =
-        and-both (eqb (n .height) (m .height)) (allWithin (componentOf f n) (componentOf a m)) (eq-eqb (n .height) (m .height) e)
+        and-both (eq-eqb (n .height) (m .height) e)
         (subst (λ (j : ℕ). allWithin (componentOf f n) (componentAt a j (m .first)) ≡ true) e
         (joined-within f a (n .height) (n .first) (m .first) s (conn-target c)
         (λ z d. conn-trans (joined-sym a (n .height) c) (joined-kept f xs keeps d))))

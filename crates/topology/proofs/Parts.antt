@@ -1,6 +1,6 @@
 -- The components of a height are those of the first places, rising.
 use mathlib.Core.Path.{_≡_, refl, sym, ap, subst, _∙_}
-use mathlib.Core.Bool.{Bool, true, false, _&&_, _||_, not}
+use mathlib.Core.Bool.{Bool, true, false, _&&_, not}
 use mathlib.Core.Logic.{⊎-elim, _↔_}
 use mathlib.Core.List.{List, [], _∷_, _++_, map, List·Memᴰ, Memᴰ·map, Memᴰ·of-map, append-nil, append-assoc}
 use Prim.Native.Nat.{ℕ, zero, suc, _+_, _≤_, _<_}
@@ -10,8 +10,8 @@ use borrow.Author.Tests.{eqb-true, eq-eqb}
 use Rattle.picture.specs.Lists.{any, all, tally, select, range, isIn}
 use Rattle.picture.specs.Pictures.{Picture, places}
 use Rattle.picture.specs.Components.{inSection, componentAt, componentsFrom, components}
-use Rattle.lists.proofs.Tests.{and-left, and-right, and-both, or-left, or-right, or-cases, not-of-false, on-test, on-elim, clash, test-false}
-use Rattle.lists.proofs.Lists.{select-in, select-out, select-mem, mem-select, range-mem, mem-range, all-mem, mem-all, tally-map, tally-select}
+use Rattle.lists.proofs.Tests.{and-left, and-right, and-both, or-left, or-right, or-cases, not-of-false, on-test, on-elim, clash, test-false, not-both}
+use Rattle.lists.proofs.Lists.{select-in, select-out, select-mem, mem-select, range-mem, mem-range, all-mem, mem-all, tally-map, tally-select, any-append}
 use Rattle.lists.proofs.Rising.{one-tally, tally-one}
 use Rattle.topology.proofs.Connected.{start}
 use Rattle.topology.proofs.Adjacency.{At, Joined, section-at, at-section}
@@ -20,15 +20,6 @@ use Rattle.topology.proofs.Reached.{firstAt, component-same, in-joined,
 -- x is the first place of its component of height k
 unfoldable pub isFirst : Picture → ℕ → ℕ → Bool
 isFirst p k x = inSection p k x && eqb (firstAt p k x) x
-
-any-append : {A : Type 0} (t : A → Bool) (l m : List A) → any t (l ++ m) ≡ (any t l || any t m)
-any-append t [] m = refl
-any-append t (x ∷ xs) m =
-    on-test (t x)
-    (λ e. ap (λ (b : Bool). b || any t (xs ++ m)) e ∙ sym (ap (λ (b : Bool). b || any t xs || any t m) e))
-    (λ e.
-    ap (λ (b : Bool). b || any t (xs ++ m)) e ∙
-    (any-append t xs m ∙ sym (ap (λ (b : Bool). (b || any t xs) || any t m) e)))
 
 module _ (p : Picture) (k : ℕ) where
   pub first-is : (x : ℕ) → x < places p → isFirst p k x ≡ true → At p k x × (firstAt p k x ≡ x)
@@ -41,7 +32,7 @@ module _ (p : Picture) (k : ℕ) where
   pub is-first : (x : ℕ) → At p k x → firstAt p k x ≡ x → isFirst p k x ≡ true
   unfolding isFirst
   is-first x s e =
-      and-both (inSection p k x) (eqb (firstAt p k x) x) (at-section p k x s) (eq-eqb (firstAt p k x) x e)
+      and-both (at-section p k x s) (eq-eqb (firstAt p k x) x e)
 
   -- the components cs hold the places whose first place is below x
   Covered : ℕ → List (List ℕ) → Type 0
@@ -53,7 +44,7 @@ module _ (p : Picture) (k : ℕ) where
     unfolding Covered
     starts h =
         let (s, e) = first-is x b h in
-        and-both (inSection p k x) (not (any (isIn x) cs)) (at-section p k x s)
+        and-both (at-section p k x s)
         (not-of-false (any (isIn x) cs) (test-false (any (isIn x) cs) (λ g. let q = c x s .0 g in omega arith)))
 
     passes : isFirst p k x ≡ false → (inSection p k x && not (any (isIn x) cs)) ≡ false
@@ -66,10 +57,6 @@ module _ (p : Picture) (k : ℕ) where
         let d : ¬ (firstAt p k x ≡ x) = λ e. clash (is-first x s e) h in
         let le : firstAt p k x ≤ x = first-least p k (start s) in
         not-both (any (isIn x) cs) (c x s .1 (omega arith)) n)
-      where
-        not-both : (t : Bool) → t ≡ true → not t ≡ true → ⊥
-        not-both true e f = clash f refl
-        not-both false e f = clash e refl
 
     covered-in : isFirst p k x ≡ true → Covered (suc x) (cs ++ (componentAt p k x ∷ []))
     unfolding Covered
@@ -89,12 +76,12 @@ module _ (p : Picture) (k : ℕ) where
               split ∙
               on-test (eqb (firstAt p k y) x)
               (λ i.
-              or-right (any (isIn y) cs) (any (isIn y) (componentAt p k x ∷ []))
-              (or-left (isIn y (componentAt p k x)) false
+              or-right (any (isIn y) cs)
+              (or-left false
               (joined-in p k (same-first p k x y sx s (e ∙ sym (eqb-true (firstAt p k y) x i))))))
               (λ i.
               let d : ¬ (firstAt p k y ≡ x) = λ q. clash (eq-eqb (firstAt p k y) x q) i in
-              or-left (any (isIn y) cs) (any (isIn y) (componentAt p k x ∷ [])) (c y s .1 (omega arith))),
+              or-left (any (isIn y) (componentAt p k x ∷ [])) (c y s .1 (omega arith))),
         )
 
     covered-out : isFirst p k x ≡ false → Covered (suc x) cs
@@ -195,7 +182,7 @@ module _ (p : Picture) (k : ℕ) where
               λ y sy g.
               let q =
               o .only (firstAt p k y) (omega arith) (omega (arith, first-at p k y sy .within))
-              (and-both (isFirst p k (firstAt p k y)) (t (componentAt p k (firstAt p k y)))
+              (and-both
               (is-first p k (firstAt p k y) (first-at p k y sy) (first-first p k y sy))
               (subst (λ (c : List ℕ). t c ≡ true) (component-same p k (first-joined p k y sy)) g))
               in
@@ -211,7 +198,7 @@ module _ (p : Picture) (k : ℕ) where
           from = omega arith;
           to = omega (arith, first-at p k (o .at) (o .place) .within);
           passes =
-              and-both (isFirst p k (firstAt p k (o .at))) (t (componentAt p k (firstAt p k (o .at))))
+              and-both
               (is-first p k (firstAt p k (o .at)) (first-at p k (o .at) (o .place)) (first-first p k (o .at) (o .place)))
               (subst (λ (c : List ℕ). t c ≡ true) (component-same p k (first-joined p k (o .at) (o .place))) (o .passes));
           only =

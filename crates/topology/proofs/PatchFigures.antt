@@ -7,13 +7,13 @@ use native.Mathlib.Omega.{arith}
 use lib.Dec.{eqb}
 use lib.ListN.{length, getD}
 use borrow.Author.Tests.{eqb-true, eq-eqb}
-use Rattle.picture.specs.Lists.{pick, tally, select, range, isIn, total}
+use Rattle.picture.specs.Lists.{tally, select, range, isIn}
 use Rattle.picture.specs.Pictures.{Picture, places, valueAt}
 use Rattle.picture.specs.Components.{componentAt}
 use Rattle.picture.specs.Trees.{Node, nodeAt, componentOf, mapOf}
 use Rattle.picture.specs.Patches.{patchNodes, Patch, patchOf, patchesFrom, patches, patchAt}
 use Rattle.lists.proofs.Tests.{on-test, same-test}
-use Rattle.lists.proofs.Lists.{select-in, select-out, select-mem, mem-select, in-mem, mem-in, range-mem, mem-range}
+use Rattle.lists.proofs.Lists.{select-mem, mem-select, in-mem, mem-in, range-mem, mem-range}
 use Rattle.lists.proofs.Rising.{rising-select, rising-equal}
 use Rattle.topology.proofs.Connected.{conn-target}
 use Rattle.topology.proofs.Adjacency.{At, Joined, joined-sym}
@@ -24,19 +24,6 @@ use Rattle.topology.proofs.Descent.{map-under, under-fork, under-is}
 use Rattle.lists.proofs.Positions.{tally-next-in, select-index, tally-inject}
 use Rattle.topology.proofs.Leaves.{leafAt, bottom, leaf, leaf-sound, leaf-same, leaf-no-branch, bottom-is, first-bottom, patch-nodes-are}
 use Rattle.topology.proofs.PatchNumbers.{patch-count, patch-in, patch-out}
-
--- a sum over selected members is one over all, with 0 for the others
-pub total-select : (g : ℕ → ℕ) (t : ℕ → Bool) (l : List ℕ) → total (map g (select t l)) ≡ total (map (λ x. pick (t x) (g x) 0) l)
-total-select g t [] = refl
-total-select g t (x ∷ xs) =
-    let r = total-select g t xs in
-    on-test (t x)
-    (λ e.
-    ap (λ (l : List ℕ). total (map g l)) (select-in t x xs e) ∙
-    (ap (λ (m : ℕ). g x + m) r ∙ sym (ap (λ (b : Bool). pick b (g x) 0 + total (map (λ y. pick (t y) (g y) 0) xs)) e)))
-    (λ e.
-    ap (λ (l : List ℕ). total (map g l)) (select-out t x xs e) ∙
-    (r ∙ sym (ap (λ (b : Bool). pick b (g x) 0 + total (map (λ y. pick (t y) (g y) 0) xs)) e ∙ omega arith)))
 
 module _ (p : Picture) (ok : Accepted p) where
   place : (x : ℕ) → x < places p → At p (valueAt p x) x

@@ -3,7 +3,7 @@ use mathlib.Core.Path.{_≡_, refl, sym, ap, subst, _∙_}
 use mathlib.Core.Bool.{Bool, true}
 use mathlib.Core.Logic.{by-cases}
 use mathlib.Core.List.{List, [], _∷_, map}
-use Prim.Native.Nat.{ℕ, zero, suc, _+_, _-_, _*_, _≤_, _<_}
+use Prim.Native.Nat.{ℕ, suc, _+_, _-_, _*_, _≤_, _<_}
 use native.Mathlib.Decide.{ℕ-discrete}
 use native.Mathlib.Omega.{arith}
 use lib.Dec.{eqb}
@@ -21,35 +21,15 @@ use Rattle.topology.proofs.Accepted.{Accepted}
 use Rattle.topology.proofs.Reached.{firstAt, first-least, first-at}
 use Rattle.lists.proofs.Numbers.{map-same}
 use Rattle.topology.proofs.Leaves.{leafAt, bottom, leaf, is-bottom}
-use Rattle.lists.proofs.Positions.{tally-range}
+use Rattle.lists.proofs.Positions.{tally-range, tally-reach}
+use Rattle.lists.proofs.Sums.{total-select, total-next, total-most}
 use Rattle.topology.proofs.PatchNumbers.{patch-in, patch-out}
-use Rattle.topology.proofs.PatchFigures.{total-select, bottom-number, patch-members, patches-count, patch-record}
+use Rattle.topology.proofs.PatchFigures.{bottom-number, patch-members, patches-count, patch-record}
 use Rattle.topology.proofs.LeafNodes.{bottom-map}
-use Rattle.topology.proofs.PatchesKept.{tally-reach}
 
 -- the sum of g over the first m places with the number c
 unfoldable pub sumAt : (ℕ → ℕ) → List ℕ → ℕ → ℕ → ℕ
 sumAt g numbers c m = total (map (λ x. pick (eqb (getD numbers x 0) c) (g x) 0) (range 0 m))
-
-total-next : (f : ℕ → ℕ) (y l : ℕ) → total (map f (range y (suc l))) ≡ total (map f (range y l)) + f (y + l)
-total-next f y zero = let e : y + 0 ≡ y = omega arith in let q = ap f e in omega arith
-total-next f y (suc l) =
-    let e : suc y + l ≡ y + suc l = omega arith in
-    let q = ap f e in
-    let r = total-next f (suc y) l in
-    omega arith
-
-total-most : (f : ℕ → ℕ) (d y l : ℕ) → ((x : ℕ) → x < y + l → f x ≤ d) → total (map f (range y l)) ≤ d * l
-total-most f d y zero h = omega arith
-total-most f d y (suc l) h =
-    let a = total-most f d y l (λ x b. h x (omega arith)) in
-    let b = total-next f y l in
-    let c = h (y + l) (omega arith) in
-    let e = mul-suc d l in
-    omega arith
-  where
-    mul-suc : (d l : ℕ) → d * suc l ≡ d * l + d
-    mul-suc d l = omega arith
 
 module _ (g : ℕ → ℕ) (numbers : List ℕ) (c : ℕ) where
   pub sum-none : sumAt g numbers c 0 ≡ 0

@@ -1,6 +1,6 @@
 -- A picture and its watershed have equally many patches, and partners are leaves together, of one height.
 use mathlib.Core.Path.{_≡_, refl, sym, ap, subst, _∙_}
-use mathlib.Core.Bool.{Bool, true}
+use mathlib.Core.Bool.{true}
 use mathlib.Core.Logic.{by-cases}
 use mathlib.Core.List.{List}
 use Prim.Native.Nat.{ℕ, zero, suc, _≤_, _<_}
@@ -16,7 +16,7 @@ use Rattle.picture.specs.Trees.{Node, nodes, nodeAt, componentOf}
 use Rattle.picture.specs.Watersheds.{watershed}
 use Rattle.picture.specs.Patches.{patches}
 use Rattle.picture.specs.Kept.{partners}
-use Rattle.lists.proofs.Tests.{and-left, and-right, same-test, on-test}
+use Rattle.lists.proofs.Tests.{and-left, and-right, same-test}
 use Rattle.topology.proofs.Connected.{start, conn-target, conn-trans}
 use Rattle.topology.proofs.Keeping.{Keeps, sec-mono}
 use Rattle.topology.proofs.Adjacency.{Adj, At, Joined, joined-sym}
@@ -27,26 +27,11 @@ use Rattle.topology.proofs.Water.{watershed-shape, watershed-watered}
 use Rattle.topology.proofs.Branches.{joined-mono, joined-kept}
 use Rattle.lists.proofs.Numbers.{pigeonhole}
 use Rattle.topology.proofs.Nodes.{node-is}
-use Rattle.lists.proofs.Positions.{tally-next-in, tally-next-out, tally-rises, tally-inject}
+use Rattle.lists.proofs.Positions.{tally-rises, tally-inject, tally-reach}
 use Rattle.topology.proofs.Leaves.{leafAt, bottom, leaf-sound, leaf-complete, leaf-same, bottom-is, first-bottom}
 use Rattle.topology.proofs.PatchFigures.{patches-count}
 use Rattle.topology.proofs.LeafNodes.{leafNode}
 use Rattle.topology.proofs.Demand.{demand-3}
-
--- each number below a tally is the number of members before one that passes the test
-pub tally-reach : (t : ℕ → Bool) (m i : ℕ) → i < tally t (range 0 m) → (z : ℕ) × (z < m) × (t z ≡ true) × (tally t (range 0 z) ≡ i)
-tally-reach t zero i h = absurd (omega arith)
-tally-reach t (suc m) i h =
-    on-test (t m)
-    (λ e.
-    let q = tally-next-in t m e in
-    by-cases (decLt i (tally t (range 0 m)))
-    (λ l. let (z, b, p, r) = tally-reach t m i l in (z, omega arith, p, r))
-    (λ l. (m, omega arith, e, omega arith)))
-    (λ e.
-    let q = tally-next-out t m e in
-    let (z, b, p, r) = tally-reach t m i (omega arith) in
-    (z, omega arith, p, r))
 
 module _ (f : Picture) (xs : List ℕ) (keeps : (k : ℕ) → Keeps (places f) (Adj f) (valueAt f) (valueAt (withPixels f xs)) k) where
   abbrev a : Picture

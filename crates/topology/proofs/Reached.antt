@@ -59,7 +59,7 @@ module _ (p : Picture) (k : ℕ) where
 
     stays : (y : ℕ) → isIn y c ≡ true → grows c y ≡ true
     unfolding grows
-    stays y h = or-left (isIn y c) (inSection p k y && touchesSome p y c) h
+    stays y h = or-left (inSection p k y && touchesSome p y c) h
 
     grown-tally : length (grown p k c) ≡ tally (grows c) (range 0 (places p))
     unfolding grows
@@ -82,8 +82,8 @@ module _ (p : Picture) (k : ℕ) where
         in-mem z c
         (tally-equal (λ u. isIn u c) (grows c) (range 0 (places p)) stays same
         (mem-range 0 (places p) (omega arith) (omega (arith, s .within)))
-        (or-right (isIn z c) (inSection p k z && touchesSome p z c)
-        (and-both (inSection p k z) (touchesSome p z c)
+        (or-right (isIn z c)
+        (and-both
         (at-section p k z s)
         (mem-any (touch p z) m (adj-sym p y z a)))))
 

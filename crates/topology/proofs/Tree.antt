@@ -1,6 +1,6 @@
 -- The component tree as a reader looks for it: heights rise along fathers, one root, no node with one son, and the map.
-use mathlib.Core.Path.{_≡_, refl, sym, ap, subst, _∙_}
-use mathlib.Core.Bool.{Bool, true, false, _&&_, not}
+use mathlib.Core.Path.{_≡_, sym, ap, subst, _∙_}
+use mathlib.Core.Bool.{Bool, false, _&&_, not}
 use mathlib.Core.Logic.{_⊎_, inl, inr, ⊎-elim, by-cases, _≢_}
 use Prim.Native.Nat.{ℕ, suc, _≤_, _<_}
 use native.Mathlib.Decide.{decLt}
@@ -11,7 +11,7 @@ use Rattle.picture.specs.Lists.{any, range, isIn}
 use Rattle.picture.specs.Components.{inSection, componentAt}
 use Rattle.picture.specs.Trees.{isBranch, nodes, nodeAt, numberOf, mapOf}
 use Rattle.topology.proofs.Accepted.{Accepted, byte-at}
-use Rattle.lists.proofs.Tests.{and-left, and-right, and-both, not-of-false, on-test, clash}
+use Rattle.lists.proofs.Tests.{and-left, and-right, and-both, not-of-false, on-test, clash, not-both}
 use Rattle.lists.proofs.Lists.{any-mem, mem-any, range-mem, mem-range}
 use Rattle.topology.proofs.Connected.{conn-source}
 use Rattle.topology.proofs.Reached.{firstAt, in-joined, joined-in}
@@ -102,7 +102,7 @@ module _ (p : Picture) (ok : Accepted p) where
       record {
         one = under p j z;
         two = under p j w;
-        differ = λ q. apart (isIn w (componentAt p j z)) (joined-in p j (under-joined p j z w (omega (arith, low)) s sw q)) away;
+        differ = λ q. not-both (isIn w (componentAt p j z)) (joined-in p j (under-joined p j z w (omega (arith, low)) s sw q)) away;
         in-one = under-is p j z (omega (arith, low)) s .number;
         in-two = under-is p j w (omega (arith, low)) sw .number;
         son-one = son-of i j z b h s c;
@@ -122,10 +122,6 @@ module _ (p : Picture) (ok : Accepted p) where
       other : ℕ → Bool
       other w = inSection p j w && (isIn w (componentAt p (suc j) (nodeAt p i .first)) && not (isIn w (componentAt p j z)))
 
-      apart : (t : Bool) → t ≡ true → not t ≡ true → ⊥
-      apart true e f = clash f refl
-      apart false e f = clash e refl
-
       only : any other (range 0 (places p)) ≡ false → Branch p j (nodeAt p i .first)
       only e =
           record {
@@ -140,8 +136,8 @@ module _ (p : Picture) (ok : Accepted p) where
                 absurd
                 (clash
                 (mem-any other (mem-range 0 (places p) (omega arith) (omega (arith, t .within)))
-                (and-both (inSection p j w) (isIn w (componentAt p (suc j) (nodeAt p i .first)) && not (isIn w (componentAt p j z))) (at-section p j w t)
-                (and-both (isIn w (componentAt p (suc j) (nodeAt p i .first))) (not (isIn w (componentAt p j z))) (joined-in p (suc j) d)
+                (and-both (at-section p j w t)
+                (and-both (joined-in p (suc j) d)
                 (not-of-false (isIn w (componentAt p j z)) q))))
                 e));
           }

@@ -2,7 +2,7 @@
 use mathlib.Core.Path.{_≡_, refl, sym, ap, subst, _∙_}
 use mathlib.Core.Bool.{true, _&&_, _||_}
 use mathlib.Core.Logic.{⊎-elim, by-cases}
-use mathlib.Core.List.{List, [], _∷_}
+use mathlib.Core.List.{List}
 use Prim.Native.Nat.{ℕ, zero, suc, _+_, _-_, _≤_, _<_}
 use native.Mathlib.Decide.{ℕ-discrete}
 use native.Mathlib.Omega.{arith}
@@ -14,6 +14,7 @@ use Rattle.picture.specs.Lists.{pick, range, total}
 use Rattle.picture.specs.Pictures.{Picture, places, valueAt, withPixels}
 use Rattle.picture.specs.Watersheds.{lowerable, bestFrom, best, lowered, waterFrom, watershed}
 use Rattle.lists.proofs.Tests.{and-left, and-right, and-both, or-cases, or-right, on-test, on-pick, on-elim, clash}
+use Rattle.lists.proofs.Sums.{total-lowered}
 use Rattle.topology.proofs.Keeping.{Keeps, Lowers, Fallen, keeps-refl, keeps-compose, lowering-keeps}
 use Rattle.topology.proofs.Adjacency.{Adj, adj-sym}
 use Rattle.topology.proofs.Bridge.{lowerable-above, lowerable-lowers}
@@ -49,7 +50,7 @@ module _ (p : Picture) where
       (λ e.
       nobody
       (below-suc x (λ z. lowerable p z ≡ true → ⊥) f
-      (λ g. clash (and-both (lowerable p x) (eqb 0 0 || ltb (valueAt p x) (valueAt p (0 - 1))) g refl) e)))
+      (λ g. clash (and-both g refl) e)))
   best-step x b (leader y h l f) =
       let back : suc y - 1 ≡ y = omega arith in
       on-pick (Best p (suc x)) (lowerable p x && (eqb (suc y) 0 || ltb (valueAt p x) (valueAt p (suc y - 1))))
@@ -73,8 +74,8 @@ module _ (p : Picture) where
       (λ i.
       absurd
       (clash
-      (and-both (lowerable p x) (eqb (suc y) 0 || ltb (valueAt p x) (valueAt p (suc y - 1))) g
-      (or-right (eqb (suc y) 0) (ltb (valueAt p x) (valueAt p (suc y - 1))) i))
+      (and-both g
+      (or-right (eqb (suc y) 0) i))
       e))
       (λ i.
       let q : valueAt p y ≤ valueAt p x =
@@ -110,11 +111,6 @@ water-step l p x e =
     (λ h. absurd (let q = eqb-true (best p) 0 h in omega arith))
     (λ h. let q : best p - 1 ≡ x = omega arith in ap (λ (y : ℕ). waterFrom l (lowered p y)) q)
 
-pub total-set : (xs : List ℕ) (x k : ℕ) → x < length xs → getD xs x 0 ≡ suc k → suc (total (set xs x k)) ≡ total xs
-total-set [] x k h e = absurd (omega arith)
-total-set (y ∷ ys) zero k h e = omega arith
-total-set (y ∷ ys) (suc x) k h e = let r = total-set ys x k (omega arith) e in omega arith
-
 -- ys is what lowering, one lowerable pixel after the other, can make of xs, and it ends there
 pub record Watered (f : Picture) (xs ys : List ℕ) : Type 0 where
   pub size : length ys ≡ length xs
@@ -123,15 +119,14 @@ pub record Watered (f : Picture) (xs ys : List ℕ) : Type 0 where
   pub stuck : (y : ℕ) → y < places f → lowerable (withPixels f ys) y ≡ true → ⊥
 
 module _ (f : Picture) where
-  -- one pixel lowered by 1
-  lower-fallen : (xs : List ℕ) (x k : ℕ) → x < length xs → getD xs x 0 ≡ suc k → Fallen (valueAt (withPixels f xs)) (valueAt (withPixels f (set xs x k))) x k
-  lower-fallen xs x k h e =
-      record { at = getD-set-same xs x k 0 h; other = λ y d. getD-set-other xs x y k 0 d }
+  -- one pixel replaced
+  pub set-fallen : (xs : List ℕ) (x k : ℕ) → x < length xs → Fallen (valueAt (withPixels f xs)) (valueAt (withPixels f (set xs x k))) x k
+  set-fallen xs x k h = record { at = getD-set-same xs x k 0 h; other = λ y d. getD-set-other xs x y k 0 d }
 
   pub lower-keeps : (xs : List ℕ) (x k : ℕ) → x < length xs → Lowers (places f) (Adj f) (valueAt (withPixels f xs)) x k → (j : ℕ) → Keeps (places f) (Adj f) (valueAt (withPixels f xs)) (valueAt (withPixels f (set xs x k))) j
   lower-keeps xs x k h l =
       lowering-keeps (places f) (Adj f) (adj-sym f) (valueAt (withPixels f xs)) (valueAt (withPixels f (set xs x k))) x k l
-      (lower-fallen xs x k h (l .value))
+      (set-fallen xs x k h)
 
   pub lower-under : (xs : List ℕ) (x k : ℕ) → x < length xs → getD xs x 0 ≡ suc k → (y : ℕ) → getD (set xs x k) y 0 ≤ getD xs y 0
   lower-under xs x k h e y =
@@ -160,7 +155,7 @@ module _ (f : Picture) where
           let (k, v) = lowerable-above (withPixels f xs) x c m in
           let w : getD xs x 0 - 1 ≡ k = omega arith in
           let c′ : x < length xs = omega arith in
-          let s = total-set xs x k c′ v in
+          let s = total-lowered xs x k c′ v in
           let (ys, i, d) = r (set xs x k) (length-set xs x k ∙ e) (omega arith) in
           let lo = lowerable-lowers (withPixels f xs) x c k v m in (
             ys,

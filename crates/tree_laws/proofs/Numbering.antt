@@ -3,7 +3,7 @@ use mathlib.Core.Path.{_≡_, refl, sym, ap, subst, _∙_}
 use mathlib.Core.Bool.{Bool, true, false, not}
 use mathlib.Core.Logic.{inl, inr, ⊎-elim, by-cases}
 use mathlib.Core.List.{List, map, map-map, List·Memᴰ, Memᴰ·map, Memᴰ·of-map}
-use Prim.Native.Nat.{ℕ, zero, suc, _+_, _-_, _≤_, _<_}
+use Prim.Native.Nat.{ℕ, suc, _+_, _-_, _≤_, _<_}
 use native.Mathlib.Decide.{ℕ-discrete, decLt}
 use native.Mathlib.Omega.{arith}
 use lib.ListN.{length, getD, length-map}
@@ -13,7 +13,8 @@ use Rattle.picture.specs.Components.{componentAt}
 use Rattle.picture.specs.Trees.{Node, isBranch, nodesAt, nodes, nodeAt, numberOf, mapOf}
 use Rattle.lists.proofs.Tests.{and-left, and-right, and-both, same-test, not-of-false, clash}
 use Rattle.lists.proofs.Lists.{select-mem, mem-select, length-select, tally-stronger, tally-equal, in-mem, mem-in, length-range, range-mem, mem-range, getD-map-range}
-use Rattle.lists.proofs.Rising.{Rising, none, more, rising-select, rising-equal}
+use Rattle.lists.proofs.Rising.{rising-select, rising-equal, rising-map}
+use borrow.Author.Tests.{not-true}
 use Rattle.topology.proofs.Connected.{start, conn-target}
 use Rattle.topology.proofs.Adjacency.{At, Joined, joined-sym}
 use Rattle.topology.proofs.Reached.{firstAt, first-joined, first-least, first-at}
@@ -48,16 +49,6 @@ pub record Numbered (p : Picture) (c d : ℕ) (f root st new fa fb : ℕ → ℕ
   pub others : (y : ℕ) → y < places p → root y ≡ y → (Member f c d y → ⊥) → new y ≡ st y
   pub fresh : (i : ℕ) → c ≤ i → i < d → fb i ≡ 65535
   pub old : (i : ℕ) → i < c → fb i ≡ fa i
-
-rising-map :
-    (f : ℕ → ℕ) (a c l : ℕ) → ((i : ℕ) → c ≤ i → i < c + l → a ≤ f i) → ((i j : ℕ) → c ≤ i → i < j → j < c + l → f i < f j) →
-    Rising a (map f (range c l))
-rising-map f a c zero g h = none
-rising-map f a c (suc l) g h =
-    more (g c (omega arith) (omega arith))
-    (rising-map f (suc (f c)) (suc c) l
-    (λ i b e. let q = h c i (omega arith) (omega arith) (omega arith) in omega arith)
-    (λ i j b e q. h i j (omega arith) e (omega arith)))
 
 module _ (p : Picture) (ok : Accepted p) (k c : ℕ) (low : k ≤ 255) (root st fa : ℕ → ℕ) (v : Level p k c root st fa) (e : Edges p k (places p) root) where
   all-upto : (y : ℕ) → At p k y → Upto p k (places p) y
@@ -135,7 +126,7 @@ module _ (p : Picture) (ok : Accepted p) (k c : ℕ) (low : k ≤ 255) (root st 
   node-test : (y : ℕ) → At p k y → root y ≡ y → 65534 ≤ st y → isNode p k y ≡ true
   unfolding isNode
   node-test y s r h =
-      and-both (isFirst p k y) (not (isBranch p k (componentAt p k y)))
+      and-both
       (is-first p k y s (sym (root-first y s) ∙ r))
       (not-of-false (isBranch p k (componentAt p k y)) (free-fork y s r h))
 
@@ -145,10 +136,6 @@ module _ (p : Picture) (ok : Accepted p) (k c : ℕ) (low : k ≤ 255) (root st 
       let (s, q) = first-is p k y b (and-left (isFirst p k y) (not (isBranch p k (componentAt p k y))) h) in
       let r = root-first y s ∙ q in
       (s, r, fork-free y s (not-true (isBranch p k (componentAt p k y)) (and-right (isFirst p k y) (not (isBranch p k (componentAt p k y))) h)) r)
-    where
-      not-true : (b : Bool) → not b ≡ true → b ≡ false
-      not-true true h = absurd (clash h refl)
-      not-true false h = refl
 
   -- a list of some new roots that lacks one is shorter than the definition's
   pub nodes-more :

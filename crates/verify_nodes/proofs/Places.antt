@@ -1,8 +1,8 @@
 -- Where the nodes of a height stand among the nodes, and that their first places rise.
-use mathlib.Core.Path.{_≡_, refl, sym, ap, subst, _∙_}
-use mathlib.Core.Bool.{true, not}
+use mathlib.Core.Path.{_≡_, sym, ap, subst, _∙_}
+use mathlib.Core.Bool.{true}
 use mathlib.Core.Logic.{by-cases}
-use mathlib.Core.List.{List, [], _∷_, map, List·Memᴰ, Memᴰ·map}
+use mathlib.Core.List.{List, List·Memᴰ, Memᴰ·map}
 use Prim.Native.Nat.{ℕ, zero, suc, _+_, _-_, _≤_, _<_}
 use native.Mathlib.Decide.{decLt}
 use native.Mathlib.Omega.{arith}
@@ -12,25 +12,12 @@ use Rattle.picture.specs.Pictures.{Picture, places}
 use Rattle.picture.specs.Components.{componentAt}
 use Rattle.picture.specs.Trees.{Node, isBranch, nodesAt, nodes, nodeAt}
 use Rattle.lists.proofs.Tests.{and-both, not-of-false}
-use Rattle.lists.proofs.Lists.{mem-select, mem-range}
-use Rattle.lists.proofs.Rising.{Rising, none, more, rising-from, rising-select}
-use Rattle.topology.proofs.Parts.{isFirst, is-first}
-use Rattle.lists.proofs.Numbers.{mem-index, index-mem}
+use Rattle.lists.proofs.Lists.{mem-select, mem-range, getD-map}
+use Rattle.lists.proofs.Rising.{rising-select}
+use Rattle.topology.proofs.Parts.{is-first}
+use Rattle.lists.proofs.Numbers.{mem-index, rising-at}
 use Rattle.topology.proofs.Nodes.{node, isNode, nodes-at, node-is, node-equal}
 use Rattle.tree_laws.proofs.Counts.{soFar, so-next, so-few, so-at}
-
-rising-at : {a : ℕ} {l : List ℕ} → Rising a l → (i j : ℕ) → i < j → j < length l → getD l i 0 < getD l j 0
-rising-at none i j h b = absurd (omega arith)
-rising-at (more {x = x} {xs} g r) zero zero h b = absurd (omega arith)
-rising-at (more {x = x} {xs} g r) zero (suc j) h b =
-    let q = rising-from r (index-mem 0 xs j (omega arith)) in omega arith
-rising-at (more {x = x} {xs} g r) (suc i) zero h b = absurd (omega arith)
-rising-at (more {x = x} {xs} g r) (suc i) (suc j) h b = rising-at r i j (omega arith) (omega arith)
-
-getD-map : {A B : Type 0} (f : A → B) (d : A) (e : B) (l : List A) (i : ℕ) → i < length l → getD (map f l) i e ≡ f (getD l i d)
-getD-map f d e [] i h = absurd (omega arith)
-getD-map f d e (x ∷ xs) zero h = refl
-getD-map f d e (x ∷ xs) (suc i) h = getD-map f d e xs i (omega arith)
 
 module _ (p : Picture) where
   -- a node's number is that of the first of its height and a part
@@ -47,7 +34,7 @@ module _ (p : Picture) where
       let y = nodeAt p i .first in
       let within = n .place .within in
       let test : isNode p k y ≡ true =
-      and-both (isFirst p k y) (not (isBranch p k (componentAt p k y)))
+      and-both
       (is-first p k y (n .place) (n .first))
       (not-of-false (isBranch p k (componentAt p k y)) (n .fork))
       in

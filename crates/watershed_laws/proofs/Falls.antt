@@ -7,15 +7,15 @@ use Prim.Native.Nat.{ℕ, zero, suc, _+_, _-_, _≤_, _<_}
 use native.Mathlib.Decide.{ℕ-discrete}
 use native.Mathlib.Omega.{arith}
 use lib.ListN.{length, getD, set, length-set}
-use lib.Seq.{getD-set-same, getD-set-other, set-set, set-getD}
+use lib.Seq.{set-set, set-getD}
 use Rattle.picture.specs.Lists.{total}
 use Rattle.picture.specs.Pictures.{Picture, places, valueAt, withPixels, touch}
 use Rattle.picture.specs.Watersheds.{lowerable, best, waterFrom, watershed}
 use Rattle.lists.proofs.Tests.{on-test, clash}
-use Rattle.topology.proofs.Keeping.{Fallen}
+use Rattle.lists.proofs.Sums.{total-lowered}
 use Rattle.topology.proofs.Adjacency.{Adj, adj-sym, adj-irreflexive}
 use Rattle.topology.proofs.Bridge.{lowerable-above, lowerable-lowers, lowers-lowerable}
-use Rattle.topology.proofs.Water.{Leads, less, ties, Best, nobody, leader, best-is, water-stop, water-step, total-set}
+use Rattle.topology.proofs.Water.{Leads, less, ties, Best, nobody, leader, best-is, water-stop, water-step, set-fallen}
 use Rattle.watershed_laws.proofs.Oracle.{Drops, drops-lowers, drops-wakes}
 
 -- x is before every lowerable place in the order of lowering, or is it
@@ -34,9 +34,6 @@ watershed-end g f = water-stop (total (g .pixels)) g (none (best-is g))
 module _ (f : Picture) where
   abbrev with : List ℕ → Picture
   with xs = withPixels f xs
-
-  set-fallen : (xs : List ℕ) (x s : ℕ) → x < length xs → Fallen (valueAt (with xs)) (valueAt (with (set xs x s))) x s
-  set-fallen xs x s h = record { at = getD-set-same xs x s 0 h; other = λ y d. getD-set-other xs x y s 0 d }
 
   leads-both : (g : Picture) (x y : ℕ) → Leads g x y → Leads g y x → x ≡ y
   leads-both g x y (less a) (less b) = absurd (omega arith)
@@ -64,7 +61,7 @@ module _ (f : Picture) where
       sym
       (water-step (total xs) (with xs) x (first-best (with xs) x b l h) ∙
       (ap (λ (z : ℕ). waterFrom (total xs) (with (set xs x z))) w ∙
-      ap (λ (z : ℕ). waterFrom z (with (set xs x k))) (sym (total-set xs x k c v))))
+      ap (λ (z : ℕ). waterFrom z (with (set xs x k))) (sym (total-lowered xs x k c v))))
 
   module _ (xs : List ℕ) (e : length xs ≡ places f) (x low s : ℕ) (d : Drops (places f) (Adj f) (valueAt (with xs)) x low s) (first : First (with xs) x) where
     inside : x < length xs
@@ -79,7 +76,7 @@ module _ (f : Picture) where
         (λ q.
         let (k, v) = lowerable-above (with (set xs x (suc j))) y c l in
         let lo = lowerable-lowers (with (set xs x (suc j))) y c k v l in
-        let fall = set-fallen xs x (suc j) inside in
+        let fall = set-fallen f xs x (suc j) inside in
         let vx = fall .at in
         let vy = fall .other y q in
         ⊎-elim
@@ -112,10 +109,10 @@ module _ (f : Picture) where
         ap (λ (z : ℕ). watershed (with (set xs x z))) q ∙ ap (λ (ys : List ℕ). watershed (with ys)) (set-getD xs x 0)
     fall-by (suc l) j g a =
         ap (λ (ys : List ℕ). watershed (with ys)) (sym (set-set xs x (suc j) j)) ∙
-        (step-water (set xs x (suc j)) x j (length-set xs x (suc j) ∙ e) (d .within) (set-fallen xs x (suc j) inside .at)
+        (step-water (set xs x (suc j)) x j (length-set xs x (suc j) ∙ e) (d .within) (set-fallen f xs x (suc j) inside .at)
         (lowers-lowerable (with (set xs x (suc j))) x (d .within) j
         (drops-lowers (places f) (Adj f) (adj-sym f) (adj-irreflexive f) (valueAt (with xs)) x low s d
-        (valueAt (with (set xs x (suc j)))) j a (omega arith) (set-fallen xs x (suc j) inside)))
+        (valueAt (with (set xs x (suc j)))) j a (omega arith) (set-fallen f xs x (suc j) inside)))
         at-top ∙
         fall-by l (suc j) (omega arith) (omega arith))
       where

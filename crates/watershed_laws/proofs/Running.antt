@@ -2,8 +2,8 @@
 use mathlib.Core.Path.{_≡_, refl, sym, ap, subst, _∙_}
 use mathlib.Core.Bool.{true}
 use mathlib.Core.Logic.{_⊎_, inl, inr, ⊎-elim, _≢_, by-cases}
-use mathlib.Core.List.{List, [], _∷_}
-use Prim.Native.Nat.{ℕ, zero, suc, _+_, _*_, _≤_, _<_}
+use mathlib.Core.List.{List}
+use Prim.Native.Nat.{ℕ, suc, _+_, _*_, _≤_, _<_}
 use native.Mathlib.Nat.{mul-le-mul}
 use native.Mathlib.Decide.{ℕ-discrete, decLt}
 use native.Mathlib.Omega.{arith}
@@ -15,11 +15,12 @@ use Rattle.picture.specs.Lists.{pick, total}
 use Rattle.picture.specs.Pictures.{Picture, places, valueAt, withPixels, touch}
 use Rattle.picture.specs.Watersheds.{lowerable, watershed}
 use Rattle.lists.proofs.Tests.{on-pick, on-test, clash}
+use Rattle.lists.proofs.Sums.{total-less}
 use Rattle.topology.proofs.Keeping.{Lowers, Fallen}
 use Rattle.topology.proofs.Adjacency.{Adj, adj-sym, adj-irreflexive}
 use Rattle.topology.proofs.Bridge.{lowerable-above, lowerable-lowers, lowers-lowerable}
 use Rattle.topology.proofs.Climb.{Meet, same, left, right}
-use Rattle.topology.proofs.Water.{less}
+use Rattle.topology.proofs.Water.{less, set-fallen}
 use Rattle.watershed_laws.proofs.Oracle.{Oracle, Stops, Drops, stops-drops, stops-there, drops-wakes, drops-oracle}
 use Rattle.watershed_laws.proofs.Falls.{First, fall-water}
 use Rattle.watershed_laws.proofs.WinnerTree.{Winner, winner-fallen, candidates}
@@ -106,15 +107,6 @@ places-most f a b = mul-le-mul a b
 
 decide-adj : (f : Picture) (y z : ℕ) → Adj f y z ⊎ (Adj f y z → ⊥)
 decide-adj f y z = on-test (touch f y z) (λ h. inl h) (λ h. inr (λ g. clash g h))
-
-set-fallen : (f : Picture) (g : List ℕ) (x s : ℕ) → x < length g → Fallen (valueAt (withPixels f g)) (valueAt (withPixels f (set g x s))) x s
-set-fallen f g x s h = record { at = getD-set-same g x s 0 h; other = λ y d. getD-set-other g x y s 0 d }
-
--- a smaller value, a smaller sum
-pub total-less : (g : List ℕ) (x s : ℕ) → x < length g → s < getD g x 0 → total (set g x s) < total g
-total-less [] x s h l = absurd (omega arith)
-total-less (y ∷ ys) zero s h l = omega arith
-total-less (y ∷ ys) (suc x) s h l = let r = total-less ys x s (omega arith) l in omega arith
 
 -- a climb in other cells that agree on the fathers of the nodes
 climb-same :

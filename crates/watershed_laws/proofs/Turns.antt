@@ -2,7 +2,7 @@
 use mathlib.Core.Path.{_≡_, sym, ap, subst, _∙_}
 use mathlib.Core.Bool.{true}
 use mathlib.Core.Logic.{inl, inr, ⊎-elim, by-cases}
-use mathlib.Core.List.{List, [], _∷_}
+use mathlib.Core.List.{List}
 use Prim.Native.Nat.{ℕ, suc, _+_, _*_, _≤_, _<_}
 use native.Mathlib.Nat.{mul-le-mul}
 use native.Mathlib.Decide.{ℕ-discrete}
@@ -12,6 +12,7 @@ use Rattle.picture.specs.Lists.{total}
 use Rattle.picture.specs.Pictures.{Picture, places, valueAt, withPixels}
 use Rattle.picture.specs.Trees.{nodes, nodeAt, fatherOf, mapOf}
 use Rattle.picture.specs.Watersheds.{lowerable, watershed}
+use Rattle.lists.proofs.Sums.{total-less, total-bounded}
 use Rattle.topology.proofs.Adjacency.{Adj}
 use Rattle.topology.proofs.Accepted.{Accepted, byte-at}
 use Rattle.topology.proofs.Nodes.{nodes-few}
@@ -23,7 +24,7 @@ use Rattle.watershed_laws.proofs.TreeOracle.{tree-oracle}
 use Rattle.watershed_laws.proofs.Falls.{First, watershed-end}
 use Rattle.watershed_laws.proofs.WinnerTree.{Beats, last, less as beats-less, ties as beats-ties, winner-beats, winner-place, candidates, candidates-most, candidates-fewer}
 use Rattle.watershed_laws.proofs.WinnerSteps.{Assigned, Building}
-use Rattle.watershed_laws.proofs.Running.{Running, Nobody, nobody, Settling, Settled, Turning, Turned, measure, places-most, total-less, running-with}
+use Rattle.watershed_laws.proofs.Running.{Running, Nobody, nobody, Settling, Settled, Turning, Turned, measure, places-most, running-with}
 
 -- the cells hold heights, fathers and map of the tree of p
 pub record Holds (p : Picture) (tree : List ℕ) : Type 0 where
@@ -178,12 +179,8 @@ falls-total f xs (fall {c = c} {ys = ys} x low s h e d) =
     let q = total-less ys x s (omega arith) (d .falls) in
     omega arith
 
-total-bytes : (xs : List ℕ) → ((i : ℕ) → getD xs i 0 ≤ 255) → total xs ≤ 255 * length xs
-total-bytes [] h = omega arith
-total-bytes (x ∷ xs) h = let r = total-bytes xs (λ i. h (suc i)) in let q : x ≤ 255 = h 0 in omega arith
-
 -- at most 255 falls a pixel
 pub falls-most :
     (f : Picture) (xs : List ℕ) {c : ℕ} {ys : List ℕ} → ((i : ℕ) → getD xs i 0 ≤ 255) → length xs ≡ places f →
     Falls f xs c ys → c ≤ 255 * places f
-falls-most f xs b e h = let r = falls-total f xs h in let q = total-bytes xs b in omega arith
+falls-most f xs b e h = let r = falls-total f xs h in let q = total-bounded 255 xs (λ i h. b i) in omega arith

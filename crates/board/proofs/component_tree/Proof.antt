@@ -4,11 +4,12 @@ use Prim.Native.Nat.{ℕ, _*_, _≤_}
 use native.Mathlib.Omega.{arith}
 use lib.ListN.{length}
 use Rattle.picture.specs.Pictures.{Picture, places, pictureOf}
+use Rattle.lists.proofs.Cuts.{drop-more}
 use Rattle.topology.proofs.Nodes.{nodes-few}
 use Rattle.board.specs.Trees.{shortest, treeFaultOf}
 use Rattle.faults.proofs.Laws.{Admitted}
 use Rattle.answers.proofs.Shell.{refused-answer, refused-left, accepted-answer, cleared-left}
-use Rattle.board.proofs.LentTrees.{lists-fault, tree-admitted, tree-rooms, list-left, drop-more}
+use Rattle.board.proofs.LentTrees.{lists-fault, tree-admitted, tree-rooms, list-left}
 use borrow.Author.Needs.{needs}
 use Rattle.board.proofs.component_tree.Statement.{statement}
 use Rattle.board.proofs.component_tree.Tie as tie

@@ -4,7 +4,8 @@ use native.Mathlib.Omega.{arith}
 use native.Mathlib.Nat.{add-zero}
 use borrow.Author.Needs.{needs}
 use denote.Ref.{now}
-use Rattle.p5.proofs.Answers.{rest-is, answer-within, refused-header}
+use Rattle.lists.proofs.Cuts.{take-rest}
+use Rattle.p5.proofs.Answers.{answer-within, refused-header}
 use Rattle.p5.specs.Files.{numberOf, readFile}
 use Rattle.board.proofs.Pixels.{pixels-read, pixels-none}
 use Rattle.board.proofs.file_pixels.Statement.{statement}
@@ -30,7 +31,7 @@ returns c =
     let f = now (c .before .before .before .before .args .file) in
     let r = c .before .before .read-file .ensures in
     record {
-      bytes = rest-is _ f ∙ rw (r .offset) (pixels-read f (sym (r .number) ∙ c .before .if1 .taken));
+      bytes = take-rest _ f ∙ rw (r .offset) (pixels-read f (sym (r .number) ∙ c .before .if1 .taken));
       memory = refl;
       start = omega (arith, r .offset);
     }

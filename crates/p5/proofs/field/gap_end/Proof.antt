@@ -1,5 +1,5 @@
 -- `p5::field::gap_end` meets its contract.
-use Rattle.p5.proofs.Tests.{was-true, was-false}
+use Rattle.lists.proofs.Tests.{was-true, was-false}
 -- `p5::field::gap_end` meets its contract.
 use mathlib.Core.Path.{_≡_, refl, _∙_}
 use Prim.Native.Nat.{_-_}

@@ -1,7 +1,7 @@
 -- `p5::field::with_digit` meets its contract.
 use borrow.Author.Tests.{leb-true}
 use borrow.Author.Needs.{needs}
-use Rattle.p5.proofs.Tests.{and-left}
+use Rattle.lists.proofs.Tests.{and-left}
 use Rattle.p5.proofs.field.with_digit.Statement.{statement}
 use Rattle.p5.proofs.field.with_digit.Tie as tie
 

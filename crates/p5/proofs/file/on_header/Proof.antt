@@ -5,7 +5,7 @@ use borrow.Author.Needs.{needs}
 use Rattle.picture.specs.Pictures.{sideFits}
 use Rattle.p5.specs.Files.{largestFits}
 use Rattle.p5.proofs.Answers.{sides-outside, largest-outside, count-differs, count-same}
-use Rattle.p5.proofs.Tests.{was-true, was-false}
+use Rattle.lists.proofs.Tests.{was-true, was-false}
 use Rattle.p5.proofs.file.on_header.Statement.{statement}
 use Rattle.p5.proofs.file.on_header.Tie as tie
 

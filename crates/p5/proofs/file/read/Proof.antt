@@ -1,11 +1,12 @@
 -- `p5::file::read` meets its contract.
-use Rattle.p5.proofs.Tests.{was-true, was-false}
+use Rattle.lists.proofs.Tests.{was-true, was-false}
+use Rattle.lists.proofs.Cuts.{take-rest}
 -- `p5::file::read` meets its contract.
 use mathlib.Core.Path.{sym, ap, _∙_}
 use borrow.Author.Needs.{needs}
 use denote.Ref.{now}
 use Rattle.p5.specs.Files.{onHeader, onWalk, malformedAt}
-use Rattle.p5.proofs.Answers.{rest-is, read-other, read-p5}
+use Rattle.p5.proofs.Answers.{read-other, read-p5}
 use Rattle.p5.proofs.Walking.{offset-within}
 use Rattle.p5.proofs.file.read.Statement.{statement}
 use Rattle.p5.proofs.file.read.Tie as tie
@@ -55,7 +56,7 @@ returns-3 c =
     let walked = c .before .before .before .before .before in
     let f = now (walked .before .before .before .before .args .file) in
     let h = told .0 .0 in
-    c .on-header .ensures ∙ ap (onHeader h) (rest-is (h .offset) f)
+    c .on-header .ensures ∙ ap (onHeader h) (take-rest (h .offset) f)
     ∙ sym (ap (onWalk f) (sym (walked .walk-header .ensures) ∙ told .1))
     ∙ read-p5 f (was-true (walked .before .before .begins-p5 .ensures) (walked .before .if1 .left))
 

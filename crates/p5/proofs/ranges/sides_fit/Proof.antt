@@ -1,5 +1,5 @@
 -- `p5::ranges::sides_fit` meets its contract.
-use Rattle.p5.proofs.Tests.{was-true, was-false}
+use Rattle.lists.proofs.Tests.{was-true, was-false}
 -- `p5::ranges::sides_fit` meets its contract.
 use mathlib.Core.Path.{_∙_}
 use borrow.Author.Needs.{needs}

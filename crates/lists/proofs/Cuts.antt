@@ -1,0 +1,33 @@
+-- Lists cut in two: what `take` and `drop` leave.
+use mathlib.Core.Path.{_≡_, refl, sym, ap, _∙_}
+use mathlib.Core.List.{List, [], _∷_, _++_}
+use Prim.Native.Nat.{ℕ, zero, suc, _+_, _-_, _≤_}
+use native.Mathlib.Omega.{arith}
+use lib.ListN.{length, take, drop, length-append, length-drop}
+use lib.Seq.{drop-nil, drop-drop, take-all, take-add, take-at}
+
+-- nothing is left past the end
+pub drop-all : (i : ℕ) (l : List ℕ) → length l ≤ i → drop i l ≡ []
+drop-all i [] h = drop-nil i
+drop-all zero (x ∷ xs) h = absurd (omega arith)
+drop-all (suc i) (x ∷ xs) h = drop-all i xs (omega arith)
+
+-- lists that are equal from a on are so from b on
+pub drop-more : (a b : ℕ) (l m : List ℕ) → a ≤ b → drop a l ≡ drop a m → drop b l ≡ drop b m
+drop-more a b l m h e =
+    let s : a + (b - a) ≡ b = omega arith in
+    ap (λ (i : ℕ). drop i l) (sym s) ∙
+    (sym (drop-drop (b - a) a l) ∙ (ap (drop (b - a)) e ∙ (drop-drop (b - a) a m ∙ ap (λ (i : ℕ). drop i m) s)))
+
+-- the part of a list from a position on, as a slice of it is made
+pub take-rest : (p : ℕ) (f : List ℕ) → take (length f - p) (drop p f) ≡ drop p f
+take-rest p f = take-all (length f - p) (drop p f) (omega (arith, length-drop p f))
+
+-- a part u that stands from p on, before q
+pub take-part : (f : List ℕ) (p q : ℕ) (u s : List ℕ) → drop p f ≡ u ++ s → q ≡ p + length u → take q f ≡ take p f ++ u
+take-part f p q u s e l =
+    ap (λ (n : ℕ). take n f) l ∙ take-add p (length u) f
+    ∙ ap (λ (k : List ℕ). take p f ++ k) (ap (take (length u)) e ∙ take-at u s _ refl)
+
+pub part-within : (f : List ℕ) (p q : ℕ) (u s : List ℕ) → 1 ≤ length u → drop p f ≡ u ++ s → q ≡ p + length u → q ≤ length f
+part-within f p q u s some e l = omega (arith, length-drop p f, ap length e ∙ length-append u s)
