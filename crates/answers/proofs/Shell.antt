@@ -16,14 +16,14 @@ use borrow.Author.Tests.{eq-eqb, ne-eqb}
 use Rattle.picture.specs.Lists.{pick}
 use Rattle.picture.specs.Pictures.{Picture, places}
 use Rattle.answers.specs.declared.Answer.{Answer}
-use Rattle.answers.specs.Answers.{over, afterCall, workAfter, Answered, Refused, Accepted}
+use Rattle.answers.specs.Answers.{over, afterCall, workAfter, Answered, IsRefusal, IsValue}
 
 -- a refusal with the fault f: the number with the value 0, and every lent slice as it was
 module _ (f g : ℕ) (e : g ≡ f) (d : g ≢ 0) where
   fails : eqb f 0 ≡ false
   fails = ne-eqb f 0 (λ z. d (e ∙ z))
 
-  pub refused-answer : (v : ℕ) (r : Answer) → Refused g r → Answered f v r
+  pub refused-answer : (v : ℕ) (r : Answer) → IsRefusal g r → Answered f v r
   refused-answer v r q =
       record {
         number = ap (λ (s : Answer). s .number) q ∙ e;
@@ -34,7 +34,7 @@ module _ (f g : ℕ) (e : g ≡ f) (d : g ≢ 0) where
   refused-left new old = sym (ap (λ (t : Bool). pick t new old) fails)
 
 -- success: the number 0 with the value, and every lent slice with its new content
-pub accepted-answer : (f v u : ℕ) (r : Answer) → f ≡ 0 → u ≡ v → Accepted u r → Answered f v r
+pub accepted-answer : (f v u : ℕ) (r : Answer) → f ≡ 0 → u ≡ v → IsValue u r → Answered f v r
 accepted-answer f v u r z w e =
     record {
       number = ap (λ (s : Answer). s .number) e ∙ sym z;

@@ -26,11 +26,11 @@ pub record Answered (f v : ℕ) (r : Answer) : Type 0 where
   pub value : r .value ≡ pick (eqb f 0) v 0
 
 -- the record of a refusal, and that of an answer
-abbrev pub Refused : ℕ → Answer → Type 0
-Refused f r = r ≡ record { number = f; value = 0 }
+abbrev pub IsRefusal : ℕ → Answer → Type 0
+IsRefusal f r = r ≡ record { number = f; value = 0 }
 
-abbrev pub Accepted : ℕ → Answer → Type 0
-Accepted v r = r ≡ record { number = 0; value = v }
+abbrev pub IsValue : ℕ → Answer → Type 0
+IsValue v r = r ≡ record { number = 0; value = v }
 
 -- work with its first 5 n entries cleared
 abbrev pub cleared : ℕ → List ℕ → List ℕ
@@ -38,5 +38,5 @@ cleared n q = replicate {A = ℕ} (5 * n) 0 ++ drop (5 * n) q
 
 -- the end of a call that is not refused: the value, and work cleared over 5 n entries
 pub record Finished (n v : ℕ) (q q′ : List ℕ) (r : Answer) : Type 0 where
-  pub answer : Accepted v r
+  pub answer : IsValue v r
   pub work : q′ ≡ cleared n q

@@ -3,7 +3,7 @@ use cells::clear;
 ghost use mathlib.Core.Path.{_≡_};
 ghost use Prim.Native.Nat.{_*_, _≤_};
 ghost use lib.ListN.{length};
-ghost use Rattle.answers.specs.Answers.{afterCall, Refused, Accepted, cleared, Finished};
+ghost use Rattle.answers.specs.Answers.{afterCall, IsRefusal, IsValue, cleared, Finished};
 
 // The number of a refusal, or 0 with the number of components, nodes or patches, the pass, 1 for yes, or 0 where nothing is counted.
 pub struct Answer {
@@ -12,7 +12,7 @@ pub struct Answer {
 }
 
 pub fn refused(number: u8) -> Answer
-    ensures { λ r. ⌜ Refused number r ⌝ }
+    ensures { λ r. ⌜ IsRefusal number r ⌝ }
 {
     Answer {
         number: number,
@@ -21,7 +21,7 @@ pub fn refused(number: u8) -> Answer
 }
 
 pub fn accepted(value: u32) -> Answer
-    ensures { λ r. ⌜ Accepted value r ⌝ }
+    ensures { λ r. ⌜ IsValue value r ⌝ }
 {
     Answer {
         number: 0,

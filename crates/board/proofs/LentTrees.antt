@@ -105,7 +105,7 @@ module _ (p : Picture) (count : ℕ) (hs fs ss m : List ℕ) where
   no-checked-fault f e =
       let z = first-zero f (when (not (isTree p count hs fs ss m)) 11) e in
       (z .0, not-false (isTree p count hs fs ss m) (when-zero 10 (not (isTree p count hs fs ss m)) (z .1)))
-    where
+
 -- the fault of two places
 module _ (n x y : ℕ) where
   pub places-both : when (leb n x || leb n y) 10 ≡ 0 → (x < n) × (y < n)

@@ -8,7 +8,7 @@ use lib.ListN.{length, getD, drop}
 use Rattle.picture.specs.Pictures.{Picture, places, isPicture}
 use Rattle.faults.proofs.Laws.{output-enough, admitted}
 use Rattle.answers.specs.declared.Answer.{Answer}
-use Rattle.answers.specs.Answers.{Refused, Finished}
+use Rattle.answers.specs.Answers.{IsRefusal, Finished}
 use Rattle.answers.proofs.Shell.{refused-answer, refused-left, accepted-answer, written-over, cleared-left}
 use Rattle.board.specs.Calls.{outputFaultOf, OutputSays}
 
@@ -22,7 +22,7 @@ pub record OutputLent (p : Picture) (o q : List ℕ) : Type 0 where
 
 -- g is the fault of the call
 module _ (p : Picture) (o q : List ℕ) (g : ℕ) (e : g ≡ outputFaultOf p o q) where
-  pub output-refused : g ≢ 0 → (v : ℕ) (new : List ℕ) (r : Answer) → Refused g r → OutputSays p v new o o q q r
+  pub output-refused : g ≢ 0 → (v : ℕ) (new : List ℕ) (r : Answer) → IsRefusal g r → OutputSays p v new o o q q r
   output-refused d v new r w =
       record {
         answer = refused-answer (outputFaultOf p o q) g e d v r w;

@@ -14,30 +14,30 @@ use mir.Syntax.{w8}
 use mir.Val.{toZ, ofZ}
 use Rattle.picture.specs.declared.Step.{Step}
 use Rattle.picture.specs.Geometry.{steps, plusOne, offset, used, within, stays, placeBy, reached, neighboursOf, Placed, Listed}
-use Rattle.geometry.specs.Steps.{isUnit, strideOf, stepAt, offEdge, isInner, Stepping, Leads, Put}
+use Rattle.geometry.specs.Steps.{isUnit, strideOf, stepAt, offEdge, isInner, Stepping, StepsTo, PutBehind}
 use Rattle.picture.proofs.Lists.{and-left, and-right, and-both, on-pick}
 use Rattle.picture.proofs.Sides.{within-some, area-most}
 use Rattle.geometry.proofs.Steps.{on-unit, unit-column, unit-row, off-edge-within, place-most, leads-from, row-under, used-step, reached-step, reached-one, reached-none}
 
 -- a step that leaves the edge puts nothing, another puts its place
-module _ (w h x : ℕ) (s : Step) (c r : ℕ) (to : Leads (x % w) (x / w) s c r) (m : ℕ) (cells : List ℕ) where
+module _ (w h x : ℕ) (s : Step) (c r : ℕ) (to : StepsTo (x % w) (x / w) s c r) (m : ℕ) (cells : List ℕ) where
   stays-is : stays w h x (offset s) ≡ (within w c && within h r)
   stays-is = ap₂ (λ d e. within w d && within h e) (sym (to .column)) (sym (to .row))
 
-  put-none : (within w c && within h r) ≡ false → Put (reached w h x (s ∷ [])) m cells m cells
+  put-none : (within w c && within h r) ≡ false → PutBehind (reached w h x (s ∷ [])) m cells m cells
   put-none e =
       rw (reached-none w h x s (stays-is ∙ e))
       (record { count = sym (add-zero m); whole = sym (take-append-drop m cells) })
 
-  pub put-beside : within w c ≡ false → Put (reached w h x (s ∷ [])) m cells m cells
+  pub put-beside : within w c ≡ false → PutBehind (reached w h x (s ∷ [])) m cells m cells
   put-beside e = put-none (rw e)
 
-  pub put-beyond : within w c ≡ true → within h r ≡ false → Put (reached w h x (s ∷ [])) m cells m cells
+  pub put-beyond : within w c ≡ true → within h r ≡ false → PutBehind (reached w h x (s ∷ [])) m cells m cells
   put-beyond d e = put-none (rw (d, e))
 
   pub put-one :
       within w c ≡ true → within h r ≡ true → m < length cells →
-      Put (reached w h x (s ∷ [])) m cells (m + 1) (set cells m ((r - 1) * w + (c - 1)))
+      PutBehind (reached w h x (s ∷ [])) m cells (m + 1) (set cells m ((r - 1) * w + (c - 1)))
   put-one d e l =
       let at : (r - 1) * w + (c - 1) ≡ placeBy w x (offset s) =
       ap₂ (λ k n. (n - 1) * w + (k - 1)) (to .column) (to .row) in
@@ -46,10 +46,10 @@ module _ (w h x : ℕ) (s : Step) (c r : ℕ) (to : Leads (x % w) (x / w) s c r)
 
   pub put-written :
       (n : ℕ) (after : List ℕ) → within w c ≡ true → within h r ≡ true → m < length cells → n ≡ m + 1 → after ≡ set cells m ((r - 1) * w + (c - 1)) →
-      Put (reached w h x (s ∷ [])) m cells n after
+      PutBehind (reached w h x (s ∷ [])) m cells n after
   put-written n after d e l p q =
-      subst (λ (k : ℕ). Put (reached w h x (s ∷ [])) m cells k after) (sym p)
-      (subst (λ (k : List ℕ). Put (reached w h x (s ∷ [])) m cells (m + 1) k) (sym q) (put-one d e l))
+      subst (λ (k : ℕ). PutBehind (reached w h x (s ∷ [])) m cells k after) (sym p)
+      (subst (λ (k : List ℕ). PutBehind (reached w h x (s ∷ [])) m cells (m + 1) k) (sym q) (put-one d e l))
 
 -- a step as the machine reads it
 abbrev read : ℤ → ℤ
@@ -82,7 +82,7 @@ module _ (w h column row : ℕ) (s : Step) (m : ℕ) (cells : List ℕ) (go : St
     down-is : d ≡ plusOne (s .row)
     down-is = ed ∙ read-unit (s .row) (go .unit .row)
 
-    pub step-leads : Leads ((row * w + column) % w) ((row * w + column) / w) s (column + r) (row + d)
+    pub step-leads : StepsTo ((row * w + column) % w) ((row * w + column) / w) s (column + r) (row + d)
     step-leads =
         leads-from w column row (go .in-row) s (column + r) (row + d)
         (record { column = ap (λ (n : ℕ). column + n) right-is; row = ap (λ (n : ℕ). row + n) down-is })
@@ -106,9 +106,9 @@ pub place-digits : (w h x : ℕ) → Placed w h x → Placed w h (x / w * w + x 
 place-digits w h x p = subst (Placed w h) (sym (div-add-mod' x w)) p
 
 pub put-digits :
-    (w h x : ℕ) (ss : List Step) (m : ℕ) (cells : List ℕ) (n : ℕ) (after : List ℕ) → Put (reached w h (x / w * w + x % w) ss) m cells n after →
-    Put (reached w h x ss) m cells n after
-put-digits w h x ss m cells n after p = subst (λ (y : ℕ). Put (reached w h y ss) m cells n after) (div-add-mod' x w) p
+    (w h x : ℕ) (ss : List Step) (m : ℕ) (cells : List ℕ) (n : ℕ) (after : List ℕ) → PutBehind (reached w h (x / w * w + x % w) ss) m cells n after →
+    PutBehind (reached w h x ss) m cells n after
+put-digits w h x ss m cells n after p = subst (λ (y : ℕ). PutBehind (reached w h y ss) m cells n after) (div-add-mod' x w) p
 
 -- a step puts one place at most
 pub put-most : (w h x : ℕ) (s : Step) → length (reached w h x (s ∷ [])) ≤ 1
@@ -123,16 +123,16 @@ module _ (zs : List ℕ) (m : ℕ) (cells : List ℕ) (n : ℕ) (after : List �
   front-length : n ≡ m + length zs → length (take m cells ++ zs) ≡ n
   front-length e = length-append (take m cells) zs ∙ ap (λ k. k + length zs) (length-take-le m cells (omega arith)) ∙ sym e
 
-  parted : Put zs m cells n after → after ≡ (take m cells ++ zs) ++ drop n cells
+  parted : PutBehind zs m cells n after → after ≡ (take m cells ++ zs) ++ drop n cells
   parted p = p .whole ∙ sym (append-assoc (take m cells) zs (drop n cells))
 
-  pub put-take : Put zs m cells n after → take n after ≡ take m cells ++ zs
+  pub put-take : PutBehind zs m cells n after → take n after ≡ take m cells ++ zs
   put-take p = ap (take n) (parted p) ∙ take-at (take m cells ++ zs) (drop n cells) n (front-length (p .count))
 
-  pub put-drop : Put zs m cells n after → drop n after ≡ drop n cells
+  pub put-drop : PutBehind zs m cells n after → drop n after ≡ drop n cells
   put-drop p = ap (drop n) (parted p) ∙ drop-at (take m cells ++ zs) (drop n cells) n (front-length (p .count))
 
-  pub put-size : Put zs m cells n after → length after ≡ length cells
+  pub put-size : PutBehind zs m cells n after → length after ≡ length cells
   put-size p =
       let e = ap length (parted p) ∙ length-append (take m cells ++ zs) (drop n cells) in
       omega (arith, front-length (p .count), length-drop n cells, p .count)
@@ -172,7 +172,7 @@ module _ (a w h x : ℕ) (old : List ℕ) where
   pub front-turn :
       (cells : List ℕ) (m i : ℕ) (after : List ℕ) (n : ℕ) →
       Front a w h x old cells m i → i < 8 →
-      Put (reached w h x (stepAt i ∷ [])) m cells n after →
+      PutBehind (reached w h x (stepAt i ∷ [])) m cells n after →
       Front a w h x old after n (i + strideOf a)
   front-turn cells m i after n f l p =
       let zs = reached w h x (stepAt i ∷ []) in

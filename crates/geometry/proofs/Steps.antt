@@ -15,7 +15,7 @@ use lib.Seq.{drop-cons}
 use borrow.Author.Tests.{leb-true, ltb-true, le-leb}
 use Rattle.picture.specs.Lists.{pick}
 use Rattle.picture.specs.Geometry.{step, steps, plusOne, offset, everySecond, used, within, stays, placeBy, reached}
-use Rattle.geometry.specs.Steps.{isUnit, Unit, strideOf, stepAt, offEdge, Leads}
+use Rattle.geometry.specs.Steps.{isUnit, Unit, strideOf, stepAt, offEdge, StepsTo}
 use Rattle.picture.proofs.Lists.{and-left, and-right, and-both, all-at}
 use Rattle.picture.proofs.Sides.{within-some, within-most, area-most}
 
@@ -61,7 +61,7 @@ place-most w h c r p q d e =
 
 -- a place by its column and row
 module _ (w column row : ℕ) (b : column < w) where
-  pub leads-from : (s : Step) (c r : ℕ) → Leads column row s c r → Leads ((row * w + column) % w) ((row * w + column) / w) s c r
+  pub leads-from : (s : Step) (c r : ℕ) → StepsTo column row s c r → StepsTo ((row * w + column) % w) ((row * w + column) / w) s c r
   leads-from s c r l =
       record {
         column = l .column ∙ ap (λ (n : ℕ). n + offset s .column) (sym (digits-mod row b));

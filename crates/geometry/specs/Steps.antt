@@ -44,11 +44,11 @@ pub record Stepping (w h column row : ℕ) (s : Step) (m : ℕ) (cells : List �
   pub room : m < length cells
 
 -- the column and the row that a step leads to from another column and row, each plus one
-pub record Leads (column₀ row₀ : ℕ) (s : Step) (c r : ℕ) : Type 0 where
+pub record StepsTo (column₀ row₀ : ℕ) (s : Step) (c r : ℕ) : Type 0 where
   pub column : c ≡ column₀ + offset s .column
   pub row : r ≡ row₀ + offset s .row
 
 -- the places zs put behind the first m cells, and the number of cells then in front
-pub record Put (zs : List ℕ) (m : ℕ) (cells : List ℕ) (n : ℕ) (after : List ℕ) : Type 0 where
+pub record PutBehind (zs : List ℕ) (m : ℕ) (cells : List ℕ) (n : ℕ) (after : List ℕ) : Type 0 where
   pub count : n ≡ m + length zs
   pub whole : after ≡ take m cells ++ (zs ++ drop n cells)

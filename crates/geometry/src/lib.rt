@@ -6,7 +6,7 @@ ghost use Prim.Native.Nat.{_+_, _-_, _*_, _≤_, _<_};
 ghost use mathlib.Core.Bool.{true};
 ghost use lib.ListN.{length, set};
 ghost use Rattle.picture.specs.Geometry.{plusOne, within, reached, neighboursOf, Placed, Listed};
-ghost use Rattle.geometry.specs.Steps.{isUnit, strideOf, offEdge, isInner, Stepping, Put};
+ghost use Rattle.geometry.specs.Steps.{isUnit, strideOf, offEdge, isInner, Stepping, PutBehind};
 
 // The eight steps in their order; adjacency 4 uses every second one.
 pub const STEPS: [Step; 8] = [
@@ -93,7 +93,7 @@ fn put_inner(
     m: usize,
 ) -> usize
     requires { ⌜ Stepping w h column row step m (now cells) × (isInner w h column row ≡ true) ⌝ }
-    ensures { λ r. ⌜ Put (reached w h (row * w + column) (step ∷ [])) m (now (cells .entry)) r (now (cells .exit)) ⌝ }
+    ensures { λ r. ⌜ PutBehind (reached w h (row * w + column) (step ∷ [])) m (now (cells .entry)) r (now (cells .exit)) ⌝ }
 {
     let right = column + plus_one(step.column);
     let down = row + plus_one(step.row);
@@ -111,7 +111,7 @@ fn put_tested(
     m: usize,
 ) -> usize
     requires { ⌜ Stepping w h column row step m (now cells) ⌝ }
-    ensures { λ r. ⌜ Put (reached w h (row * w + column) (step ∷ [])) m (now (cells .entry)) r (now (cells .exit)) ⌝ }
+    ensures { λ r. ⌜ PutBehind (reached w h (row * w + column) (step ∷ [])) m (now (cells .entry)) r (now (cells .exit)) ⌝ }
 {
     let right = column + plus_one(step.column);
     let down = row + plus_one(step.row);
@@ -136,7 +136,7 @@ fn put_step(
     m: usize,
 ) -> usize
     requires { ⌜ Stepping w h column row step m (now cells) × (inner ≡ isInner w h column row) ⌝ }
-    ensures { λ r. ⌜ Put (reached w h (row * w + column) (step ∷ [])) m (now (cells .entry)) r (now (cells .exit)) ⌝ }
+    ensures { λ r. ⌜ PutBehind (reached w h (row * w + column) (step ∷ [])) m (now (cells .entry)) r (now (cells .exit)) ⌝ }
 {
     if inner {
         return put_inner(w, h, column, row, step, cells, m);

@@ -12,7 +12,7 @@ ghost use Prim.Native.Nat.{_*_, _≤_};
 ghost use lib.ListN.{length};
 ghost use Rattle.picture.specs.Pictures.{isPicture, pictureOf};
 ghost use Rattle.patches.specs.Figures.{Figures};
-ghost use Rattle.patch_numbers.specs.Numbers.{Sizes};
+ghost use Rattle.patch_numbers.specs.Numbers.{FiveBlocks};
 ghost use Rattle.text.specs.Writing.{Written};
 ghost use Rattle.hold_list.specs.HoldText.{patchList, holdList, holdText};
 
@@ -26,7 +26,7 @@ fn put_list(
     cells: &[u16],
     out: &mut [u8],
 ) -> usize
-    requires { ⌜ (isPicture (pictureOf 4 w h (now pixels)) ≡ true) × Sizes (w * h) (now work) (now cells) × Figures (pictureOf 4 w h (now pixels)) count (now work) (now cells) × (59264 ≤ length (now out)) ⌝ }
+    requires { ⌜ (isPicture (pictureOf 4 w h (now pixels)) ≡ true) × FiveBlocks (w * h) (now work) (now cells) × Figures (pictureOf 4 w h (now pixels)) count (now work) (now cells) × (59264 ≤ length (now out)) ⌝ }
     ensures { λ r. ⌜ Written 0 (patchList (pictureOf 4 w h (now (pixels .entry)))) (now (out .entry)) r (now (out .exit)) ⌝ }
 {
     // where the blocks of row sums, depths and heights begin; sizes are at 0, column sums at n
@@ -57,7 +57,7 @@ fn put_patches(
     cells: &mut [u16],
     out: &mut [u8],
 ) -> usize
-    requires { ⌜ (isPicture (pictureOf 4 w h (now pixels)) ≡ true) × Sizes (w * h) (now work) (now cells) × (59264 ≤ length (now out)) ⌝ }
+    requires { ⌜ (isPicture (pictureOf 4 w h (now pixels)) ≡ true) × FiveBlocks (w * h) (now work) (now cells) × (59264 ≤ length (now out)) ⌝ }
     ensures { λ r. ⌜ Written 0 (patchList (pictureOf 4 w h (now (pixels .entry)))) (now (out .entry)) r (now (out .exit)) ⌝ }
 {
     let count = patch_figures(4, w, h, pixels, work, cells);
@@ -74,7 +74,7 @@ fn put_holds_with(
     cells: &mut [u16],
     out: &mut [u8],
 ) -> usize
-    requires { ⌜ (isPicture (pictureOf 4 w h (now pixels)) ≡ true) × (length (now water) ≡ w * h) × Sizes (w * h) (now work) (now cells) × (59264 ≤ length (now out)) ⌝ }
+    requires { ⌜ (isPicture (pictureOf 4 w h (now pixels)) ≡ true) × (length (now water) ≡ w * h) × FiveBlocks (w * h) (now work) (now cells) × (59264 ≤ length (now out)) ⌝ }
     ensures { λ r. ⌜ Written 0 (holdList (pictureOf 4 w h (now (pixels .entry)))) (now (out .entry)) r (now (out .exit)) ⌝ }
 {
     watershed_core(4, w, h, pixels, water, work);

@@ -12,12 +12,12 @@ use Rattle.picture.specs.Geometry.{neighboursIn}
 use Rattle.picture.specs.Watersheds.{lowerable}
 use Rattle.topology.proofs.Accepted.{accepted-is}
 use Rattle.labelling_laws.proofs.Agreeing.{isSingle, Common, not-lowerable, label-small, common-end}
-use Rattle.labels.specs.Labels.{Ready}
+use Rattle.labels.specs.Labels.{LabelReady}
 use Rattle.labels.proofs.Scans.{picture-few}
 
 module _ (p : Picture) (a : isPicture p ≡ true) where
   -- a stack of 1,600 cells is large enough
-  pub stack-ready : (l stack : List ℕ) → length l ≡ places p → length stack ≡ 1600 → Ready p l stack
+  pub stack-ready : (l stack : List ℕ) → length l ≡ places p → length stack ≡ 1600 → LabelReady p l stack
   stack-ready l stack e f =
       record { accepted = a; label = e; cells = let m = picture-few p a in omega arith }
 

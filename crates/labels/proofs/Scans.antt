@@ -14,7 +14,7 @@ use Rattle.lists.proofs.Lists.{tally-length}
 use Rattle.topology.proofs.Parts.{isFirst, first-is}
 use Rattle.topology.proofs.Accepted.{accepted-is, places-bound}
 use Rattle.labelling_laws.proofs.Labelled.{Labelled, labelled-start, count-most, outside-first, labelled-first, unlabelled-first, labelled-pass, labelled-fresh, labelled-new, labelled-flood, labelled-end}
-use Rattle.labels.specs.Labels.{Ready, Scanned, LabelsHold}
+use Rattle.labels.specs.Labels.{LabelReady, LabelsBefore, LabelsHold}
 use Rattle.floods.specs.Floods.{Room, Seed, Floods}
 
 -- what an accepted picture gives
@@ -28,17 +28,17 @@ module _ (p : Picture) (a : isPicture p ≡ true) where
   pub picture-placed : (x : ℕ) → x < places p → Placed (p .width) (p .height) x
   picture-placed x h = let e = accepted-is p a in record { some = e .wide; wide = e .narrow; high = e .short; inside = h }
 
-module _ (p : Picture) (l stack : List ℕ) (a : Ready p l stack) where
+module _ (p : Picture) (l stack : List ℕ) (a : LabelReady p l stack) where
   pub ready-room : Room (places p) (p .pixels) l stack 0
   ready-room =
       let most = tally-length (eqb 0) l in
       record { few = picture-few p (a .accepted); pixel = picture-size p (a .accepted); label = a .label; cells = a .cells; room = omega arith }
 
   module _ (k x c : ℕ) (h : x < places p) (s : Labelled p k x c l) where
-    pub scan-outside : inSection p k x ≡ false → Scanned p k (x + 1) c l stack stack
+    pub scan-outside : inSection p k x ≡ false → LabelsBefore p k (x + 1) c l stack stack
     scan-outside e = record { labelled = labelled-pass p k x c l h s (outside-first p k x c l h s e); rest = refl }
 
-    pub scan-labelled : getD l x 0 ≢ 0 → Scanned p k (x + 1) c l stack stack
+    pub scan-labelled : getD l x 0 ≢ 0 → LabelsBefore p k (x + 1) c l stack stack
     scan-labelled e = record { labelled = labelled-pass p k x c l h s (labelled-first p k x c l h s e); rest = refl }
 
     -- the number of components so far, and one more
@@ -59,7 +59,7 @@ module _ (p : Picture) (l stack : List ℕ) (a : Ready p l stack) where
 
       pub scan-flood :
           (m after : List ℕ) → length m ≡ length l → Floods p k x (c + 1) l stack m after →
-          Scanned p k (x + 1) (c + 1) m stack after
+          LabelsBefore p k (x + 1) (c + 1) m stack after
       scan-flood m after size f =
           record {
             labelled = labelled-flood p k x c l h s begins m (size ∙ a .label) (f .marks);
@@ -69,7 +69,7 @@ module _ (p : Picture) (l stack : List ℕ) (a : Ready p l stack) where
 -- n places, all labels cleared
 pub scan-start :
     (p : Picture) (k n : ℕ) (l m stack : List ℕ) → length l ≡ places p → n ≡ places p → m ≡ replicate {A = ℕ} n 0 ++ drop n l →
-    Scanned p k 0 0 m stack stack
+    LabelsBefore p k 0 0 m stack stack
 scan-start p k n l m stack e d f =
     record {
       labelled =
@@ -85,18 +85,18 @@ scan-start p k n l m stack e d f =
 
 -- the labels and the stack at the place x are ready for the next
 pub scan-ready :
-    (p : Picture) (k x c : ℕ) (l stack m after : List ℕ) → Ready p l stack → length after ≡ length stack →
-    Scanned p k x c m stack after → Ready p m after
+    (p : Picture) (k x c : ℕ) (l stack m after : List ℕ) → LabelReady p l stack → length after ≡ length stack →
+    LabelsBefore p k x c m stack after → LabelReady p m after
 scan-ready p k x c l stack m after a e s =
     record { accepted = a .accepted; label = s .labelled .size; cells = let q = a .cells in omega arith }
 
 pub scan-turn :
-    (p : Picture) (k x c r : ℕ) (m o stack after last : List ℕ) → Scanned p k x c m stack after →
-    Scanned p k (x + 1) r o after last → Scanned p k (x + 1) r o stack last
+    (p : Picture) (k x c r : ℕ) (m o stack after last : List ℕ) → LabelsBefore p k x c m stack after →
+    LabelsBefore p k (x + 1) r o after last → LabelsBefore p k (x + 1) r o stack last
 scan-turn p k x c r m o stack after last s t = record { labelled = t .labelled; rest = t .rest ∙ s .rest }
 
 pub scan-end :
-    (p : Picture) (k x c : ℕ) (m stack after : List ℕ) → x ≡ places p → Scanned p k x c m stack after → LabelsHold p k c m stack after
+    (p : Picture) (k x c : ℕ) (m stack after : List ℕ) → x ≡ places p → LabelsBefore p k x c m stack after → LabelsHold p k c m stack after
 scan-end p k x c m stack after e s =
     let w = labelled-end p k c m (subst (λ y. Labelled p k y c m) e (s .labelled)) in
     record { labels = w .0; count = w .1; rest = s .rest }

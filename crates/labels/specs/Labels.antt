@@ -9,13 +9,13 @@ use Rattle.picture.specs.Components.{components, labels}
 use Rattle.labelling_laws.proofs.Labelled.{Labelled}
 
 -- an accepted picture with a label for each place, and a stack of as many cells at least
-pub record Ready (p : Picture) (l stack : List ℕ) : Type 0 where
+pub record LabelReady (p : Picture) (l stack : List ℕ) : Type 0 where
   pub accepted : isPicture p ≡ true
   pub label : length l ≡ places p
   pub cells : places p ≤ length stack
 
 -- the labels of the components that begin before x, r of them; the cells beyond the stack are as they were
-pub record Scanned (p : Picture) (k x r : ℕ) (m stack after : List ℕ) : Type 0 where
+pub record LabelsBefore (p : Picture) (k x r : ℕ) (m stack after : List ℕ) : Type 0 where
   pub labelled : Labelled p k x r m
   pub rest : drop (places p) after ≡ drop (places p) stack
 

@@ -3,7 +3,7 @@ use cells::clear;
 use floods::flood;
 use floods::in_section;
 ghost use Prim.Native.Nat.{_+_, _*_, _<_};
-ghost use Rattle.labels.specs.Labels.{Ready, Scanned, LabelsHold};
+ghost use Rattle.labels.specs.Labels.{LabelReady, LabelsBefore, LabelsHold};
 ghost use Rattle.picture.specs.Pictures.{pictureOf};
 ghost use Rattle.labelling_laws.proofs.Labelled.{Labelled};
 
@@ -19,8 +19,8 @@ fn label_place(
     labels: &mut [u16],
     stack: &mut [u16],
 ) -> u16
-    requires { ⌜ Ready (pictureOf a w h (now pixels)) (now labels) (now stack) × Labelled (pictureOf a w h (now pixels)) k x c (now labels) × (x < w * h) ⌝ }
-    ensures { λ r. ⌜ Scanned (pictureOf a w h (now (pixels .entry))) k (x + 1) r (now (labels .exit)) (now (stack .entry)) (now (stack .exit)) ⌝ }
+    requires { ⌜ LabelReady (pictureOf a w h (now pixels)) (now labels) (now stack) × Labelled (pictureOf a w h (now pixels)) k x c (now labels) × (x < w * h) ⌝ }
+    ensures { λ r. ⌜ LabelsBefore (pictureOf a w h (now (pixels .entry))) k (x + 1) r (now (labels .exit)) (now (stack .entry)) (now (stack .exit)) ⌝ }
 {
     if !in_section(pixels[x], k) {
         return c;
@@ -42,7 +42,7 @@ pub fn label(
     labels: &mut [u16],
     stack: &mut [u16],
 ) -> u16
-    requires { ⌜ Ready (pictureOf a w h (now pixels)) (now labels) (now stack) ⌝ }
+    requires { ⌜ LabelReady (pictureOf a w h (now pixels)) (now labels) (now stack) ⌝ }
     ensures { λ r. ⌜ LabelsHold (pictureOf a w h (now (pixels .entry))) k r (now (labels .exit)) (now (stack .entry)) (now (stack .exit)) ⌝ }
 {
     let n = pixels.len();

@@ -136,7 +136,7 @@ number-stood : (f : List ℕ) (p : ℕ) {v q : ℕ} → numberAt f p ≡ Number 
 number-stood f p {v} {q} e = stood f p v q (number-stands f p e)
 
 -- the bytes before the place where a walk stopped begin a header, and the place lies within the file
-pub record Begun (f : List ℕ) (p : ℕ) : Type 0 where
+pub record BeginsHeader (f : List ℕ) (p : ℕ) : Type 0 where
   pub within : p ≤ length f
   pub fit : Begins (take p f)
 
@@ -147,7 +147,7 @@ module _ (f : List ℕ) (e : beginsP5 f ≡ true) where
   long : 2 ≤ length f
   long = omega (arith, ap length (p5-bytes f e))
 
-  pub begun : (p : ℕ) → Walking f (Stopped p) → Begun f p
+  pub begun : (p : ℕ) → Walking f (Stopped p) → BeginsHeader f p
   begun p (first a) =
       let x = number-short f 2 long a in
       record {

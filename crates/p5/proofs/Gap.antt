@@ -29,13 +29,13 @@ module _ (f : List ℕ) (i : ℕ) where
   gap-past h = reach-past isWhite f i h
 
 -- where there is a gap, it is what stands there
-pub record Split (f : List ℕ) (p : ℕ) : Type 0 where
+pub record GapSplit (f : List ℕ) (p : ℕ) : Type 0 where
   pub gap : List ℕ
   pub bytes : drop p f ≡ gap ++ drop (gapEnd f p) f
   pub is-gap : Gap gap
   pub end : gapEnd f p ≡ p + length gap
 
-pub gap-split : (f : List ℕ) (p : ℕ) → (gapEnd f p ≡ p → ⊥) → Split f p
+pub gap-split : (f : List ℕ) (p : ℕ) → (gapEnd f p ≡ p → ⊥) → GapSplit f p
 unfolding gapEnd
 gap-split f p e =
     let n = leading isWhite (drop p f) in

@@ -25,7 +25,7 @@ use Rattle.patches.specs.Figures.{noPatch, Figures}
 use Rattle.patch_records.specs.Records.{Entry, Entries, recordAt, records}
 use Rattle.answers.specs.declared.Answer.{Answer}
 use Rattle.faults.specs.Faults.{workFault}
-use Rattle.answers.specs.Answers.{Refused, Accepted as Accepting}
+use Rattle.answers.specs.Answers.{IsRefusal, IsValue}
 use Rattle.patch_lists.specs.PatchLists.{listFault, recordOf, Figured, Gathered}
 use Rattle.faults.proofs.Laws.{first-some, first-none, first-zero, first-either, when-zero, workFaultOf}
 use Rattle.answers.proofs.Shell.{refused-answer, refused-left, accepted-answer, cleared-left, lent-length, behind-lent}
@@ -184,7 +184,7 @@ module _ (p : Picture) (room : ℕ) (q : List ℕ) where
 
   pub gathered-accepted :
       (q′ : List ℕ) (c : ℕ) (r : Answer) → listFault p room (length q) ≡ 0 → isPicture p ≡ true →
-      5 * length (p .pixels) ≤ length q′ → Figured p q q′ c → Accepting c r → Gathered p room q q′ r
+      5 * length (p .pixels) ≤ length q′ → Figured p q q′ c → IsValue c r → Gathered p room q q′ r
   gathered-accepted q′ c r z h long f w =
       subst (λ (s : Answer). Gathered p room q q′ s) (sym w)
       (record {

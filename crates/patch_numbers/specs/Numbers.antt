@@ -10,7 +10,7 @@ use Rattle.picture.specs.Lists.{pick, tally, range}
 use Rattle.cells.specs.Blocks.{blockEntry, UntouchedOutside}
 
 -- five blocks of n cells, and n cells or pixels beside them
-pub record Sizes (n : ℕ) (work cells : List ℕ) : Type 0 where
+pub record FiveBlocks (n : ℕ) (work cells : List ℕ) : Type 0 where
   pub few : n ≤ 1600
   pub blocks : length work ≡ 5 * n
   pub beside : length cells ≡ n

@@ -6,7 +6,7 @@ ghost use Prim.Native.Nat.{ℕ, _+_, _*_, _≤_, _<_};
 ghost use lib.Dec.{eqb};
 ghost use lib.ListN.{length, getD};
 ghost use Rattle.picture.specs.Lists.{pick};
-ghost use Rattle.patch_numbers.specs.Numbers.{Sizes, Mapped, Cleared, Mark, Marks, Number, Numbers, Leaves, patchIn};
+ghost use Rattle.patch_numbers.specs.Numbers.{FiveBlocks, Mapped, Cleared, Mark, Marks, Number, Numbers, Leaves, patchIn};
 
 // Marks the father f of a node; a number that is no node's is the root's father.
 fn mark(cells: &mut [u16], f: usize)
@@ -19,7 +19,7 @@ fn mark(cells: &mut [u16], f: usize)
 
 // Marks the nodes that are somebody's father: the entries of all others are 0.
 fn mark_fathers(n: usize, count: usize, work: &[u16], cells: &mut [u16])
-    requires { ⌜ Sizes n (now work) (now cells) × (count ≤ n) ⌝ }
+    requires { ⌜ FiveBlocks n (now work) (now cells) × (count ≤ n) ⌝ }
     ensures { λ _. ⌜ Marks n count (now (work .entry)) (now (cells .exit)) ⌝ }
 {
     fill(cells, 0, n, 0);
@@ -32,7 +32,7 @@ fn mark_fathers(n: usize, count: usize, work: &[u16], cells: &mut [u16])
 
 // Numbers the node of the place x if it is a leaf that begins there; r leaves begin before.
 fn number_leaf(n: usize, x: usize, work: &mut [u16], marks: &[u16], r: usize) -> usize
-    requires { ⌜ Sizes n (now work) (now marks) × Mapped n (now work) × (x < n) × (r ≤ x) ⌝ }
+    requires { ⌜ FiveBlocks n (now work) (now marks) × Mapped n (now work) × (x < n) × (r ≤ x) ⌝ }
     ensures { λ q. ⌜ Number n x (now (work .entry)) (now (marks .entry)) r (now (work .exit)) q ⌝ }
 {
     let m = wide(work[2 * n + x]);
@@ -48,7 +48,7 @@ fn number_leaf(n: usize, x: usize, work: &mut [u16], marks: &[u16], r: usize) ->
 
 // Puts the number of each leaf into the fifth block, which is 0, and answers how many there are.
 fn number_leaves(n: usize, work: &mut [u16], marks: &[u16]) -> usize
-    requires { ⌜ Sizes n (now work) (now marks) × Mapped n (now work) × Cleared n (now work) ⌝ }
+    requires { ⌜ FiveBlocks n (now work) (now marks) × Mapped n (now work) × Cleared n (now work) ⌝ }
     ensures { λ r. ⌜ Numbers n (now (work .entry)) (now (marks .entry)) n r (now (work .exit)) ⌝ }
 {
     let mut r = 0;
@@ -62,7 +62,7 @@ fn number_leaves(n: usize, work: &mut [u16], marks: &[u16]) -> usize
 
 // Numbers the leaves of the tree in work, of count nodes, by first place, with the cells for marks; answers how many there are.
 pub fn number(n: usize, count: usize, work: &mut [u16], cells: &mut [u16]) -> usize
-    requires { ⌜ Sizes n (now work) (now cells) × Mapped n (now work) × (count ≤ n) ⌝ }
+    requires { ⌜ FiveBlocks n (now work) (now cells) × Mapped n (now work) × (count ≤ n) ⌝ }
     ensures { λ r. ⌜ Leaves n count (now (work .entry)) r (now (work .exit)) ⌝ }
 {
     mark_fathers(n, count, work, cells);
@@ -81,7 +81,7 @@ fn number_if(number: u16, pixel: u8, height: u16) -> u16
 
 // The number of the patch of the place x, 0 on the line.
 pub fn patch_at(n: usize, pixels: &[u8], work: &[u16], x: usize) -> u16
-    requires { ⌜ Sizes n (now work) (now pixels) × Mapped n (now work) × (x < n) ⌝ }
+    requires { ⌜ FiveBlocks n (now work) (now pixels) × Mapped n (now work) × (x < n) ⌝ }
     ensures { λ r. ⌜ r ≡ patchIn n (now (pixels .entry)) (now (work .entry)) x ⌝ }
 {
     let m = wide(work[2 * n + x]);
@@ -90,7 +90,7 @@ pub fn patch_at(n: usize, pixels: &[u8], work: &[u16], x: usize) -> u16
 
 // Puts the number of the patch of each place into the cells.
 pub fn map_patches(n: usize, pixels: &[u8], work: &[u16], cells: &mut [u16])
-    requires { ⌜ Sizes n (now work) (now pixels) × Mapped n (now work) × (length (now cells) ≡ n) ⌝ }
+    requires { ⌜ FiveBlocks n (now work) (now pixels) × Mapped n (now work) × (length (now cells) ≡ n) ⌝ }
     ensures { λ _. ⌜ ((x : ℕ) → x < n → getD (now (cells .exit)) x 0 ≡ patchIn n (now (pixels .entry)) (now (work .entry)) x) ⌝ }
 {
     let mut x = 0;

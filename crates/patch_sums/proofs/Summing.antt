@@ -17,7 +17,7 @@ use Rattle.picture.specs.Lists.{pick}
 use Rattle.cells.specs.Blocks.{blockEntry, UntouchedOutside, Filled}
 use Rattle.topology.proofs.PatchSums.{sumAt, sum-none, sum-in, sum-out, sum-most}
 use Rattle.patch_sums.specs.declared.Run.{Run}
-use Rattle.patch_sums.specs.Sums.{Figure, sizes, columns, rows, term, terms, termAt, base, raised, Raisable, Room, Added, Next, Frame, Sums, Running}
+use Rattle.patch_sums.specs.Sums.{Figure, sizes, columns, rows, term, terms, termAt, base, raised, Raisable, SumsRoom, Added, RunAfter, NumberedRows, Sums, RowSummed}
 use Rattle.cells.proofs.Blocks.{kept-refl, kept-store}
 
 kept-trans : (b n : ℕ) (l m o : List ℕ) → UntouchedOutside b n l m → UntouchedOutside b n m o → UntouchedOutside b n l o
@@ -77,7 +77,7 @@ added-none n c t l e =
     }
 
 -- the entries of the number c raised one after the other
-module _ (n c : ℕ) (t : Figure → ℕ) (l : List ℕ) (i : ℕ) (e : c ≡ suc i) (r : Room n c t l) where
+module _ (n c : ℕ) (t : Figure → ℕ) (l : List ℕ) (i : ℕ) (e : c ≡ suc i) (r : SumsRoom n c t l) where
   -- one that has not been raised yet
   room-in : (k : Figure) (m : List ℕ) (j : ℕ) → j ≡ base n k + i → j < 3 * n → UntouchedOutside 0 (3 * n) l m → getD m j 0 ≡ getD l j 0 → Raisable m j (t k)
   room-in k m j q h s y =
@@ -151,7 +151,7 @@ module _ (n c u v : ℕ) (run : Run) (l : List ℕ) where
   alone columns = refl
   alone rows = omega arith
 
-  pub next-line : c ≡ 0 → Next n c u v run l run l
+  pub next-line : c ≡ 0 → RunAfter n c u v run l run l
   next-line e =
       record {
         kept = kept-refl 0 (3 * n) l;
@@ -161,7 +161,7 @@ module _ (n c u v : ℕ) (run : Run) (l : List ℕ) where
         sum = λ k i h. let q = pick-out c (suc i) (term 1 u v k) (λ d. absurd (omega arith)) in omega arith;
       }
 
-  pub next-same : c ≡ run .number → Next n c u v run l (record { number = c; size = run .size + 1; columns = run .columns + u }) l
+  pub next-same : c ≡ run .number → RunAfter n c u v run l (record { number = c; size = run .size + 1; columns = run .columns + u }) l
   next-same e =
       record {
         kept = kept-refl 0 (3 * n) l;
@@ -176,7 +176,7 @@ module _ (n c u v : ℕ) (run : Run) (l : List ℕ) where
             omega arith;
       }
 
-  pub next-other : (m : List ℕ) → Added n (run .number) (terms run v) l m → Next n c u v run l (record { number = c; size = 1; columns = u }) m
+  pub next-other : (m : List ℕ) → Added n (run .number) (terms run v) l m → RunAfter n c u v run l (record { number = c; size = 1; columns = u }) m
   next-other m a =
       record {
         kept = a .kept;
@@ -231,7 +231,7 @@ module _ (w n x : ℕ) (numbers l m : List ℕ) (s : Sums w n x numbers l m) whe
   pub sums-since : (o : List ℕ) → UntouchedOutside 0 (3 * n) o l → Sums w n x numbers o m
   sums-since o k = record { kept = kept-trans 0 (3 * n) o l m k (s .kept); blocks = s .blocks; sum = s .sum }
 
-module _ (w n : ℕ) (numbers : List ℕ) (f : Frame w n numbers) where
+module _ (w n : ℕ) (numbers : List ℕ) (f : NumberedRows w n numbers) where
   -- columns and rows are at most 39
   term-most : (x : ℕ) → x < n → (k : Figure) → termAt w k x ≤ 39
   term-most x h sizes = omega arith
@@ -253,7 +253,7 @@ module _ (w n : ℕ) (numbers : List ℕ) (f : Frame w n numbers) where
 
     module _ (work l : List ℕ) where
       -- a run begins with no place
-      pub running-start : Sums w n (v * w) numbers work l → Running w n v 0 numbers work (record { number = 0; size = 0; columns = 0 }) l
+      pub running-start : Sums w n (v * w) numbers work l → RowSummed w n v 0 numbers work (record { number = 0; size = 0; columns = 0 }) l
       running-start s =
           record {
             kept = s .kept;
@@ -270,8 +270,8 @@ module _ (w n : ℕ) (numbers : List ℕ) (f : Frame w n numbers) where
                 omega arith;
           }
 
-      module _ (u : ℕ) (run : Run) (s : Running w n v u numbers work run l) where
-        pub running-room : u ≤ w → Room n (run .number) (terms run v) l
+      module _ (u : ℕ) (run : Run) (s : RowSummed w n v u numbers work run l) where
+        pub running-room : u ≤ w → SumsRoom n (run .number) (terms run v) l
         running-room b =
             let high = f .high in
             let wide = f .wide in
@@ -290,8 +290,8 @@ module _ (w n : ℕ) (numbers : List ℕ) (f : Frame w n numbers) where
 
         -- the place in the column u
         pub running-more :
-            (inside : u < w) (c : ℕ) → c ≡ getD numbers (v * w + u) 0 → (r : Run) (m : List ℕ) → Next n c u v run l r m →
-            Running w n v (u + 1) numbers work r m
+            (inside : u < w) (c : ℕ) → c ≡ getD numbers (v * w + u) 0 → (r : Run) (m : List ℕ) → RunAfter n c u v run l r m →
+            RowSummed w n v (u + 1) numbers work r m
         running-more inside c is r m a =
             let most = f .most (v * w + u) (omega arith) in
             let wide = f .wide in

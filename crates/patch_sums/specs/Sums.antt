@@ -46,7 +46,7 @@ pub record Raisable (l : List ℕ) (i v : ℕ) : Type 0 where
   pub room : getD l i 0 + v ≤ 65535
 
 -- c is 0 or a number whose sums have room for the terms t
-pub record Room (n c : ℕ) (t : Figure → ℕ) (work : List ℕ) : Type 0 where
+pub record SumsRoom (n c : ℕ) (t : Figure → ℕ) (work : List ℕ) : Type 0 where
   pub few : n ≤ 1600
   pub blocks : length work ≡ 5 * n
   pub number : c ≤ n
@@ -62,7 +62,7 @@ abbrev pub held : ℕ → List ℕ → Run → ℕ → Figure → ℕ → ℕ
 held n work r v k i = blockEntry work (base n k) i + pick (eqb (r .number) (suc i)) (terms r v k) 0
 
 -- the sums with the run are more by a place of the number c in the column u and the row v; the run's number is no greater than c or than it was, whichever is greater
-pub record Next (n c u v : ℕ) (run : Run) (work : List ℕ) (r : Run) (after : List ℕ) : Type 0 where
+pub record RunAfter (n c u v : ℕ) (run : Run) (work : List ℕ) (r : Run) (after : List ℕ) : Type 0 where
   pub kept : UntouchedOutside 0 (3 * n) work after
   pub number : (m : ℕ) → c ≤ m → run .number ≤ m → r .number ≤ m
   pub size : r .size ≤ run .size + 1
@@ -70,7 +70,7 @@ pub record Next (n c u v : ℕ) (run : Run) (work : List ℕ) (r : Run) (after :
   pub sum : (k : Figure) (i : ℕ) → i < n → held n after r v k i ≡ held n work run v k i + pick (eqb c (suc i)) (term 1 u v k) 0
 
 -- the numbers of n places, each at most n, in at most 40 rows of w
-pub record Frame (w n : ℕ) (numbers : List ℕ) : Type 0 where
+pub record NumberedRows (w n : ℕ) (numbers : List ℕ) : Type 0 where
   pub some : 1 ≤ w
   pub wide : w ≤ 40
   pub high : n ≤ w * 40
@@ -84,7 +84,7 @@ pub record Sums (w n x : ℕ) (numbers work after : List ℕ) : Type 0 where
   pub sum : (k : Figure) (i : ℕ) → i < n → blockEntry after (base n k) i ≡ sumAt (termAt w k) numbers (suc i) x
 
 -- the same in the row v before the column u, with a run that has not been added yet
-pub record Running (w n v u : ℕ) (numbers work : List ℕ) (run : Run) (after : List ℕ) : Type 0 where
+pub record RowSummed (w n v u : ℕ) (numbers work : List ℕ) (run : Run) (after : List ℕ) : Type 0 where
   pub kept : UntouchedOutside 0 (3 * n) work after
   pub blocks : length after ≡ 5 * n
   pub number : run .number ≤ n

@@ -4,7 +4,7 @@ use cells::wide;
 ghost use mathlib.Core.Path.{_≡_};
 ghost use Prim.Native.Nat.{_+_, _*_, _≤_};
 ghost use lib.ListN.{length};
-ghost use Rattle.patch_sums.specs.Sums.{raised, Raisable, terms, Room, Added, Next, Frame, Sums};
+ghost use Rattle.patch_sums.specs.Sums.{raised, Raisable, terms, SumsRoom, Added, RunAfter, NumberedRows, Sums};
 
 // Places of one row and one number, with no place of another patch between them (places on the line may lie there): the number, how many there are, and the sum of their columns.
 // A run is summed before it is stored: a store for each place would have to wait for the store before it.
@@ -24,7 +24,7 @@ fn add_to(cells: &mut [u16], i: usize, v: u16)
 
 // Adds a run to the three sums of its number, none for 0.
 fn add_run(n: usize, run: Run, row: u16, work: &mut [u16])
-    requires { ⌜ Room n (run .number) (terms run row) (now work) ⌝ }
+    requires { ⌜ SumsRoom n (run .number) (terms run row) (now work) ⌝ }
     ensures { λ _. ⌜ Added n (run .number) (terms run row) (now (work .entry)) (now (work .exit)) ⌝ }
 {
     let c = run.number;
@@ -39,8 +39,8 @@ fn add_run(n: usize, run: Run, row: u16, work: &mut [u16])
 
 // The run with the next place, of the number c; a place on the line adds nothing, and where the number is another the run is added and a new one begins.
 fn next_run(n: usize, c: usize, run: Run, column: u16, row: u16, work: &mut [u16]) -> Run
-    requires { ⌜ Room n (run .number) (terms run row) (now work) × (run .size ≤ 40) × (run .columns ≤ 1600) × (column ≤ 39) × (row ≤ 39) ⌝ }
-    ensures { λ r. ⌜ Next n c column row run (now (work .entry)) r (now (work .exit)) ⌝ }
+    requires { ⌜ SumsRoom n (run .number) (terms run row) (now work) × (run .size ≤ 40) × (run .columns ≤ 1600) × (column ≤ 39) × (row ≤ 39) ⌝ }
+    ensures { λ r. ⌜ RunAfter n c column row run (now (work .entry)) r (now (work .exit)) ⌝ }
 {
     if c == 0 {
         return run;
@@ -62,7 +62,7 @@ fn next_run(n: usize, c: usize, run: Run, column: u16, row: u16, work: &mut [u16
 
 // Adds the places of a row to the sums over the rows before it.
 fn sum_row(w: usize, n: usize, row: usize, map: &[u16], work: &mut [u16])
-    requires { ⌜ Frame w n (now map) × (row * w + w ≤ n) × Sums w n (row * w) (now map) (now work) (now work) ⌝ }
+    requires { ⌜ NumberedRows w n (now map) × (row * w + w ≤ n) × Sums w n (row * w) (now map) (now work) (now work) ⌝ }
     ensures { λ _. ⌜ Sums w n (row * w + w) (now (map .entry)) (now (work .entry)) (now (work .exit)) ⌝ }
 {
     let narrow = row as u16;
@@ -82,7 +82,7 @@ fn sum_row(w: usize, n: usize, row: usize, map: &[u16], work: &mut [u16])
 
 // Puts the sizes, the sums of columns and the sums of rows into the first three blocks.
 pub fn put_sums(w: usize, h: usize, n: usize, map: &[u16], work: &mut [u16])
-    requires { ⌜ Frame w n (now map) × (n ≡ w * h) × (length (now work) ≡ 5 * n) ⌝ }
+    requires { ⌜ NumberedRows w n (now map) × (n ≡ w * h) × (length (now work) ≡ 5 * n) ⌝ }
     ensures { λ _. ⌜ Sums w n n (now (map .entry)) (now (work .entry)) (now (work .exit)) ⌝ }
 {
     fill(work, 0, 3 * n, 0);

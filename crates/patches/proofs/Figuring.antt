@@ -20,9 +20,9 @@ use Rattle.topology.proofs.Nodes.{nodes-few}
 use Rattle.topology.proofs.PatchFigures.{patches-count}
 use Rattle.topology.proofs.PatchSums.{count-few, patch-most, patch-number, patch-size, patch-columns, patch-rows}
 use Rattle.cells.specs.Blocks.{UntouchedOutside}
-use Rattle.patch_numbers.specs.Numbers.{Sizes, Mapped, Leaves, patchIn}
-use Rattle.patch_sums.specs.Sums.{sizes, columns, rows, Frame, Sums}
-use Rattle.patches.specs.Figures.{Tree, noPatch, Charted, Patched, Figures, PatchMap}
+use Rattle.patch_numbers.specs.Numbers.{FiveBlocks, Mapped, Leaves, patchIn}
+use Rattle.patch_sums.specs.Sums.{sizes, columns, rows, NumberedRows, Sums}
+use Rattle.patches.specs.Figures.{TreeInWork, noPatch, Charted, Patched, Figures, PatchMap}
 use Rattle.patch_numbers.proofs.Numbering.{kept-row, onLine}
 use Rattle.patches.proofs.Charting.{arrays, map-in, leaves-patch}
 
@@ -37,7 +37,7 @@ tree-kept p l m k t =
       firsts = λ i h. kept-row (4 * places p) (places p) (3 * places p) i k (omega arith) ∙ t .firsts i h;
     }
 
-module _ (p : Picture) (count : ℕ) (work : List ℕ) (t : Tree p count work) where
+module _ (p : Picture) (count : ℕ) (work : List ℕ) (t : TreeInWork p count work) where
   ok : Accepted p
   ok = accepted-is p (t .accepted)
 
@@ -71,7 +71,7 @@ module _ (p : Picture) (count : ℕ) (work : List ℕ) (t : Tree p count work) w
       charted most e =
           record { accepted = t .accepted; size = refl; same = refl; tree = numbered-tree; patch = same; largest = e }
 
-      pub patched-frame : Frame (p .width) (places p) cells
+      pub patched-frame : NumberedRows (p .width) (places p) cells
       patched-frame =
           record {
             some = ok .wide;
@@ -100,11 +100,11 @@ module _ (p : Picture) (count : ℕ) (work : List ℕ) (t : Tree p count work) w
           }
 
 -- what the builder leaves
-module _ (p : Picture) (r : ℕ) (work after cells left : List ℕ) (h : isPicture p ≡ true) (z : Sizes (places p) work cells) (b : Built p r work after cells left) where
-  pub built-tree : Tree p r after
+module _ (p : Picture) (r : ℕ) (work after cells left : List ℕ) (h : isPicture p ≡ true) (z : FiveBlocks (places p) work cells) (b : Built p r work after cells left) where
+  pub built-tree : TreeInWork p r after
   built-tree = record { accepted = h; number = b .count; tree = b .tree }
 
-  pub built-sizes : Sizes (places p) after left
+  pub built-sizes : FiveBlocks (places p) after left
   built-sizes = record { few = z .few; blocks = b .room ∙ z .blocks; beside = b .size ∙ z .beside }
 
 -- the places with no patch are those on the line

@@ -24,7 +24,7 @@ use Rattle.topology.proofs.Leaves.{bottom}
 use Rattle.topology.proofs.PatchFigures.{bottom-number}
 use Rattle.topology.proofs.PatchSums.{next-bottom, patch-height, patch-depth}
 use Rattle.patch_numbers.specs.Numbers.{Mapped}
-use Rattle.patches.specs.Figures.{depthIn, Put, passed, begun, noPatch, Begun, Charted, Patched}
+use Rattle.patches.specs.Figures.{depthIn, PatchPut, passed, begun, noPatch, DepthsBefore, Charted, Patched}
 use Rattle.cells.proofs.Blocks.{kept-refl, kept-store}
 use Rattle.patch_numbers.proofs.Numbering.{kept-row}
 use Rattle.patches.proofs.Charting.{arrays, depth-is, depth-kept}
@@ -67,7 +67,7 @@ module _ (n : ℕ) (pixels numbers : List ℕ) (most : ℕ) (work : List ℕ) wh
       ok : Accepted p
       ok = accepted-is p (c .accepted)
 
-      before : Begun p n x r l
+      before : DepthsBefore p n x r l
       before = f .begun p c
 
       place : x < places p
@@ -80,7 +80,7 @@ module _ (n : ℕ) (pixels numbers : List ℕ) (most : ℕ) (work : List ℕ) wh
           (sym (tally-next-in (bottom p) x b) ∙ ap (λ (y : ℕ). tally (bottom p) (range 0 y)) (sym (add-one x))))
 
       -- no patch begins at x
-      begun-none : getD numbers x 0 ≢ r + 1 → Begun p n (x + 1) r l
+      begun-none : getD numbers x 0 ≢ r + 1 → DepthsBefore p n (x + 1) r l
       begun-none d =
           let b =
           test-false (bottom p x)
@@ -140,7 +140,7 @@ module _ (n : ℕ) (pixels numbers : List ℕ) (most : ℕ) (work : List ℕ) wh
             (sym (patch-height p ok x noPatch place (begins e)) ∙
             ap (λ (j : ℕ). getD (patches p) j noPatch .height) (sym (before .count)))
 
-        begun-next : Begun p n (x + 1) (r + 1) after
+        begun-next : DepthsBefore p n (x + 1) (r + 1) after
         unfolding after
         begun-next =
             let rb = r-few in
@@ -175,7 +175,7 @@ module _ (n : ℕ) (pixels numbers : List ℕ) (most : ℕ) (work : List ℕ) wh
 
     -- one place more
     pub patched-more :
-        (m : List ℕ) (q : ℕ) → 5 * n ≤ length work → Put n pixels numbers most x l r m q →
+        (m : List ℕ) (q : ℕ) → 5 * n ≤ length work → PatchPut n pixels numbers most x l r m q →
         Patched n pixels numbers most (x + 1) work q m
     unfolding after value
     patched-more m q long (passed d e g) =

@@ -15,7 +15,7 @@ use Rattle.tree.specs.Arrays.{TreeIn}
 use Rattle.topology.proofs.Leaves.{bottom}
 
 -- the cells hold the tree of an accepted picture, of count nodes
-pub record Tree (p : Picture) (count : ℕ) (work : List ℕ) : Type 0 where
+pub record TreeInWork (p : Picture) (count : ℕ) (work : List ℕ) : Type 0 where
   pub accepted : isPicture p ≡ true
   pub number : count ≡ length (nodes p)
   pub tree : TreeIn p work
@@ -25,19 +25,19 @@ unfoldable pub depthIn : ℕ → List ℕ → ℕ → ℕ → ℕ
 depthIn n work most m = pick (ltb (blockEntry work n m) n) (getD work (blockEntry work n m) 0) most - getD work m 0
 
 -- the patch that begins at x, the next after r, gets its depth and its height
-pub data Put (n : ℕ) (pixels numbers : List ℕ) (most x : ℕ) (work : List ℕ) (r : ℕ) (after : List ℕ) (q : ℕ) : Type 0 where
-  passed : getD numbers x 0 ≢ r + 1 → after ≡ work → q ≡ r → Put n pixels numbers most x work r after q
+pub data PatchPut (n : ℕ) (pixels numbers : List ℕ) (most x : ℕ) (work : List ℕ) (r : ℕ) (after : List ℕ) (q : ℕ) : Type 0 where
+  passed : getD numbers x 0 ≢ r + 1 → after ≡ work → q ≡ r → PatchPut n pixels numbers most x work r after q
   begun :
       getD numbers x 0 ≡ r + 1 →
       after ≡ set (set work (3 * n + r) (depthIn n work most (blockEntry work (2 * n) x))) (4 * n + r) (getD pixels x 0) → q ≡ r + 1 →
-      Put n pixels numbers most x work r after q
+      PatchPut n pixels numbers most x work r after q
 
 -- no patch, for an index past the end
 abbrev pub noPatch : Patch
 noPatch = record { number = 0; size = 0; height = 0; depth = 0; columns = 0; rows = 0 }
 
 -- the r patches that begin before x have their depths in the fourth block and their heights in the fifth
-pub record Begun (p : Picture) (n x r : ℕ) (after : List ℕ) : Type 0 where
+pub record DepthsBefore (p : Picture) (n x r : ℕ) (after : List ℕ) : Type 0 where
   pub count : r ≡ tally (bottom p) (range 0 x)
   pub depth : (i : ℕ) → i < r → blockEntry after (3 * n) i ≡ getD (patches p) i noPatch .depth
   pub height : (i : ℕ) → i < r → blockEntry after (4 * n) i ≡ getD (patches p) i noPatch .height
@@ -55,7 +55,7 @@ pub record Charted (p : Picture) (n : ℕ) (pixels numbers : List ℕ) (most : �
 pub record Patched (n : ℕ) (pixels numbers : List ℕ) (most x : ℕ) (work : List ℕ) (r : ℕ) (after : List ℕ) : Type 0 where
   pub kept : UntouchedOutside (3 * n) (2 * n) work after
   pub few : r ≤ x
-  pub begun : (p : Picture) → Charted p n pixels numbers most work → Begun p n x r after
+  pub begun : (p : Picture) → Charted p n pixels numbers most work → DepthsBefore p n x r after
 
 -- r patches; patch i + 1 has its size in the first block at i, its column sum in the second, its row sum in the third, its depth in the fourth, its height in the fifth; the cells hold the patch of each place
 pub record Figures (p : Picture) (r : ℕ) (work cells : List ℕ) : Type 0 where

@@ -7,7 +7,7 @@ ghost use mathlib.Core.Bool.{true};
 ghost use Prim.Native.Nat.{_*_, _<_};
 ghost use Rattle.picture.specs.Pictures.{isPicture, pictureOf};
 ghost use Rattle.picture.specs.Patches.{patchAt};
-ghost use Rattle.patch_numbers.specs.Numbers.{Sizes};
+ghost use Rattle.patch_numbers.specs.Numbers.{FiveBlocks};
 ghost use Rattle.patches.specs.Figures.{Figures};
 
 // The figures of the patches of a picture, by number, and in the cells the patch of each place; answers how many patches there are.
@@ -19,7 +19,7 @@ pub fn patch_figures(
     work: &mut [u16],
     cells: &mut [u16],
 ) -> usize
-    requires { ⌜ (isPicture (pictureOf a w h (now pixels)) ≡ true) × Sizes (w * h) (now work) (now cells) ⌝ }
+    requires { ⌜ (isPicture (pictureOf a w h (now pixels)) ≡ true) × FiveBlocks (w * h) (now work) (now cells) ⌝ }
     ensures { λ r. ⌜ Figures (pictureOf a w h (now (pixels .entry))) r (now (work .exit)) (now (cells .exit)) ⌝ }
 {
     let count = build(a, w, h, pixels, work, cells);
@@ -36,7 +36,7 @@ pub fn query(
     work: &mut [u16],
     cells: &mut [u16],
 ) -> u16
-    requires { ⌜ (isPicture (pictureOf a w h (now pixels)) ≡ true) × Sizes (w * h) (now work) (now cells) × (place < w * h) ⌝ }
+    requires { ⌜ (isPicture (pictureOf a w h (now pixels)) ≡ true) × FiveBlocks (w * h) (now work) (now cells) × (place < w * h) ⌝ }
     ensures { λ r. ⌜ r ≡ patchAt (pictureOf a w h (now (pixels .entry))) place ⌝ }
 {
     let count = build(a, w, h, pixels, work, cells);

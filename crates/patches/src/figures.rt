@@ -11,8 +11,8 @@ ghost use lib.Dec.{leb};
 ghost use Rattle.picture.specs.Lists.{pick, highest};
 ghost use Rattle.picture.specs.Patches.{centre};
 ghost use Rattle.picture.specs.Pictures.{pictureOf};
-ghost use Rattle.patch_numbers.specs.Numbers.{Sizes, Mapped};
-ghost use Rattle.patches.specs.Figures.{Tree, depthIn, Put, Patched, Figures};
+ghost use Rattle.patch_numbers.specs.Numbers.{FiveBlocks, Mapped};
+ghost use Rattle.patches.specs.Figures.{TreeInWork, depthIn, PatchPut, Patched, Figures};
 
 // The larger of a pixel and the largest so far.
 fn larger(pixel: u8, most: u8) -> u8
@@ -69,8 +69,8 @@ fn put_patch(
     work: &mut [u16],
     r: usize,
 ) -> usize
-    requires { ⌜ Sizes n (now work) (now pixels) × (length (now map) ≡ n) × Mapped n (now work) × (x < n) × (r ≤ x) ⌝ }
-    ensures { λ q. ⌜ Put n (now (pixels .entry)) (now (map .entry)) most x (now (work .entry)) r (now (work .exit)) q ⌝ }
+    requires { ⌜ FiveBlocks n (now work) (now pixels) × (length (now map) ≡ n) × Mapped n (now work) × (x < n) × (r ≤ x) ⌝ }
+    ensures { λ q. ⌜ PatchPut n (now (pixels .entry)) (now (map .entry)) most x (now (work .entry)) r (now (work .exit)) q ⌝ }
 {
     if wide(map[x]) != r + 1 {
         return r;
@@ -83,7 +83,7 @@ fn put_patch(
 
 // Puts the depths and the heights of the patches into the fourth and the fifth block, and answers how many there are.
 fn put_patches(n: usize, pixels: &[u8], map: &[u16], most: u16, work: &mut [u16]) -> usize
-    requires { ⌜ Sizes n (now work) (now pixels) × (length (now map) ≡ n) × Mapped n (now work) ⌝ }
+    requires { ⌜ FiveBlocks n (now work) (now pixels) × (length (now map) ≡ n) × Mapped n (now work) ⌝ }
     ensures { λ r. ⌜ Patched n (now (pixels .entry)) (now (map .entry)) most n (now (work .entry)) r (now (work .exit)) ⌝ }
 {
     let mut r = 0;
@@ -105,7 +105,7 @@ pub fn figures(
     work: &mut [u16],
     cells: &mut [u16],
 ) -> usize
-    requires { ⌜ Tree (pictureOf a w h (now pixels)) count (now work) × Sizes (w * h) (now work) (now cells) ⌝ }
+    requires { ⌜ TreeInWork (pictureOf a w h (now pixels)) count (now work) × FiveBlocks (w * h) (now work) (now cells) ⌝ }
     ensures { λ r. ⌜ Figures (pictureOf a w h (now (pixels .entry))) r (now (work .exit)) (now (cells .exit)) ⌝ }
 {
     let width = w as usize;

@@ -5,8 +5,8 @@ ghost use mathlib.Core.Path.{_≡_};
 ghost use Prim.Native.Nat.{_*_, _<_};
 ghost use Rattle.picture.specs.Pictures.{Picture, pictureOf};
 ghost use Rattle.picture.specs.Patches.{patchAt, lineCount};
-ghost use Rattle.patch_numbers.specs.Numbers.{Sizes};
-ghost use Rattle.patches.specs.Figures.{Tree, PatchMap};
+ghost use Rattle.patch_numbers.specs.Numbers.{FiveBlocks};
+ghost use Rattle.patches.specs.Figures.{TreeInWork, PatchMap};
 
 // The number of the patch of the place x of a picture whose tree of count nodes is in work, 0 on the line.
 pub fn patch_of(
@@ -19,7 +19,7 @@ pub fn patch_of(
     work: &mut [u16],
     cells: &mut [u16],
 ) -> u16
-    requires { ⌜ Tree (pictureOf a w h (now pixels)) count (now work) × Sizes (w * h) (now work) (now cells) × (x < w * h) ⌝ }
+    requires { ⌜ TreeInWork (pictureOf a w h (now pixels)) count (now work) × FiveBlocks (w * h) (now work) (now cells) × (x < w * h) ⌝ }
     ensures { λ r. ⌜ r ≡ patchAt (pictureOf a w h (now (pixels .entry))) x ⌝ }
 {
     let n = w as usize * h as usize;

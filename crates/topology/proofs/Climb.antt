@@ -16,7 +16,7 @@ use Rattle.topology.proofs.Reached.{component-same}
 use Rattle.topology.proofs.Accepted.{Accepted, byte-at}
 use Rattle.topology.proofs.Branches.{joined-mono}
 use Rattle.topology.proofs.Nodes.{node, node-is, node-equal, number-found, heights-rise}
-use Rattle.topology.proofs.Fathers.{Above, top, fork, father-is, father-found, number-small, map-found}
+use Rattle.topology.proofs.Fathers.{NodeFrom, top, fork, father-is, father-found, number-small, map-found}
 use Rattle.topology.proofs.Descent.{under, map-under, under-same, under-fork, Under, under-is, under-down, under-up}
 use Rattle.topology.proofs.Grid.{grid-joined, pass-most, pass-byte, pass-joined}
 
@@ -40,7 +40,7 @@ module _ (p : Picture) where
   pub father-higher : (i : ℕ) → i < length (nodes p) → father p i < 65535 → nodeAt p i .height < nodeAt p (father p i) .height
   father-higher i b = higher (father-is p (nodeAt p i) (node-is p i b .low))
     where
-      higher : {r : ℕ} → Above p (nodeAt p i .first) (suc (nodeAt p i .height)) r → r < 65535 → nodeAt p i .height < nodeAt p r .height
+      higher : {r : ℕ} → NodeFrom p (nodeAt p i .first) (suc (nodeAt p i .height)) r → r < 65535 → nodeAt p i .height < nodeAt p r .height
       higher (top e f) h = absurd (omega arith)
       higher (fork k u v e f q) h =
           let s = sec-mono (let g : nodeAt p i .height ≤ k = omega arith in g) (nodeAt p i .first) (node-is p i b .place) in
@@ -153,7 +153,7 @@ module _ (p : Picture) (ok : Accepted p) where
       u : Under p (r .height) x a
       u = subst (Under p (r .height) x) (r .is) (under-is p (r .height) x (r .low) (r .place))
 
-      climb : {q : ℕ} → Above p (nodeAt p a .first) (suc (nodeAt p a .height)) q → q < length (nodes p) → Reach x q
+      climb : {q : ℕ} → NodeFrom p (nodeAt p a .first) (suc (nodeAt p a .height)) q → q < length (nodes p) → Reach x q
       climb {q} (top e f) c = absurd (let g = small q c in omega arith)
       climb {q} (fork h c d e f g) l =
           by-cases (decLe h (r .height))

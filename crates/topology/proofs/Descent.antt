@@ -16,7 +16,7 @@ use Rattle.topology.proofs.Adjacency.{At, Joined, joined-sym}
 use Rattle.topology.proofs.Reached.{component-same, first-joined}
 use Rattle.topology.proofs.Branches.{Branch, joined-mono, branch-zero, branch-sound, branch-complete, branch-below}
 use Rattle.topology.proofs.Nodes.{number-found}
-use Rattle.topology.proofs.Fathers.{Above, top, fork, father-is}
+use Rattle.topology.proofs.Fathers.{NodeFrom, top, fork, father-is}
 
 -- the number of the node that the component of height k with x goes down to
 unfoldable pub under : Picture → ℕ → ℕ → ℕ
@@ -134,7 +134,7 @@ module _ (p : Picture) where
     where
       up :
           {y h r : ℕ} → h ≤ k → ((j : ℕ) → h < j → j ≤ k → isBranch p j (componentAt p j y) ≡ true) →
-          isBranch p (suc k) (componentAt p (suc k) y) ≡ false → Above p y (suc h) r → r ≡ numberOf p (suc k) (componentAt p (suc k) y)
+          isBranch p (suc k) (componentAt p (suc k) y) ≡ false → NodeFrom p y (suc h) r → r ≡ numberOf p (suc k) (componentAt p (suc k) y)
       up a f e (top q g) = absurd (clash (g (suc k) (omega arith) b) e)
       up {y} a f e (fork i c d n g q) =
           by-cases (ℕ-discrete i (suc k))

@@ -18,12 +18,12 @@ use Rattle.topology.proofs.Branches.{branch-zero, branch-sound, branch-
 use Rattle.topology.proofs.Nodes.{IsNode, number-found, nodes-few}
 
 -- r is the number of the least node from height k on that contains x, or 65535 where each component is a branch
-pub data Above (p : Picture) (x k r : ℕ) : Type 0 where
-  top : r ≡ 65535 → ((h : ℕ) → k ≤ h → h ≤ 255 → isBranch p h (componentAt p h x) ≡ true) → Above p x k r
+pub data NodeFrom (p : Picture) (x k r : ℕ) : Type 0 where
+  top : r ≡ 65535 → ((h : ℕ) → k ≤ h → h ≤ 255 → isBranch p h (componentAt p h x) ≡ true) → NodeFrom p x k r
   fork :
       (h : ℕ) → k ≤ h → h ≤ 255 → isBranch p h (componentAt p h x) ≡ false →
       ((j : ℕ) → k ≤ j → j < h → isBranch p j (componentAt p j x) ≡ true) →
-      r ≡ numberOf p h (componentAt p h x) → Above p x k r
+      r ≡ numberOf p h (componentAt p h x) → NodeFrom p x k r
 
 from-next : (P : ℕ → Type 0) (k h : ℕ) → k ≤ h → P k → (suc k ≤ h → P h) → P h
 from-next P k h a e f =
@@ -31,22 +31,22 @@ from-next P k h a e f =
 
 module _ (p : Picture) (x : ℕ) where
   -- one branch more below
-  extend : (k : ℕ) {r : ℕ} → isBranch p k (componentAt p k x) ≡ true → Above p x (suc k) r → Above p x k r
+  extend : (k : ℕ) {r : ℕ} → isBranch p k (componentAt p k x) ≡ true → NodeFrom p x (suc k) r → NodeFrom p x k r
   extend k e (top q f) = top q (λ h a b. from-next (λ m. isBranch p m (componentAt p m x) ≡ true) k h a e (λ c. f h c b))
   extend k e (fork h a b n f q) =
       fork h (omega arith) b n
       (λ j c d. from-next (λ m. isBranch p m (componentAt p m x) ≡ true) k j c e (λ i. f j i d))
       q
 
-  above-is : (l k : ℕ) → l + k ≡ 256 → Above p x k (aboveFrom l k p x)
+  above-is : (l k : ℕ) → l + k ≡ 256 → NodeFrom p x k (aboveFrom l k p x)
   above-is zero k e = top refl (λ h a b. absurd (omega arith))
   above-is (suc l) k e =
-      on-elim (Above p x k) (isBranch p k (componentAt p k x))
+      on-elim (NodeFrom p x k) (isBranch p k (componentAt p k x))
       (λ h. extend k h (above-is l (suc k) (omega arith)))
       (λ h. fork k (omega arith) (omega arith) h (λ j a b. absurd (omega arith)) refl)
 
 module _ (p : Picture) where
-  pub father-is : (n : Node) → n .height ≤ 255 → Above p (n .first) (suc (n .height)) (fatherOf p n)
+  pub father-is : (n : Node) → n .height ≤ 255 → NodeFrom p (n .first) (suc (n .height)) (fatherOf p n)
   unfolding fatherOf
   father-is n h = above-is p (n .first) (255 - n .height) (suc (n .height)) (omega arith)
 
@@ -58,7 +58,7 @@ module _ (p : Picture) where
   father-found n i = found (father-is n (i .low))
     where
       found :
-          {r : ℕ} → Above p (n .first) (suc (n .height)) r →
+          {r : ℕ} → NodeFrom p (n .first) (suc (n .height)) r →
           (r < length (nodes p)) ⊎
           ((r ≡ 65535) × ((h : ℕ) → n .height < h → h ≤ 255 → isBranch p h (componentAt p h (n .first)) ≡ true))
       found (top e f) = inr (e, f)

@@ -25,7 +25,7 @@ use Rattle.topology.proofs.Branches.{joined-mono, joined-kept, branch-s
 use Rattle.lists.proofs.Numbers.{one-index, index-one}
 use Rattle.topology.proofs.Nodes.{node, IsNode, node-is, node-equal, number-found}
 use Rattle.topology.proofs.Climb.{root-is}
-use Rattle.topology.proofs.Fathers.{Above, top, fork, father-is, number-small}
+use Rattle.topology.proofs.Fathers.{NodeFrom, top, fork, father-is, number-small}
 
 -- a picture that keeps f's parts, in the same frame
 module _ (f : Picture) (xs : List ℕ) (keeps : (k : ℕ) → Keeps (places f) (Adj f) (valueAt f) (valueAt (withPixels f xs)) k) where
@@ -164,13 +164,13 @@ module _ (f : Picture) (xs : List ℕ) (keeps : (k : ℕ) → Keeps (places f) (
         isBranch f h (componentAt f h y) ≡ false → isBranch a h (componentAt a h z) ≡ false →
         r ≡ numberOf f h (componentAt f h y) → q ≡ numberOf a h (componentAt a h z) → Both y z k r q
 
-  both-above : {y z k r q : ℕ} → At f k y → Joined a k y z → Above f y (suc k) r → Above a z (suc k) q → Both y z (suc k) r q
+  both-above : {y z k r q : ℕ} → At f k y → Joined a k y z → NodeFrom f y (suc k) r → NodeFrom a z (suc k) q → Both y z (suc k) r q
   both-above {y} {z} {k} s c = pair
     where
       same : (h : ℕ) → k ≤ h → isBranch f h (componentAt f h y) ≡ isBranch a h (componentAt a h z)
       same h b = branch-same f xs keeps h (sec-mono b y s) (joined-mono a b c)
 
-      pair : {r q : ℕ} → Above f y (suc k) r → Above a z (suc k) q → Both y z (suc k) r q
+      pair : {r q : ℕ} → NodeFrom f y (suc k) r → NodeFrom a z (suc k) q → Both y z (suc k) r q
       pair (top e u) (top g v) = neither e g
       pair (top e u) (fork h b d n v g) = absurd (clash (sym (same h (omega arith)) ∙ u h b d) n)
       pair (fork h b d n u e) (top g v) = absurd (clash (same h (omega arith) ∙ v h b d) n)
@@ -194,7 +194,7 @@ module _ (f : Picture) (xs : List ℕ) (keeps : (k : ℕ) → Keeps (places f) (
         let g′ = node-is a j l in
         let (w, c) = partners-joined (nodeAt f i) (nodeAt a j) (g .place) (g′ .place) e in
         both-above (g .place) c (father-is f (nodeAt f i) (g .low))
-        (subst (λ (k : ℕ). Above a (nodeAt a j .first) (suc k) (fatherOf a (nodeAt a j))) (sym w) (father-is a (nodeAt a j) (g′ .low)))
+        (subst (λ (k : ℕ). NodeFrom a (nodeAt a j .first) (suc k) (fatherOf a (nodeAt a j))) (sym w) (father-is a (nodeAt a j) (g′ .low)))
 
     father-joined : Joined a (nodeAt f i .height) (nodeAt f i .first) (nodeAt a j .first)
     father-joined =

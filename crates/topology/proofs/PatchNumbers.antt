@@ -21,7 +21,7 @@ use Rattle.topology.proofs.Adjacency.{At, Joined, joined-sym}
 use Rattle.topology.proofs.Accepted.{Accepted}
 use Rattle.topology.proofs.Reached.{firstAt, mem-joined, joined-mem, in-joined, joined-in, first-joined, first-same, first-at}
 use Rattle.topology.proofs.Nodes.{IsNode, node-is, number-found}
-use Rattle.topology.proofs.Fathers.{Above, top, fork, father-is, number-small}
+use Rattle.topology.proofs.Fathers.{NodeFrom, top, fork, father-is, number-small}
 use Rattle.topology.proofs.Descent.{under, under-same, under-is, under-up}
 use Rattle.topology.proofs.Climb.{father, under-node}
 use Rattle.lists.proofs.Positions.{tally-next-in, index-only, index-none}
@@ -87,7 +87,7 @@ module _ (p : Picture) (ok : Accepted p) where
       nj : IsNode p (nodeAt p j)
       nj = node-is p j bj
 
-      low : {r : ℕ} → Above p (nodeAt p j .first) (suc (nodeAt p j .height)) r → r ≡ i → leafAt p (nodeAt p i .height) (nodeAt p i .first) ≡ false
+      low : {r : ℕ} → NodeFrom p (nodeAt p j .first) (suc (nodeAt p j .height)) r → r ≡ i → leafAt p (nodeAt p i .height) (nodeAt p i .first) ≡ false
       low {r} (top q f) g = absurd (let w = number-small p ok i bi in omega arith)
       low {r} (fork h a b n f q) g =
           let y = nodeAt p j .first in

@@ -8,7 +8,7 @@ ghost use lib.ListN.{length};
 ghost use Rattle.picture.specs.Pictures.{pictureOf};
 ghost use Rattle.tree_laws.proofs.Forests.{Block};
 ghost use Rattle.tree_laws.proofs.Chains.{EdgeReady, EdgeDone};
-ghost use Rattle.tree_laws.proofs.Walks.{Ready, Absorbed};
+ghost use Rattle.tree_laws.proofs.Walks.{WalkReady, Absorbed};
 
 // Joins the place x, whose root is r, to its neighbour y if y comes before x, and answers the root then.
 fn absorb_edge(
@@ -49,7 +49,7 @@ fn absorb(
     k: usize,
     x: usize,
 ) -> usize
-    requires { ⌜ Ready (pictureOf a w h (now pixels)) k x (now cells) (now work) × (x < length (now cells)) ⌝ }
+    requires { ⌜ WalkReady (pictureOf a w h (now pixels)) k x (now cells) (now work) × (x < length (now cells)) ⌝ }
     ensures { λ r. ⌜ Absorbed (pictureOf a w h (now (pixels .entry))) k x r (now (cells .exit)) (now (work .entry)) (now (work .exit)) ⌝ }
 {
     let mut near = [0u16; 8];
@@ -74,8 +74,8 @@ pub fn absorb_level(
     k: usize,
     head: usize,
 )
-    requires { ⌜ Ready (pictureOf a w h (now pixels)) k head (now cells) (now work) ⌝ }
-    ensures { λ _. ⌜ Ready (pictureOf a w h (now (pixels .entry))) k (w * h) (now (cells .exit)) (now (work .exit)) × Block (w * h) (w * h) (now (work .entry)) (now (work .exit)) ⌝ }
+    requires { ⌜ WalkReady (pictureOf a w h (now pixels)) k head (now cells) (now work) ⌝ }
+    ensures { λ _. ⌜ WalkReady (pictureOf a w h (now (pixels .entry))) k (w * h) (now (cells .exit)) (now (work .exit)) × Block (w * h) (w * h) (now (work .entry)) (now (work .exit)) ⌝ }
 {
     let mut x = head;
     while x < cells.len() {

@@ -8,7 +8,7 @@ ghost use Prim.Native.Nat.{_<_, _+_, _*_};
 ghost use lib.ListN.{length};
 ghost use Rattle.picture.specs.Pictures.{pictureOf};
 ghost use Rattle.tree_laws.proofs.Forests.{Parents};
-ghost use Rattle.tree_laws.proofs.Chains.{Next};
+ghost use Rattle.tree_laws.proofs.Chains.{NextOfValue};
 ghost use Rattle.tree_laws.proofs.Buckets.{Heads};
 ghost use Rattle.tree_laws.proofs.Mapped.{Between, NameReady, NameBounds, NamedOne, NameWalk, MapReady, MappedOne, MapWhole};
 
@@ -71,7 +71,7 @@ fn level(
     head: usize,
     c: usize,
 ) -> usize
-    requires { ⌜ Between (pictureOf a w h (now pixels)) k c (now cells) (now work) × Next (pictureOf a w h (now pixels)) k 0 head × (k < 256) ⌝ }
+    requires { ⌜ Between (pictureOf a w h (now pixels)) k c (now cells) (now work) × NextOfValue (pictureOf a w h (now pixels)) k 0 head × (k < 256) ⌝ }
     ensures { λ d. ⌜ Between (pictureOf a w h (now (pixels .entry))) (k + 1) d (now (cells .exit)) (now (work .exit)) ⌝ }
 {
     absorb_level(a, w, h, pixels, work, cells, k, head);

@@ -17,8 +17,8 @@ use Rattle.tree_laws.proofs.Levels.{Level, Upto}
 use Rattle.tree_laws.proofs.Counts.{soFar, so-few}
 use Rattle.tree_laws.proofs.Forests.{Forest, Found, Block, block-set, Parents, forest-parents}
 use Rattle.tree_laws.proofs.Absorbing.{Classes}
-use Rattle.tree_laws.proofs.Chains.{fathersIn, mapIn, Next, After, Threads, upto-skip, classes-skip}
-use Rattle.tree_laws.proofs.Walks.{Ready}
+use Rattle.tree_laws.proofs.Chains.{fathersIn, mapIn, NextOfValue, After, Threads, upto-skip, classes-skip}
+use Rattle.tree_laws.proofs.Walks.{WalkReady}
 use Rattle.tree_laws.proofs.Listing.{firstsIn, NodesIn, Listing, level-fathers, list-start}
 use Rattle.tree_laws.proofs.ListWalks.{ListFrom, ListReady}
 use Rattle.tree_laws.proofs.Naming.{Naming, Mapping, naming-start, naming-turn, naming-few, naming-end}
@@ -145,10 +145,10 @@ module _ (p : Picture) (k d x q : ℕ) (l w m v : List ℕ) (s : MapFrom p k d x
   at : 2 * length l + x ≡ 2 * places p + x
   at = let e = g .size in omega arith
 
-  next : Next p k (suc x) q
+  next : NextOfValue p k (suc x) q
   next =
-      subst (λ (z : ℕ). Next p k (suc x) z) (sym (t .next ∙ ap (λ (z : ℕ). getD w z 0) at))
-      (subst (λ (j : ℕ). Next p j (suc x) (mapIn p w x)) value
+      subst (λ (z : ℕ). NextOfValue p k (suc x) z) (sym (t .next ∙ ap (λ (z : ℕ). getD w z 0) at))
+      (subst (λ (j : ℕ). NextOfValue p j (suc x) (mapIn p w x)) value
       (g .threads .linked x (record { within = b; later = inr (value, omega arith) })))
 
   work : v ≡ set w (2 * places p + x) (getD m (t .r) 0 - 2048)
@@ -227,11 +227,11 @@ module _ (p : Picture) (k d x q : ℕ) (l w m v : List ℕ) (s : MapFrom p k d x
           (let z = upto-skip p k (suc x) q y next u in
           record { within = z .within; passed = ⊎-elim (λ h. inl h) (λ h. let i = h .1 in inr (h .0, omega arith)) (z .passed) }))
 
-      linked : (y : ℕ) → After p k q y → Next p (valueAt p y) (suc y) (mapIn p v y)
+      linked : (y : ℕ) → After p k q y → NextOfValue p (valueAt p y) (suc y) (mapIn p v y)
       linked y a =
           let rises = map-rises in
           let e : y ≢ x = λ z. ⊎-elim (λ h. let i = ap (valueAt p) z in omega (arith, value)) (λ h. let i = h .1 in omega arith) (a .later) in
-          subst (λ (z : ℕ). Next p (valueAt p y) (suc y) z) (sym (mapped-other y e))
+          subst (λ (z : ℕ). NextOfValue p (valueAt p y) (suc y) z) (sym (mapped-other y e))
           (g .threads .linked y
           (record { within = a .within; later = ⊎-elim (λ h. inl h) (λ h. let i = h .1 in inr (h .0, omega arith)) (a .later) }))
 
@@ -290,7 +290,7 @@ map-end p k d x l w s h =
     }
 
 -- the start of a height
-pub between-ready : (p : Picture) (k c x : ℕ) (l w : List ℕ) → Between p k c l w → Next p k 0 x → Ready p k x l w
+pub between-ready : (p : Picture) (k c x : ℕ) (l w : List ℕ) → Between p k c l w → NextOfValue p k 0 x → WalkReady p k x l w
 between-ready p k c x l w b n =
     record {
       ok = b .ok;
@@ -302,7 +302,7 @@ between-ready p k c x l w b n =
 
 -- after the height's pixels have joined, the list begins
 pub between-list :
-    (p : Picture) (k c x : ℕ) (l w m v : List ℕ) → k ≤ 255 → Between p k c l w → Next p k 0 x → Ready p k (places p) m v → Block (places p) (places p) w v →
+    (p : Picture) (k c x : ℕ) (l w m v : List ℕ) → k ≤ 255 → Between p k c l w → NextOfValue p k 0 x → WalkReady p k (places p) m v → Block (places p) (places p) w v →
     ListFrom p k c c x m v
 between-list p k c x l w m v low b n r block =
     let e = b .count in
@@ -335,7 +335,7 @@ map-whole x y l w m v s h =
 
 -- the list of a height is numbered: the map begins
 pub name-map :
-    (p : Picture) (k c d x : ℕ) (l w m v : List ℕ) → Listing p k c d (places p) l w → NameWalk k c d d l w m v → Next p k 0 x → MapFrom p k d x m v
+    (p : Picture) (k c d x : ℕ) (l w m v : List ℕ) → Listing p k c d (places p) l w → NameWalk k c d d l w m v → NextOfValue p k 0 x → MapFrom p k d x m v
 name-map p k c d x l w m v s n h = record { mapping = naming-end p k c d x m w v (n .naming p s) h; is = h .is }
 
 pub list-ready : {p : Picture} {k c d x : ℕ} {l w : List ℕ} → ListFrom p k c d x l w → ListReady c d x l w

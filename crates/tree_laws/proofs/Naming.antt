@@ -15,9 +15,9 @@ use Rattle.topology.proofs.Nodes.{nodes-few}
 use Rattle.topology.proofs.Descent.{under}
 use Rattle.tree_laws.proofs.Levels.{put, put-same, put-other, Level, Edges}
 use Rattle.tree_laws.proofs.Counts.{soFar, so-few}
-use Rattle.tree_laws.proofs.Numbering.{Member, Listed, Numbered, number-new, count-next, next-level, named-all, edges-next}
+use Rattle.tree_laws.proofs.Numbering.{Member, RootsListed, Numbered, number-new, count-next, next-level, named-all, edges-next}
 use Rattle.tree_laws.proofs.Forests.{Forest, forest-state}
-use Rattle.tree_laws.proofs.Chains.{fathersIn, mapIn, Next, Threads, upto-skip}
+use Rattle.tree_laws.proofs.Chains.{fathersIn, mapIn, NextOfValue, Threads, upto-skip}
 use Rattle.tree_laws.proofs.Listing.{firstsIn, NodesIn, Listing, list-end}
 
 -- the listed roots from c on, before i, have their numbers; w is the work before
@@ -35,7 +35,7 @@ pub record Naming (p : Picture) (k c d i : ℕ) (l w v : List ℕ) : Type 0 wher
   pub level : Level p k c root st (fathersIn p w)
   pub edges : Edges p k (places p) root
   pub threads : Threads p k 0 (mapIn p w)
-  pub listed : Listed p k c d (firstsIn p w) root st
+  pub listed : RootsListed p k c d (firstsIn p w) root st
   pub named : (j : ℕ) → c ≤ j → j < i → new (firstsIn p w j) ≡ 2048 + j
   pub others : (y : ℕ) → y < places p → root y ≡ y → (Member (firstsIn p w) c d y → ⊥) → new y ≡ st y
   pub heights : (j : ℕ) → c ≤ j → j < i → getD v j 0 ≡ k
@@ -179,7 +179,7 @@ module _ (p : Picture) (k c d : ℕ) where
         old = λ i h. s .rest (places p + i) (λ a. omega (arith, s .listed .order)) (λ a. omega arith);
       }
 
-  pub naming-end : (x : ℕ) (l w v : List ℕ) → Naming p k c d d l w v → Next p k 0 x → Mapping p k d x l v
+  pub naming-end : (x : ℕ) (l w v : List ℕ) → Naming p k c d d l w v → NextOfValue p k 0 x → Mapping p k d x l v
   naming-end x l w v s n =
       record {
         ok = s .ok;
@@ -202,7 +202,7 @@ module _ (p : Picture) (k c d : ℕ) where
               mapped = λ y u. same y (u .within) ∙ s .threads .mapped y (upto-skip p k 0 x y n u);
               linked =
                   λ y a.
-                  subst (λ (z : ℕ). Next p (valueAt p y) (suc y) z) (sym (same y (a .within)))
+                  subst (λ (z : ℕ). NextOfValue p (valueAt p y) (suc y) z) (sym (same y (a .within)))
                   (s .threads .linked y
                   (record { within = a .within; later = ⊎-elim (λ h. inl h) (λ h. inr (h .0, omega arith)) (a .later) }));
             };

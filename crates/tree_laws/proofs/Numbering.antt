@@ -35,7 +35,7 @@ pub record Member (f : ℕ → ℕ) (c d y : ℕ) : Type 0 where
   pub is : f at ≡ y
 
 -- f lists the roots that no branch has, rising, from c on, before d
-pub record Listed (p : Picture) (k c d : ℕ) (f root st : ℕ → ℕ) : Type 0 where
+pub record RootsListed (p : Picture) (k c d : ℕ) (f root st : ℕ → ℕ) : Type 0 where
   pub order : c ≤ d
   pub rising : (i j : ℕ) → c ≤ i → i < j → j < d → f i < f j
   pub place : (i : ℕ) → c ≤ i → i < d → At p k (f i)
@@ -194,7 +194,7 @@ module _ (p : Picture) (ok : Accepted p) (k c : ℕ) (low : k ≤ 255) (root st 
           (λ h. mem-in y (select here (range 0 (places p))) (mem-select here (range 0 (places p)) (mem-range 0 (places p) (omega arith) (omega (arith, within y h))) h))
           (λ h. select-mem here (range 0 (places p)) (in-mem y (select here (range 0 (places p))) h) .1))
 
-  module _ (d : ℕ) (f : ℕ → ℕ) (l : Listed p k c d f root st) where
+  module _ (d : ℕ) (f : ℕ → ℕ) (l : RootsListed p k c d f root st) where
     abbrev listed : List ℕ
     listed = map f (range c (d - c))
 

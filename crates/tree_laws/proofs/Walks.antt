@@ -12,10 +12,10 @@ use Rattle.topology.proofs.Accepted.{Accepted}
 use Rattle.tree_laws.proofs.Levels.{Upto}
 use Rattle.tree_laws.proofs.Forests.{Found, Block, block-same, block-then, Parents, forest-parents}
 use Rattle.tree_laws.proofs.Absorbing.{Classes, Near, near-start, near-end}
-use Rattle.tree_laws.proofs.Chains.{fathersIn, mapIn, Next, Threads, classes-skip, EdgeReady, EdgeDone}
+use Rattle.tree_laws.proofs.Chains.{fathersIn, mapIn, NextOfValue, Threads, classes-skip, EdgeReady, EdgeDone}
 
 -- the pixels of height k before x have joined the classes; x is the next one, or beyond the picture
-pub record Ready (p : Picture) (k x : ℕ) (l w : List ℕ) : Type 0 where
+pub record WalkReady (p : Picture) (k x : ℕ) (l w : List ℕ) : Type 0 where
   pub ok : Accepted p
   pub room : length w ≡ 4 * places p
   pub classes : Classes p k x l (fathersIn p w)
@@ -24,7 +24,7 @@ pub record Ready (p : Picture) (k x : ℕ) (l w : List ℕ) : Type 0 where
 
 -- one pixel further
 pub record Absorbed (p : Picture) (k x r : ℕ) (m w v : List ℕ) : Type 0 where
-  pub ready : Ready p k r m v
+  pub ready : WalkReady p k r m v
   pub more : x < r
   pub block : Block (places p) (places p) w v
 
@@ -36,21 +36,21 @@ pub record Joining (p : Picture) (k x i r : ℕ) (l w v : List ℕ) : Type 0 whe
   pub near : Near p k x i r l (fathersIn p v)
   pub block : Block (places p) (places p) w v
 
-pub ready-parents : {p : Picture} {k x : ℕ} {l w : List ℕ} → Ready p k x l w → Parents l
+pub ready-parents : {p : Picture} {k x : ℕ} {l w : List ℕ} → WalkReady p k x l w → Parents l
 ready-parents r = forest-parents (r .classes .forest)
 
 pub threads-block : (p : Picture) (k x b : ℕ) (w v : List ℕ) → Threads p k x (mapIn p w) → Block (places p) b w v → (b + places p ≤ 2 * places p) ⊎ (3 * places p ≤ b) → Threads p k x (mapIn p v)
 threads-block p k x b w v t k′ o =
     record {
       mapped = λ y u. same y (u .within) ∙ t .mapped y u;
-      linked = λ y a. subst (λ (z : ℕ). Next p (valueAt p y) (suc y) z) (sym (same y (a .within))) (t .linked y a);
+      linked = λ y a. subst (λ (z : ℕ). NextOfValue p (valueAt p y) (suc y) z) (sym (same y (a .within))) (t .linked y a);
     }
   where
     same : (y : ℕ) → y < places p → getD v (2 * places p + y) 0 ≡ getD w (2 * places p + y) 0
     same y h = k′ .other (2 * places p + y) (⊎-elim (λ a. inr (omega arith)) (λ a. inl (omega arith)) o)
 
 module _ (p : Picture) (k x : ℕ) where
-  pub joining-start : (r : ℕ) (l m w : List ℕ) → Ready p k x l w → x < places p → Found l x r m → Joining p k x 0 r m w w
+  pub joining-start : (r : ℕ) (l m w : List ℕ) → WalkReady p k x l w → x < places p → Found l x r m → Joining p k x 0 r m w w
   joining-start r l m w a b f =
       record {
         ok = a .ok;
@@ -88,14 +88,14 @@ module _ (p : Picture) (k x : ℕ) where
       }
 
   pub joining-end :
-      (i r q : ℕ) (l w v o : List ℕ) → Joining p k x i r l w v → length (neighboursIn p x) ≤ i → Ready p k x o w →
+      (i r q : ℕ) (l w v o : List ℕ) → Joining p k x i r l w v → length (neighboursIn p x) ≤ i → WalkReady p k x o w →
       q ≡ getD v (2 * places p + x) 0 → Absorbed p k x q l w v
   joining-end i r q l w v o a b s e =
       let t = threads-block p k 0 (places p) w v (s .threads) (a .block) (inl (omega arith)) in
       let n = a .near in
       let next =
-      subst (λ (z : ℕ). Next p k (suc x) z) (sym e)
-      (subst (λ (j : ℕ). Next p j (suc x) (getD v (2 * places p + x) 0)) (n .value)
+      subst (λ (z : ℕ). NextOfValue p k (suc x) z) (sym e)
+      (subst (λ (j : ℕ). NextOfValue p j (suc x) (getD v (2 * places p + x) 0)) (n .value)
       (t .linked x (record { within = n .within; later = inr (n .value, omega arith) })))
       in
       let m = a .most in
@@ -121,7 +121,7 @@ listed-cell {ns} {cells} {after} {r} s i b =
     ap (λ (l : List ℕ). getD l i 0) (s .whole) ∙
     List·getD-append ns (drop r cells) 0 i (let e = s .count in omega arith)
 
-pub ready-placed : (p : Picture) (k x : ℕ) (l w : List ℕ) → Ready p k x l w → x < length l → Placed (p .width) (p .height) x
+pub ready-placed : (p : Picture) (k x : ℕ) (l w : List ℕ) → WalkReady p k x l w → x < length l → Placed (p .width) (p .height) x
 ready-placed p k x l w r b =
     record {
       some = r .ok .wide;
@@ -131,7 +131,7 @@ ready-placed p k x l w r b =
     }
 
 -- the chain of a height is done
-pub ready-end : (p : Picture) (k x : ℕ) (l w : List ℕ) → Ready p k x l w → places p ≤ x → Ready p k (places p) l w
+pub ready-end : (p : Picture) (k x : ℕ) (l w : List ℕ) → WalkReady p k x l w → places p ≤ x → WalkReady p k (places p) l w
 ready-end p k x l w r b =
     record {
       ok = r .ok;

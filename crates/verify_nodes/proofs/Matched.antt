@@ -20,7 +20,7 @@ use Rattle.topology.proofs.Descent.{under, map-under}
 use Rattle.topology.proofs.Fathers.{map-found}
 use Rattle.tree_laws.proofs.Levels.{Level}
 use Rattle.tree_laws.proofs.Counts.{soFar}
-use Rattle.tree_laws.proofs.Numbering.{Member, Listed, Numbered, root-first, free-fork, number-new, count-next, next-level, named-all, edges-next}
+use Rattle.tree_laws.proofs.Numbering.{Member, RootsListed, Numbered, root-first, free-fork, number-new, count-next, next-level, named-all, edges-next}
 use Rattle.tree_laws.proofs.Forests.{Found}
 use Rattle.tree_laws.proofs.Checks.{Checking}
 use Rattle.lent_tree.specs.Lent.{HoldsTree}
@@ -112,7 +112,7 @@ module _ (p : Picture) (k c d : ℕ) (l fs ss m : List ℕ) (s : Counted p k c d
         old = now-old;
       }
 
-  listed : ((y : ℕ) → At p k y → s .root y ≡ y → 65534 ≤ s .st y → Member (λ j. getD ss j 0) c d y) → Listed p k c d (λ j. getD ss j 0) (s .root) (s .st)
+  listed : ((y : ℕ) → At p k y → s .root y ≡ y → 65534 ≤ s .st y → Member (λ j. getD ss j 0) c d y) → RootsListed p k c d (λ j. getD ss j 0) (s .root) (s .st)
   listed f =
       record { order = s .order; rising = s .rising; place = s .place; fixed = s .fixed; free = s .free; complete = f }
 

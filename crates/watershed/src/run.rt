@@ -16,11 +16,11 @@ ghost use lib.ListN.{length, take, drop};
 ghost use Rattle.picture.specs.Pictures.{isPicture, pictureOf};
 ghost use Rattle.picture.specs.Watersheds.{watershed};
 ghost use Rattle.tree.specs.Arrays.{TreeIn};
-ghost use Rattle.watershed_laws.proofs.Running.{Settling, Settled, Turning, Turned};
+ghost use Rattle.watershed_laws.proofs.Running.{TurnOf, Settled, Turning, Turned};
 
 // Lowers the place x as far as it falls, if it is lowerable, and makes candidates of the neighbours that may now be lowerable.
 fn lower_place(a: u32, w: u32, h: u32, x: usize, out: &mut [u8], work: &mut [u16])
-    requires { ⌜ Settling (pictureOf a w h []) (now out) (take (3 * (w * h)) (now work)) (drop (3 * (w * h)) (now work)) x × (length (now work) ≡ 5 * (w * h)) ⌝ }
+    requires { ⌜ TurnOf (pictureOf a w h []) (now out) (take (3 * (w * h)) (now work)) (drop (3 * (w * h)) (now work)) x × (length (now work) ≡ 5 * (w * h)) ⌝ }
     ensures { λ _. ⌜ Settled (pictureOf a w h []) (now (out .entry)) (drop (3 * (w * h)) (now (work .entry))) (now (out .exit)) (take (3 * (w * h)) (now (work .exit))) (drop (3 * (w * h)) (now (work .exit))) ⌝ }
 {
     let n = w as usize * h as usize;

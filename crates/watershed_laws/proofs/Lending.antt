@@ -11,7 +11,7 @@ use Rattle.topology.proofs.Accepted.{Accepted}
 use Rattle.watershed_laws.proofs.WinnerTree.{Winner}
 use Rattle.watershed_laws.proofs.WinnerSteps.{Assigned, Building, Waking}
 use Rattle.watershed_laws.proofs.Stopping.{Lowest, Stopped, Around}
-use Rattle.watershed_laws.proofs.Running.{Running, Nobody, Settling, Settled, Turning, Turned, settle-falls, settle-woken}
+use Rattle.watershed_laws.proofs.Running.{Running, Nobody, TurnOf, Settled, Turning, Turned, settle-falls, settle-woken}
 use Rattle.watershed_laws.proofs.Turns.{Holds, running-start, turn-settling, turn-done}
 
 -- the cells from e on, lent and back
@@ -57,7 +57,7 @@ module _ (f : Picture) (g l : List ℕ) where
 
     pub turn-back :
         (t : List ℕ) → Assigned (places f) g (midOf e (length l - e) l) x 65535 t →
-        Settling f g (take e (putMid e (length l - e) l t)) (drop e (putMid e (length l - e) l t)) x
+        TurnOf f g (take e (putMid e (length l - e) l t)) (drop e (putMid e (length l - e) l t)) x
     turn-back t a =
         let i : e ≤ length l = omega arith in
         rw (back-take l e t i, back-drop l e t i) (turn-settling f g (take e l) (drop e l) x p t (assigned t a))
@@ -73,7 +73,7 @@ module _ (f : Picture) (g l : List ℕ) where
         r (q ∙ sym (getD-drop e l₁ 1 0))
 
   -- a fall: the map's entry is stored, and neighbours are woken
-  module _ (x : ℕ) (p : Settling f g (take e l) (drop e l) x) (size : length l ≡ 5 * places f) (ys : List ℕ) (m low s : ℕ)
+  module _ (x : ℕ) (p : TurnOf f g (take e l) (drop e l) x) (size : length l ≡ 5 * places f) (ys : List ℕ) (m low s : ℕ)
       (around : Around f x ys m) (lowest : Lowest (places f) g x ys m low)
       (stopped : Stopped (places f) g (take e l) low (getD g x 0) ys m s) (falls : s < getD g x 0) where
     abbrev stored : List ℕ

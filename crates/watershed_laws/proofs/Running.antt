@@ -67,7 +67,7 @@ pub nobody : {C : Type 0} {y : ℕ} → Nobody y → C
 nobody = elim [ ]
 
 -- the place x alone is exempt, is no candidate, and leads the lowerable places
-pub record Settling (f : Picture) (g tree t : List ℕ) (x : ℕ) : Type 0 where
+pub record TurnOf (f : Picture) (g tree t : List ℕ) (x : ℕ) : Type 0 where
   pub running : Running f g tree t (λ y. y ≡ x)
   pub within : x < places f
   pub unset : getD t (places f + x) 0 ≡ 65535
@@ -194,7 +194,7 @@ module _ (n : ℕ) (tree : List ℕ) (c : Climbs n tree) (x low : ℕ) (hx : x <
         height = q .height ∙ map-before (q .node) (omega arith);
       }
 
-module _ (f : Picture) (g tree t : List ℕ) (x : ℕ) (p : Settling f g tree t x) (ys : List ℕ) (m low s : ℕ)
+module _ (f : Picture) (g tree t : List ℕ) (x : ℕ) (p : TurnOf f g tree t x) (ys : List ℕ) (m low s : ℕ)
     (around : Around f x ys m) (lowest : Lowest (places f) g x ys m low) (stopped : Stopped (places f) g tree low (getD g x 0) ys m s) where
   abbrev run : Running f g tree t (λ y. y ≡ x)
   run = p .running

@@ -24,7 +24,7 @@ use Rattle.watershed_laws.proofs.TreeOracle.{tree-oracle}
 use Rattle.watershed_laws.proofs.Falls.{First, watershed-end}
 use Rattle.watershed_laws.proofs.WinnerTree.{Beats, last, less as beats-less, ties as beats-ties, winner-beats, winner-place, candidates, candidates-most, candidates-fewer}
 use Rattle.watershed_laws.proofs.WinnerSteps.{Assigned, Building}
-use Rattle.watershed_laws.proofs.Running.{Running, Nobody, nobody, Settling, Settled, Turning, Turned, measure, places-most, running-with}
+use Rattle.watershed_laws.proofs.Running.{Running, Nobody, nobody, TurnOf, Settled, Turning, Turned, measure, places-most, running-with}
 
 -- the cells hold heights, fathers and map of the tree of p
 pub record Holds (p : Picture) (tree : List ℕ) : Type 0 where
@@ -125,7 +125,7 @@ module _ (f : Picture) (g tree t : List ℕ) where
             (omega arith)
 
     -- the winner is taken away
-    pub turn-settling : (t₁ : List ℕ) → Assigned (places f) g t x 65535 t₁ → Settling f g tree t₁ x
+    pub turn-settling : (t₁ : List ℕ) → Assigned (places f) g t x 65535 t₁ → TurnOf f g tree t₁ x
     turn-settling t₁ a =
         record {
           running =

@@ -1,14 +1,14 @@
--- `patch_sums::sum_row` meets its contract. The invariant is Running.
+-- `patch_sums::sum_row` meets its contract. The invariant is RowSummed.
 use Prim.Native.Nat.{_-_, _≤_}
 use native.Mathlib.Omega.{arith}
 use borrow.Author.Needs.{needs}
-use Rattle.patch_sums.specs.Sums.{Running}
+use Rattle.patch_sums.specs.Sums.{RowSummed}
 use Rattle.patch_sums.proofs.Summing.{row-few, running-start, running-room, running-more, running-end}
 use Rattle.patch_sums.proofs.sum_row.Statement.{statement}
 use Rattle.patch_sums.proofs.sum_row.Tie as tie
 
 abbrev Inv-loop : tie.InvT-loop
-Inv-loop w n row map work₀ narrow run₀ column₀ work run column = (column ≤ w) × Running w n row column map work₀ run work
+Inv-loop w n row map work₀ narrow run₀ column₀ work run column = (column ≤ w) × RowSummed w n row column map work₀ run work
 
 abbrev μ-loop : tie.MeasureT-loop
 μ-loop w n row map work₀ narrow run₀ column₀ work run column = w - column

@@ -5,14 +5,14 @@ use Prim.Native.Nat.{_-_, _≤_}
 use native.Mathlib.Omega.{arith}
 use lib.ListN.{length}
 use Rattle.picture.specs.Pictures.{Picture, pictureOf}
-use Rattle.labels.specs.Labels.{Scanned}
+use Rattle.labels.specs.Labels.{LabelsBefore}
 use Rattle.labels.proofs.Scans.{picture-size, scan-start, scan-ready, scan-turn, scan-end}
 use Rattle.labels.proofs.scan.label.Statement.{statement}
 use Rattle.labels.proofs.scan.label.Tie as tie
 
 abbrev Inv-loop : tie.InvT-loop
 Inv-loop a w h pixels k labels₀ stack₀ n c₀ x₀ labels stack c x =
-    (x ≤ n) × (length stack ≡ length stack₀) × Scanned (pictureOf a w h pixels) k x c labels stack₀ stack
+    (x ≤ n) × (length stack ≡ length stack₀) × LabelsBefore (pictureOf a w h pixels) k x c labels stack₀ stack
 
 abbrev μ-loop : tie.MeasureT-loop
 μ-loop a w h pixels k labels₀ stack₀ n c₀ x₀ labels stack c x = n - x

@@ -1,6 +1,6 @@
 -- `tree::absorb::absorb_level` meets its contract.
 use Rattle.picture.specs.Pictures.{pictureOf}
-use Rattle.tree_laws.proofs.Walks.{Ready, ready-end}
+use Rattle.tree_laws.proofs.Walks.{WalkReady, ready-end}
 use Rattle.tree_laws.proofs.Forests.{Block, block-same, block-then}
 use mathlib.Core.Path.{sym, _∙_}
 use native.Mathlib.Omega.{arith}
@@ -10,7 +10,7 @@ use Rattle.tree.proofs.absorb.absorb_level.Statement.{statement}
 use Rattle.tree.proofs.absorb.absorb_level.Tie as tie
 
 abbrev Inv-loop : tie.InvT-loop
-Inv-loop a w h pixels work₀ cells₀ k head x₀ work cells x = Ready (pictureOf a w h pixels) k x cells work × Block (w * h) (w * h) work₀ work
+Inv-loop a w h pixels work₀ cells₀ k head x₀ work cells x = WalkReady (pictureOf a w h pixels) k x cells work × Block (w * h) (w * h) work₀ work
 
 abbrev μ-loop : tie.MeasureT-loop
 μ-loop a w h pixels work₀ cells₀ k head x₀ work cells x = w * h - x
