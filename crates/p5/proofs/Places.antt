@@ -91,32 +91,34 @@ numbered-6 LargestOutside e = absurd (omega arith)
 numbered-6 CountDiffers e = absurd (omega arith)
 numbered-6 (PixelAbove x) e = refl
 
+-- an answer of the number n names the first place of its kind, and no other
+module _ (f : List ℕ) (n : ℕ) (make : ℕ → Outcome) (First : ℕ → Type 0)
+    (refusal : (numberOf (readFile f) ≡ n) ↔ (Cause f n × NoneBelow f n))
+    (number : (p : ℕ) → numberOf (make p) ≡ n)
+    (is : (o : Outcome) → numberOf o ≡ n → o ≡ make (placeOf o))
+    (first : (p : ℕ) → Verdict f (make p) → First p)
+    (before : (p q : ℕ) → First p → First q → p < q → ⊥) where
+  first-at : (p : ℕ) → (readFile f ≡ make p) ↔ ((Cause f n × NoneBelow f n) × First p)
+  first-at p = (λ e. (refusal .0 (ap numberOf e ∙ number p), first p (subst (Verdict f) e (verdict f))), back)
+    where
+      back : (Cause f n × NoneBelow f n) × First p → readFile f ≡ make p
+      back c =
+          let q = placeOf (readFile f) in
+          let e : readFile f ≡ make q = is (readFile f) (refusal .1 (c .0)) in
+          let b = first q (subst (Verdict f) e (verdict f)) in
+          let less = before p q (c .1) b in
+          let more = before q p b (c .1) in
+          let same : q ≡ p = omega arith in
+          e ∙ ap make same
+
 -- 2 is answered with the first unfit place and no other, 6 with the first place above the largest sample and no other
 pub malformed-at : (f : List ℕ) (p : ℕ) → (readFile f ≡ Malformed p) ↔ ((Cause f 2 × NoneBelow f 2) × FirstUnfit f p)
-malformed-at f p = (λ e. (refused f 2 (omega arith) .0 (ap numberOf e), unfit-of f p (subst (Verdict f) e (verdict f))), back)
-  where
-    back : (Cause f 2 × NoneBelow f 2) × FirstUnfit f p → readFile f ≡ Malformed p
-    back c =
-        let q = placeOf (readFile f) in
-        let e : readFile f ≡ Malformed q = numbered-2 (readFile f) (refused f 2 (omega arith) .1 (c .0)) in
-        let b = unfit-of f q (subst (Verdict f) e (verdict f)) in
-        let less = unfit-before f p q (c .1) b in
-        let more = unfit-before f q p b (c .1) in
-        let same : q ≡ p = omega arith in
-        e ∙ ap Malformed same
+malformed-at f =
+    first-at f 2 Malformed (FirstUnfit f) (refused f 2 (omega arith)) (λ p. refl) numbered-2 (unfit-of f) (unfit-before f)
 
 pub above-at : (f : List ℕ) (x : ℕ) → (readFile f ≡ PixelAbove x) ↔ ((Cause f 6 × NoneBelow f 6) × FirstAbove f x)
-above-at f x = (λ e. (refused f 6 (omega arith) .0 (ap numberOf e), above-of f x (subst (Verdict f) e (verdict f))), back)
-  where
-    back : (Cause f 6 × NoneBelow f 6) × FirstAbove f x → readFile f ≡ PixelAbove x
-    back c =
-        let y = placeOf (readFile f) in
-        let e : readFile f ≡ PixelAbove y = numbered-6 (readFile f) (refused f 6 (omega arith) .1 (c .0)) in
-        let b = above-of f y (subst (Verdict f) e (verdict f)) in
-        let less = above-before f x y (c .1) b in
-        let more = above-before f y x b (c .1) in
-        let same : y ≡ x = omega arith in
-        e ∙ ap PixelAbove same
+above-at f =
+    first-at f 6 PixelAbove (FirstAbove f) (refused f 6 (omega arith)) (λ x. refl) numbered-6 (above-of f) (above-before f)
 
 -- the place of an answer lies within the file, 0 where there is none
 pub place-within : (f : List ℕ) → placeOf (readFile f) ≤ length f

@@ -25,7 +25,7 @@ use Rattle.patches.specs.Figures.{noPatch, Figures}
 use Rattle.patch_records.specs.Records.{Entry, Entries, recordAt, records}
 use Rattle.answers.specs.declared.Answer.{Answer}
 use Rattle.faults.specs.Faults.{workFault}
-use Rattle.answers.specs.Answers.{IsRefusal, IsValue}
+use Rattle.answers.specs.Answers.{IsValue}
 use Rattle.patch_lists.specs.PatchLists.{listFault, recordOf, Figured, Gathered}
 use Rattle.faults.proofs.Laws.{first-some, first-none, first-zero, first-either, when-zero, workFaultOf}
 use Rattle.answers.proofs.Shell.{refused-answer, refused-left, accepted-answer, cleared-left, lent-length, behind-lent}

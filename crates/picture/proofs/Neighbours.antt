@@ -52,13 +52,14 @@ touch-sym p x y =
     touch-is p x y ∙
     (ap₂ (near (eqb (p .adjacency) 4)) (distance-sym (x % p .width) _) (distance-sym (x / p .width) _) ∙ sym (touch-is p y x))
 
+pub distance-same : (a : ℕ) → distance a a ≡ 0
+distance-same a = omega (arith, distance-is a a)
+
 pub touch-self : (p : Picture) (x : ℕ) → touch p x x ≡ false
 touch-self p x =
     touch-is p x x ∙
-    (ap₂ (near (eqb (p .adjacency) 4)) (none (x % p .width)) (none (x / p .width)) ∙ near-self (eqb (p .adjacency) 4))
-  where
-    none : (a : ℕ) → distance a a ≡ 0
-    none a = omega (arith, distance-is a a)
+    (ap₂ (near (eqb (p .adjacency) 4)) (distance-same (x % p .width)) (distance-same (x / p .width)) ∙
+    near-self (eqb (p .adjacency) 4))
 
 -- the offsets that an adjacency uses
 abbrev offsetsOf : Bool → List Offset

@@ -2,6 +2,7 @@
 use mathlib.Core.Path.{_≡_, _∙_}
 use mathlib.Core.Bool.{true}
 use Prim.Native.Nat.{ℕ, _<_}
+use native.Mathlib.Omega.{arith}
 use borrow.Author.Tests.{leb-true, le-leb}
 use Rattle.picture.proofs.Neighbours.{touch-sym, touch-self}
 use Rattle.picture.specs.Pictures.{Picture, places, valueAt, touch}
@@ -30,6 +31,10 @@ adj-irreflexive p x h = clash h (touch-self p x)
 
 pub joined-sym : (p : Picture) (k : ℕ) {x y : ℕ} → Joined p k x y → Joined p k y x
 joined-sym p k c = conn-sym (adj-sym p) c
+
+-- a place is in the section at its own height
+pub at-own : (p : Picture) (x : ℕ) → x < places p → At p (valueAt p x) x
+at-own p x b = record { within = b; low = omega arith }
 
 pub section-at : (p : Picture) (k y : ℕ) → y < places p → inSection p k y ≡ true → At p k y
 section-at p k y h e = record { within = h; low = leb-true (valueAt p y) k e }

@@ -12,15 +12,12 @@ use borrow.Author.Tests.{eq-eqb, le-leb}
 use Rattle.picture.specs.Lists.{isIn}
 use Rattle.picture.specs.Pictures.{Picture, places, valueAt, distance, adjacent}
 use Rattle.picture.specs.Components.{inSection, componentAt, passFrom, pass}
-use Rattle.picture.proofs.Neighbours.{distance-is}
+use Rattle.picture.proofs.Neighbours.{distance-is, distance-same}
 use Rattle.lists.proofs.Tests.{and-left, and-right, and-both, on-pick, on-elim, clash}
 use Rattle.topology.proofs.Connected.{start, step, conn-trans, conn-source}
 use Rattle.topology.proofs.Adjacency.{Adj, At, Joined, adj-sym, joined-sym, section-at, at-section}
 use Rattle.topology.proofs.Reached.{in-joined, joined-in}
 use Rattle.topology.proofs.Accepted.{Accepted, byte-at}
-
-distance-same : (a : ℕ) → distance a a ≡ 0
-distance-same a = distance-is a a ∙ omega arith
 
 distance-next : (a b : ℕ) → a ≡ suc b → distance a b ≡ 1
 distance-next a b h = distance-is a b ∙ omega arith

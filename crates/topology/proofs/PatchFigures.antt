@@ -16,7 +16,7 @@ use Rattle.lists.proofs.Tests.{on-test, same-test}
 use Rattle.lists.proofs.Lists.{select-mem, mem-select, in-mem, mem-in, range-mem, mem-range}
 use Rattle.lists.proofs.Rising.{rising-select, rising-equal}
 use Rattle.topology.proofs.Connected.{conn-target}
-use Rattle.topology.proofs.Adjacency.{At, Joined, joined-sym}
+use Rattle.topology.proofs.Adjacency.{At, Joined, joined-sym, at-own}
 use Rattle.topology.proofs.Accepted.{Accepted, byte-at}
 use Rattle.topology.proofs.Reached.{firstAt, component-rising, in-joined, joined-in, first-joined, first-same, first-at}
 use Rattle.topology.proofs.Nodes.{node, number-found}
@@ -26,9 +26,6 @@ use Rattle.topology.proofs.Leaves.{leafAt, bottom, leaf, leaf-sound, le
 use Rattle.topology.proofs.PatchNumbers.{patch-count, patch-in, patch-out}
 
 module _ (p : Picture) (ok : Accepted p) where
-  place : (x : ℕ) → x < places p → At p (valueAt p x) x
-  place x b = record { within = b; low = omega arith }
-
   -- the number of the patch that begins at z
   pub bottom-number : (z : ℕ) → z < places p → bottom p z ≡ true → patchAt p z ≡ suc (tally (bottom p) (range 0 z))
   bottom-number z b h =
@@ -87,7 +84,7 @@ module _ (p : Picture) (ok : Accepted p) where
       back x xb e n =
           on-test (leafAt p (valueAt p x) x)
           (λ lx.
-          let sx = place x xb in
+          let sx = at-own p x xb in
           let y = firstAt p (valueAt p x) x in
           let (hy, v) = first-bottom p x sx lx in
           let yb = first-at p (valueAt p x) x sx .within in
@@ -149,13 +146,13 @@ module _ (p : Picture) (ok : Accepted p) where
   -- a pixel is in a minimum exactly if its node is a leaf of its own value
   pub map-leaf : (x : ℕ) → x < places p → leafAt p (valueAt p x) x ≡ true → nodeAt p (mapOf p x) ≡ node (valueAt p x) (firstAt p (valueAt p x) x)
   map-leaf x b l =
-      let s = place x b in
+      let s = at-own p x b in
       let e = leaf-no-branch p (valueAt p x) x l in
       ap (nodeAt p) (map-under p x ∙ under-fork p (valueAt p x) x e) ∙
       number-found p (valueAt p x) x (byte-at (p .pixels) (ok .bytes) x) s e .1
 
   pub leaf-map : (x : ℕ) → x < places p → nodeAt p (mapOf p x) .height ≡ valueAt p x → leafAt p (valueAt p x) (nodeAt p (mapOf p x) .first) ≡ true → leafAt p (valueAt p x) x ≡ true
   leaf-map x b e l =
-      let u = under-is p (valueAt p x) x (byte-at (p .pixels) (ok .bytes) x) (place x b) in
+      let u = under-is p (valueAt p x) x (byte-at (p .pixels) (ok .bytes) x) (at-own p x b) in
       let c = subst (λ (i : ℕ). Joined p (valueAt p x) x (nodeAt p i .first)) (sym (map-under p x)) (u .joined) in
       leaf-same p c ∙ l

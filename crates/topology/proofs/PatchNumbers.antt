@@ -17,7 +17,7 @@ use Rattle.lists.proofs.Tests.{on-test, clash, test-false}
 use Rattle.lists.proofs.Lists.{any-mem, mem-any, length-select, select-mem, range-mem}
 use Rattle.topology.proofs.Connected.{conn-target}
 use Rattle.topology.proofs.Keeping.{sec-mono}
-use Rattle.topology.proofs.Adjacency.{At, Joined, joined-sym}
+use Rattle.topology.proofs.Adjacency.{At, Joined, joined-sym, at-own}
 use Rattle.topology.proofs.Accepted.{Accepted}
 use Rattle.topology.proofs.Reached.{firstAt, mem-joined, joined-mem, in-joined, joined-in, first-joined, first-same, first-at}
 use Rattle.topology.proofs.Nodes.{IsNode, node-is, number-found}
@@ -33,9 +33,6 @@ module _ (p : Picture) (ok : Accepted p) where
   patch-count =
       ap length (patch-nodes-are p ok) ∙
       (length-map (select (bottom p) (range 0 (places p))) (leaf p) ∙ length-select (bottom p) (range 0 (places p)))
-
-  own-place : (x : ℕ) → x < places p → At p (valueAt p x) x
-  own-place x b = record { within = b; low = omega arith }
 
   -- the patch of y holds x exactly if y is the first place of x's minimum
   holds-first : (x y : ℕ) → x < places p → y < places p → bottom p y ≡ true → isIn x (componentOf p (leaf p y)) ≡ true → (y ≡ firstAt p (valueAt p x) x) × (leafAt p (valueAt p x) x ≡ true)
@@ -53,7 +50,7 @@ module _ (p : Picture) (ok : Accepted p) where
   patch-in x b l =
       let k = valueAt p x in
       let z = firstAt p k x in
-      let s = own-place x b in
+      let s = at-own p x b in
       let (h, v) = first-bottom p x s l in
       let zb = first-at p k x s .within in
       let c = joined-sym p k (first-joined p k x s) in

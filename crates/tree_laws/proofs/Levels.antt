@@ -96,7 +96,7 @@ member (single z l r e f) d = (z, l, r)
 member (several z w e l m r q g) d = (z, l, r)
 
 module _ (p : Picture) (ok : Accepted p) (k : ℕ) (low : k ≤ 255) where
-  number-few : (z : ℕ) → Low p k z → beneath p k z < 1600
+  pub number-few : (z : ℕ) → Low p k z → beneath p k z < 1600
   number-few z l =
       let a = beneath-number p k z (omega arith) l in
       let b = nodes-few p in

@@ -24,8 +24,8 @@ use Rattle.topology.proofs.Branches.{joined-mono}
 use Rattle.topology.proofs.Nodes.{node, isNode, nodes-at, node-equal, number-found, nodes-few}
 use Rattle.topology.proofs.Descent.{under, under-same, under-fork}
 use Rattle.tree_laws.proofs.Counts.{soFar, so-few, so-next, so-at}
-use Rattle.tree_laws.proofs.Beneath.{Low, beneath, low-at, at-low, low-at-below, beneath-next, beneath-number, none-fork, many-fork, one-branch}
-use Rattle.tree_laws.proofs.Levels.{State, nothing, single, several, Father, unmet, known, Level, Upto, Edges, edges-joined}
+use Rattle.tree_laws.proofs.Beneath.{low-at, at-low, low-at-below, beneath-next, none-fork, many-fork, one-branch}
+use Rattle.tree_laws.proofs.Levels.{State, nothing, single, several, Father, unmet, known, Level, Upto, Edges, edges-joined, number-few}
 
 -- y stands in f from c on, before d
 pub record Member (f : ℕ → ℕ) (c d y : ℕ) : Type 0 where
@@ -79,13 +79,6 @@ module _ (p : Picture) (ok : Accepted p) (k c : ℕ) (low : k ≤ 255) (root st 
     new : 65534 ≤ st y → isBranch p k (componentAt p k y) ≡ false → Ended y
     old : st y ≡ 2048 + under p k y → st y < 65533 → Ended y
 
-  few : (z : ℕ) → Low p k z → beneath p k z < 1600
-  few z l =
-      let a = beneath-number p k z (omega arith) l in
-      let b = nodes-few p in
-      let d = places-bound p ok in
-      omega arith
-
   ended : (y : ℕ) → At p k y → root y ≡ y → Ended y
   ended y s r = by (v .state y s r)
     where
@@ -103,7 +96,7 @@ module _ (p : Picture) (ok : Accepted p) (k c : ℕ) (low : k ≤ 255) (root st 
       by (single z l a q f) =
           let j = joined-sym p k (subst (λ (u : ℕ). Joined p k z u) a (v .own z (low-at p l))) in
           let (t, g) = one-branch p k y z (omega arith) l j (λ w m i. f w m (in-class w i)) in
-          let h = few z l in
+          let h = number-few p ok k low z l in
           old (omega arith) (omega arith)
 
   pub free-fork : (y : ℕ) → At p k y → root y ≡ y → 65534 ≤ st y → isBranch p k (componentAt p k y) ≡ false

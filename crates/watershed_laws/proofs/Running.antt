@@ -4,7 +4,6 @@ use mathlib.Core.Bool.{true}
 use mathlib.Core.Logic.{_⊎_, inl, inr, ⊎-elim, _≢_, by-cases}
 use mathlib.Core.List.{List}
 use Prim.Native.Nat.{ℕ, suc, _+_, _*_, _≤_, _<_}
-use native.Mathlib.Nat.{mul-le-mul}
 use native.Mathlib.Decide.{ℕ-discrete, decLt}
 use native.Mathlib.Omega.{arith}
 use lib.Dec.{eqb}
@@ -14,6 +13,7 @@ use borrow.Author.Tests.{eqb-true, eq-eqb}
 use Rattle.picture.specs.Lists.{pick, total}
 use Rattle.picture.specs.Pictures.{Picture, places, valueAt, withPixels, touch}
 use Rattle.picture.specs.Watersheds.{lowerable, watershed}
+use Rattle.picture.proofs.Sides.{area-most}
 use Rattle.lists.proofs.Tests.{on-pick, on-test, clash}
 use Rattle.lists.proofs.Sums.{total-less}
 use Rattle.topology.proofs.Keeping.{Lowers, Fallen}
@@ -101,9 +101,6 @@ pub record Turned (f : Picture) (g t g₁ tree₁ t₁ : List ℕ) (r : ℕ) : T
   pub water : watershed (withPixels f g₁) ≡ watershed (withPixels f g)
   pub less : measure (places f) g₁ t₁ < measure (places f) g t
   pub top : r ≡ getD t₁ 1 0
-
-pub places-most : (f : Picture) → f .width ≤ 40 → f .height ≤ 40 → places f ≤ 1600
-places-most f a b = mul-le-mul a b
 
 decide-adj : (f : Picture) (y z : ℕ) → Adj f y z ⊎ (Adj f y z → ⊥)
 decide-adj f y z = on-test (touch f y z) (λ h. inl h) (λ h. inr (λ g. clash g h))
@@ -283,7 +280,7 @@ module _ (f : Picture) (g tree t : List ℕ) (x : ℕ) (p : TurnOf f g tree t x)
           leaves = run .leaves;
           winner =
               winner-fallen (places f) g t (run .winner) x s (p .within)
-              (let b = places-most f (run .wide) (run .high) in omega arith)
+              (let b = area-most (f .width) (f .height) (run .wide) (run .high) in omega arith)
               (p .unset);
           awake = awake;
         }

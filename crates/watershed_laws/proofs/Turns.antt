@@ -12,6 +12,7 @@ use Rattle.picture.specs.Lists.{total}
 use Rattle.picture.specs.Pictures.{Picture, places, valueAt, withPixels}
 use Rattle.picture.specs.Trees.{nodes, nodeAt, fatherOf, mapOf}
 use Rattle.picture.specs.Watersheds.{lowerable, watershed}
+use Rattle.picture.proofs.Sides.{area-most}
 use Rattle.lists.proofs.Sums.{total-less, total-bounded}
 use Rattle.topology.proofs.Adjacency.{Adj}
 use Rattle.topology.proofs.Accepted.{Accepted, byte-at}
@@ -24,7 +25,7 @@ use Rattle.watershed_laws.proofs.TreeOracle.{tree-oracle}
 use Rattle.watershed_laws.proofs.Falls.{First, watershed-end}
 use Rattle.watershed_laws.proofs.WinnerTree.{Beats, last, less as beats-less, ties as beats-ties, winner-beats, winner-place, candidates, candidates-most, candidates-fewer}
 use Rattle.watershed_laws.proofs.WinnerSteps.{Assigned, Building}
-use Rattle.watershed_laws.proofs.Running.{Running, Nobody, nobody, TurnOf, Settled, Turning, Turned, measure, places-most, running-with}
+use Rattle.watershed_laws.proofs.Running.{Running, Nobody, nobody, TurnOf, Settled, Turning, Turned, measure, running-with}
 
 -- the cells hold heights, fathers and map of the tree of p
 pub record Holds (p : Picture) (tree : List ℕ) : Type 0 where
@@ -75,7 +76,7 @@ module _ (f : Picture) (g tree t : List ℕ) where
 
   module _ (run : Running f g tree t Nobody) where
     most : places f ≤ 1600
-    most = places-most f (run .wide) (run .high)
+    most = area-most (f .width) (f .height) (run .wide) (run .high)
 
     -- at the end
     pub running-end : getD t 1 0 ≡ 65535 → watershed (withPixels f g) ≡ withPixels f g

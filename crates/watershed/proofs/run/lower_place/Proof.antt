@@ -5,7 +5,8 @@ use native.Mathlib.Omega.{arith}
 use lib.ListN.{getD, take, length-set}
 use Rattle.picture.specs.Pictures.{Picture, places, pictureOf}
 use Rattle.watershed_laws.proofs.Stopping.{Around, Lowest, Stopped, listed-around, around-places}
-use Rattle.watershed_laws.proofs.Running.{places-most, settle-stays}
+use Rattle.picture.proofs.Sides.{area-most}
+use Rattle.watershed_laws.proofs.Running.{settle-stays}
 use Rattle.watershed_laws.proofs.Lending.{fall-winner, fall-lent, fall-back}
 use borrow.Author.Needs.{needs}
 use Rattle.watershed.proofs.run.lower_place.Statement.{statement}
@@ -65,7 +66,7 @@ stop-at-requires c κs = let s = c .before .before .before .before .before .befo
     let r = s .pre .0 .running in
     let f = pictureOf (s .args .a) (s .args .w) (s .args .h) [] in (
       r .climbs,
-      places-most f (r .wide) (r .high),
+      area-most (f .width) (f .height) (r .wide) (r .high),
       r .size,
       omega (arith, r .size, c .before .before .before .lowest .ensures .within),
       around-places f _ _ _ (listed-around f _ _ _ _ (r .some) (c .before .before .before .before .before .before .before .before .before .neighbours .ensures)),
@@ -133,7 +134,7 @@ wake-all-requires c κs = let s = c .before .before .before .before .before .bef
     let f = pictureOf (s .args .a) (s .args .w) (s .args .h) [] in
     let h = rw (c .before .before .before .before .before .before .before .before .before .before .before .before .value .ensures) at (c .before .before .before .before .if1 .left) in (
       fall-winner _ _ _ _ (s .pre .0) (s .pre .1) _ _ _ _ (around-at q) (lowest-at q) (stopped-at q) h,
-      places-most f (r .wide) (r .high),
+      area-most (f .width) (f .height) (r .wide) (r .high),
       simp length-set (r .size),
       fall-lent _ _ _ _ (s .pre .0) (s .pre .1) _ _ _ _ (around-at q) (lowest-at q) (stopped-at q) h,
       around-places f _ _ _ (around-at q),

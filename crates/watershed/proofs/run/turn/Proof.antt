@@ -5,7 +5,7 @@ use mathlib.Core.Path.{refl}
 use mathlib.Core.Logic.{inr}
 use mathlib.Core.List.{[]}
 use native.Mathlib.Omega.{arith}
-use Rattle.watershed_laws.proofs.Running.{places-most}
+use Rattle.picture.proofs.Sides.{area-most}
 use Rattle.watershed_laws.proofs.Turns.{turn-place}
 use Rattle.watershed_laws.proofs.Lending.{start-lent, turn-winner, turn-back, turn-over}
 use borrow.Author.Needs.{needs}
@@ -35,7 +35,7 @@ assign-requires c κs = let s = c .before .before .before .before in
     let r = s .pre .0 .running in
     let f = pictureOf (s .args .a) (s .args .w) (s .args .h) [] in (
       turn-winner f _ _ _ (s .pre .0) (s .pre .1),
-      places-most f (r .wide) (r .high),
+      area-most (f .width) (f .height) (r .wide) (r .high),
       r .size,
       start-lent f (s .args .out .now) (s .args .work .now) (s .pre .1),
       turn-place f _ _ _ _ (s .pre .0),
