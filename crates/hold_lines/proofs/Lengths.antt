@@ -9,7 +9,7 @@ use lib.ListN.{length, take, drop, length-append}
 use Rattle.picture.specs.Lists.{range}
 use Rattle.picture.specs.Patches.{centre}
 use Rattle.text.specs.Decimal.{decimal, fields}
-use Rattle.hold_lines.specs.Figures.{flat, lineOf}
+use Rattle.hold_lines.specs.Figures.{concatMap, lineOf}
 use Rattle.text.specs.Writing.{Written}
 use Rattle.answers.proofs.Shell.{lent-length}
 use Rattle.text.proofs.Decimals.{tens, decimal-length}
@@ -70,21 +70,21 @@ line-is i s h d c r a b k m e g pa pb pk pm pe pg =
     ap (λ (z : ℕ). fields (suc i ∷ s ∷ h ∷ d ∷ centre c s ∷ z ∷ [])) pg))))
 
 -- one line more
-pub flat-next : (f : ℕ → List ℕ) (x l : ℕ) → flat f (range x (suc l)) ≡ flat f (range x l) ++ f (x + l)
-flat-next f x zero = let e : x ≡ x + 0 = omega arith in append-nil (f x) ∙ ap f e
-flat-next f x (suc l) =
+pub concatMap-next : (f : ℕ → List ℕ) (x l : ℕ) → concatMap f (range x (suc l)) ≡ concatMap f (range x l) ++ f (x + l)
+concatMap-next f x zero = let e : x ≡ x + 0 = omega arith in append-nil (f x) ∙ ap f e
+concatMap-next f x (suc l) =
     let e : suc x + l ≡ x + suc l = omega arith in
-    ap (λ (m : List ℕ). f x ++ m) (flat-next f (suc x) l) ∙
-    (sym (append-assoc (f x) (flat f (range (suc x) l)) (f (suc x + l))) ∙
-    ap (λ (y : ℕ). (f x ++ flat f (range (suc x) l)) ++ f y) e)
+    ap (λ (m : List ℕ). f x ++ m) (concatMap-next f (suc x) l) ∙
+    (sym (append-assoc (f x) (concatMap f (range (suc x) l)) (f (suc x + l))) ∙
+    ap (λ (y : ℕ). (f x ++ concatMap f (range (suc x) l)) ++ f y) e)
 
 pub lines-next :
     (f : ℕ → List ℕ) (a b c : List ℕ) (at to next i : ℕ) → at ≤ length a →
-    Written at (flat f (range 0 i)) a to b → Written to (f i) b next c → Written at (flat f (range 0 (i + 1))) a next c
+    Written at (concatMap f (range 0 i)) a to b → Written to (f i) b next c → Written at (concatMap f (range 0 (i + 1))) a next c
 lines-next f a b c at to next i h v w =
     let z : 0 + i ≡ i = omega arith in
     subst (λ (xs : List ℕ). Written at xs a next c)
-    (sym (ap (λ (n : ℕ). flat f (range 0 n)) (add-one i) ∙ (flat-next f 0 i ∙ ap (λ (y : ℕ). flat f (range 0 i) ++ f y) z)))
+    (sym (ap (λ (n : ℕ). concatMap f (range 0 n)) (add-one i) ∙ (concatMap-next f 0 i ∙ ap (λ (y : ℕ). concatMap f (range 0 i) ++ f y) z)))
     (written-then h v w)
 
 -- how long the words with their numbers are

@@ -6,9 +6,9 @@ use Rattle.picture.specs.Patches.{centre}
 use Rattle.text.specs.Decimal.{fields}
 
 -- the texts of the numbers of a list, one behind the other
-abbrev pub flat : (ℕ → List ℕ) → List ℕ → List ℕ
-flat f [] = []
-flat f (x ∷ xs) = f x ++ flat f xs
+abbrev pub concatMap : (ℕ → List ℕ) → List ℕ → List ℕ
+concatMap f [] = []
+concatMap f (x ∷ xs) = f x ++ concatMap f xs
 
 -- the line of the patch i: number, size, height, depth, centres from the sums of columns and rows
 abbrev pub lineOf : ℕ → ℕ → ℕ → ℕ → ℕ → ℕ → List ℕ

@@ -268,22 +268,3 @@ pub patch-is :
 unfolding patchIn
 patch-is n pixels work x m e =
     ap (λ (j : ℕ). pick (eqb (getD pixels x 0) (getD work j 0)) (blockEntry work (4 * n) j) 0) e
-
--- how many of the first x places have the number 0
-abbrev pub onLine : List ℕ → ℕ → ℕ
-onLine l x = tally (λ y. eqb (getD l y 0) 0) (range 0 x)
-
-module _ (l : List ℕ) (x : ℕ) where
-  pub line-few : onLine l x ≤ x
-  line-few =
-      let a = tally-length (λ y. eqb (getD l y 0) 0) (range 0 x) in
-      let c = length-range 0 x in
-      omega arith
-
-  pub line-in : getD l x 0 ≡ 0 → onLine l (x + 1) ≡ onLine l x + 1
-  line-in e =
-      ap (onLine l) (add-one x) ∙
-      (tally-next-in (λ y. eqb (getD l y 0) 0) x (eq-eqb (getD l x 0) 0 e) ∙ sym (add-one (onLine l x)))
-
-  pub line-out : getD l x 0 ≢ 0 → onLine l (x + 1) ≡ onLine l x
-  line-out d = ap (onLine l) (add-one x) ∙ tally-next-out (λ y. eqb (getD l y 0) 0) x (ne-eqb (getD l x 0) 0 d)

@@ -1,7 +1,7 @@
 -- The laws of all figures together.
 use mathlib.Core.Path.{_≡_, refl, sym, ap, _∙_}
 use mathlib.Core.Bool.{true}
-use mathlib.Core.Logic.{inr}
+use mathlib.Core.Logic.{inr, _≢_}
 use mathlib.Core.List.{List}
 use Prim.Native.Nat.{ℕ, _+_, _*_, _≤_, _<_}
 use native.Mathlib.Nat.{mul-le-mul-left}
@@ -9,12 +9,14 @@ use native.Mathlib.Numerals.{add-one}
 use native.Mathlib.Omega.{arith}
 use lib.Dec.{eqb}
 use lib.ListN.{length, getD}
-use Rattle.picture.specs.Lists.{range, highest}
+use borrow.Author.Tests.{eq-eqb, ne-eqb}
+use Rattle.picture.specs.Lists.{range, highest, tally}
 use Rattle.picture.specs.Pictures.{Picture, places, isPicture}
 use Rattle.picture.specs.Patches.{patches, patchAt, lineCount}
 use Rattle.tree.specs.Arrays.{TreeIn}
 use Rattle.tree.specs.Built.{Built}
-use Rattle.lists.proofs.Lists.{tally-same, range-mem}
+use Rattle.lists.proofs.Lists.{tally-same, range-mem, tally-length, length-range}
+use Rattle.lists.proofs.Positions.{tally-next-in, tally-next-out}
 use Rattle.topology.proofs.Accepted.{Accepted, accepted-is}
 use Rattle.topology.proofs.Nodes.{nodes-few}
 use Rattle.topology.proofs.PatchFigures.{patches-count}
@@ -23,7 +25,7 @@ use Rattle.cells.specs.Blocks.{UntouchedOutside}
 use Rattle.patch_numbers.specs.Numbers.{FiveBlocks, Mapped, Leaves, patchIn}
 use Rattle.patch_sums.specs.Sums.{sizes, columns, rows, NumberedRows, Sums}
 use Rattle.patches.specs.Figures.{TreeInWork, noPatch, Charted, Patched, Figures, PatchMap}
-use Rattle.patch_numbers.proofs.Numbering.{kept-row, onLine}
+use Rattle.patch_numbers.proofs.Numbering.{kept-row}
 use Rattle.patches.proofs.Charting.{arrays, map-in, leaves-patch}
 
 -- the tree is not touched by changes from the fifth block on
@@ -106,6 +108,25 @@ module _ (p : Picture) (r : ℕ) (work after cells left : List ℕ) (h : isPictu
 
   pub built-sizes : FiveBlocks (places p) after left
   built-sizes = record { few = z .few; blocks = b .room ∙ z .blocks; beside = b .size ∙ z .beside }
+
+-- how many of the first x places have the number 0
+abbrev pub onLine : List ℕ → ℕ → ℕ
+onLine l x = tally (λ y. eqb (getD l y 0) 0) (range 0 x)
+
+module _ (l : List ℕ) (x : ℕ) where
+  pub line-few : onLine l x ≤ x
+  line-few =
+      let a = tally-length (λ y. eqb (getD l y 0) 0) (range 0 x) in
+      let c = length-range 0 x in
+      omega arith
+
+  pub line-in : getD l x 0 ≡ 0 → onLine l (x + 1) ≡ onLine l x + 1
+  line-in e =
+      ap (onLine l) (add-one x) ∙
+      (tally-next-in (λ y. eqb (getD l y 0) 0) x (eq-eqb (getD l x 0) 0 e) ∙ sym (add-one (onLine l x)))
+
+  pub line-out : getD l x 0 ≢ 0 → onLine l (x + 1) ≡ onLine l x
+  line-out d = ap (onLine l) (add-one x) ∙ tally-next-out (λ y. eqb (getD l y 0) 0) x (ne-eqb (getD l x 0) 0 d)
 
 -- the places with no patch are those on the line
 pub line-count : (p : Picture) (cells : List ℕ) (r : ℕ) → r ≡ onLine cells (length cells) → PatchMap p cells → r ≡ lineCount p

@@ -9,7 +9,7 @@ use lib.Dec.{ltb}
 use lib.ListN.{length, getD, take, length-append}
 use borrow.Author.Tests.{ltb-true, ltb-false}
 use Rattle.lists.proofs.Tests.{on-elim}
-use Rattle.text.specs.Decimal.{digitsBy, decimal, fields, spaced}
+use Rattle.text.specs.Decimal.{digitsBy, decimal, fields}
 
 -- one digit
 digits-one : (l n : ℕ) → n < 10 → digitsBy (suc l) n ≡ (48 + n) ∷ []
@@ -61,6 +61,11 @@ decimal-length (suc l) n h =
     let r = decimal-length l (n / 10) (omega arith) in
     let e = ap length (decimal-more n (omega arith)) ∙ length-append (decimal (n / 10)) ((48 + n % 10) ∷ []) in
     omega arith)
+
+-- numbers each followed by a space
+abbrev pub spaced : List ℕ → List ℕ
+spaced [] = []
+spaced (n ∷ ns) = (decimal n ++ (32 ∷ [])) ++ spaced ns
 
 -- fields are the spaced numbers but the last, then the last with byte 10
 pub fields-last : (ns : List ℕ) (i : ℕ) → suc i ≡ length ns → fields ns ≡ spaced (take i ns) ++ (decimal (getD ns i 0) ++ (10 ∷ []))

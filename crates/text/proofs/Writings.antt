@@ -6,9 +6,9 @@ use native.Mathlib.Omega.{arith}
 use native.Mathlib.Numerals.{add-one}
 use lib.ListN.{length, getD, take, drop, set, length-append, length-drop, take-append-drop}
 use lib.Seq.{set-split, take-suc, take-at, drop-at, length-take-le, drop-drop}
-use Rattle.text.specs.Decimal.{decimal, fields, spaced}
+use Rattle.text.specs.Decimal.{decimal, fields}
 use Rattle.text.specs.Little.{littleEndian}
-use Rattle.text.proofs.Decimals.{decimal-one, decimal-more, fields-last, spaced-next, spaced-room}
+use Rattle.text.proofs.Decimals.{spaced, decimal-one, decimal-more, fields-last, spaced-next, spaced-room}
 use Rattle.text.specs.Writing.{Written}
 
 pub written-byte : (l : List ℕ) (at b : ℕ) → at < length l → Written at (b ∷ []) l (at + 1) (set l at b)

@@ -18,8 +18,3 @@ abbrev pub fields : List ℕ → List ℕ
 fields [] = 10 ∷ []
 fields (n ∷ []) = decimal n ++ (10 ∷ [])
 fields (n ∷ (m ∷ ns)) = decimal n ++ (32 ∷ fields (m ∷ ns))
-
--- numbers each followed by a space
-abbrev pub spaced : List ℕ → List ℕ
-spaced [] = []
-spaced (n ∷ ns) = (decimal n ++ (32 ∷ [])) ++ spaced ns

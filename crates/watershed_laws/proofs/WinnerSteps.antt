@@ -206,9 +206,6 @@ module _ (n : ℕ) (g : List ℕ) where
         }
 
   module _ (before : List ℕ) (s k : ℕ) (ys : List ℕ) where
-    pub wake-start : length before ≡ 2 * n → Winner n g before 1 0 → Waking n g before s k ys before 0
-    wake-start e w = record { size = e; winner = w; stay = λ z h q. q; woken = λ j h. absurd (omega arith) }
-
     pub wake-turn :
         (t : List ℕ) (i : ℕ) (after : List ℕ) → getD ys i 0 < n →
         ((j : ℕ) → j < i → getD ys j 0 < n) →

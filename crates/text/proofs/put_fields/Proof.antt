@@ -4,7 +4,7 @@ use Prim.Native.Nat.{_-_, _<_}
 use native.Mathlib.Omega.{arith}
 use borrow.Author.Needs.{needs}
 use lib.ListN.{length, take}
-use Rattle.text.specs.Decimal.{spaced}
+use Rattle.text.proofs.Decimals.{spaced}
 use Rattle.text.specs.Writing.{Written}
 use Rattle.text.proofs.Writings.{written-none, written-length, spaced-more, fields-done, field-room}
 use Rattle.text.proofs.put_fields.Statement.{statement}

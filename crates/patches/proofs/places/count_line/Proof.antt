@@ -5,8 +5,7 @@ use Prim.Native.Nat.{ℕ, _+_, _-_, _≤_}
 use native.Mathlib.Omega.{arith}
 use lib.ListN.{length}
 use borrow.Author.Needs.{needs}
-use Rattle.patch_numbers.proofs.Numbering.{onLine, line-few, line-in, line-out}
-use Rattle.patches.proofs.Figuring.{line-count}
+use Rattle.patches.proofs.Figuring.{onLine, line-few, line-in, line-out, line-count}
 use Rattle.patches.proofs.places.count_line.Statement.{statement}
 use Rattle.patches.proofs.places.count_line.Tie as tie
 
