@@ -1,6 +1,5 @@
 -- `answers::clear_accepted` meets its contract: after a refusal work stays, and else it is cleared.
 use mathlib.Core.Path.{refl, _∙_}
-use native.Mathlib.Omega.{arith}
 use Rattle.answers.specs.Answers.{cleared}
 use Rattle.answers.proofs.Shell.{refused-left, written-left}
 use borrow.Author.Needs.{needs}
