@@ -1,12 +1,13 @@
 -- Laws of blocks of cells.
 use mathlib.Core.Path.{_≡_, refl, sym, ap, subst, _∙_}
 use mathlib.Core.Logic.{inl, inr, ⊎-elim, _≢_, by-cases}
-use mathlib.Core.List.{List}
-use Prim.Native.Nat.{ℕ, _+_, _≤_, _<_}
-use native.Mathlib.Decide.{ℕ-discrete}
+use mathlib.Core.List.{List, _++_}
+use Prim.Native.Nat.{ℕ, _+_, _-_, _≤_, _<_}
+use native.Mathlib.Nat.{zero-add}
+use native.Mathlib.Decide.{ℕ-discrete, decLt}
 use native.Mathlib.Omega.{arith}
-use lib.ListN.{length, getD, set, length-set}
-use lib.Seq.{getD-set-same, getD-set-other}
+use lib.ListN.{length, getD, set, drop, replicate, length-set, length-append, length-drop, length-replicate, getD-replicate, List·getD-append}
+use lib.Seq.{getD-set-same, getD-set-other, getD-append-add, getD-drop, ext-getD}
 use Rattle.cells.specs.Blocks.{UntouchedOutside, Filled}
 
 pub kept-refl : (b n : ℕ) (l : List ℕ) → UntouchedOutside b n l l
@@ -49,6 +50,35 @@ filled-more b i v l m h f =
 -- the whole block
 pub filled-end : (b n i v : ℕ) (l m : List ℕ) → i ≤ n → n ≤ i → Filled b i v l m → Filled b n v l m
 filled-end b n i v l m h g f = let e : i ≡ n = omega arith in subst (λ (j : ℕ). Filled b j v l m) e f
+
+-- the first n entries, one by one and as a list
+pub filled-entry : {n v : ℕ} {l m : List ℕ} → Filled 0 n v l m → (i : ℕ) → i < n → getD m i 0 ≡ v
+filled-entry {m = m} f i h = ap (λ (j : ℕ). getD m j 0) (sym (zero-add i)) ∙ f .inside i h
+
+pub filled-front : (n v : ℕ) (l m : List ℕ) → n ≤ length l → Filled 0 n v l m → m ≡ replicate n v ++ drop n l
+filled-front n v l m h f =
+    ext-getD 0 m (replicate n v ++ drop n l) (f .kept .size ∙ sym all)
+    (λ i b.
+    by-cases (decLt i n)
+    (λ g.
+    filled-entry f i g ∙
+    sym (List·getD-append (replicate n v) (drop n l) 0 i (omega (arith, front)) ∙ getD-replicate n i v 0 g))
+    (λ g.
+    let e : i ≡ n + (i - n) = omega arith in
+    let at : i ≡ length (replicate n v) + (i - n) = omega (arith, front) in
+    f .kept .outside i (inr (omega arith)) ∙
+    (ap (λ (j : ℕ). getD l j 0) e ∙
+    (sym (getD-drop n l (i - n) 0) ∙
+    (sym (getD-append-add (replicate n v) (drop n l) (i - n) 0) ∙ ap (λ (j : ℕ). getD (replicate n v ++ drop n l) j 0) (sym at))))))
+  where
+    front : length (replicate {A = ℕ} n v) ≡ n
+    front = length-replicate n v
+
+    all : length (replicate {A = ℕ} n v ++ drop n l) ≡ length l
+    all =
+        let a = length-append (replicate {A = ℕ} n v) (drop n l) in
+        let b = length-drop n l in
+        omega (arith, a, b, front)
 
 -- a list that agrees with f before x, and then at x too
 pub below-set :

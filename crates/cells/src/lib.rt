@@ -43,9 +43,5 @@ pub fn clear(cells: &mut [u16], m: usize)
     requires { ⌜ m ≤ length (now cells) ⌝ }
     ensures { λ _. ⌜ now (cells .exit) ≡ replicate m 0 ++ drop m (now (cells .entry)) ⌝ }
 {
-    let mut i = 0;
-    while i < m {
-        cells[i] = 0;
-        i += 1;
-    }
+    fill(cells, 0, m, 0);
 }

@@ -34,7 +34,7 @@ module _ (f : Picture) (xs : List ℕ) (keeps : (k : ℕ) → Keeps (places f) (
 
   -- partners are nodes of one height whose first places are joined in a
   module _ (n m : Node) (s : At f (n .height) (n .first)) (t : At a (m .height) (m .first)) where
-    partners-joined : partners f a n m ≡ true → (n .height ≡ m .height) × Joined a (n .height) (n .first) (m .first)
+    pub partners-joined : partners f a n m ≡ true → (n .height ≡ m .height) × Joined a (n .height) (n .first) (m .first)
     unfolding partners
     partners-joined h =
         let e = eqb-true (n .height) (m .height) (and-left (eqb (n .height) (m .height)) (allWithin (componentOf f n) (componentOf a m)) h) in
@@ -59,33 +59,26 @@ module _ (f : Picture) (xs : List ℕ) (keeps : (k : ℕ) → Keeps (places f) (
         (joined-within f a (n .height) (n .first) (m .first) s (conn-target c)
         (λ z d. conn-trans (joined-sym a (n .height) c) (joined-kept f xs keeps d))))
 
-  -- each node of f has exactly one partner
-  module _ (i : ℕ) (h : i < length (nodes f)) where
-    pub partner-found : tally (λ m. partners f a (nodeAt f i) m) (nodes a) ≡ 1
-    partner-found =
-        one-index (λ m. partners f a n m) (node 0 0) (nodes a) j (found .0)
-        (subst (λ (m : Node). partners f a n m ≡ true) (sym (found .1))
-        (joined-partners n (node k (firstAt a k y)) (g .place) (conn-target c) refl c))
+  -- the node of z's component is the only one of its height whose first place is joined to z
+  node-only :
+      (p : Picture) (l i k z : ℕ) → l < length (nodes p) → (i < length (nodes p)) × (nodeAt p i ≡ node k (firstAt p k z)) →
+      nodeAt p l .height ≡ k → Joined p k (nodeAt p l .first) z → l ≡ i
+  node-only p l i k z b found w c =
+      node-equal p l i b (found .0)
+      (ap₂ node w
+      (sym (node-is p l b .first) ∙ (ap (λ (v : ℕ). firstAt p v (nodeAt p l .first)) w ∙ first-same p k c)) ∙
+      sym (found .1))
+
+  module _ (k y : ℕ) (g : IsNode f (node k y)) where
+    one-found : tally (λ m. partners f a (node k y) m) (nodes a) ≡ 1
+    one-found =
+        one-index (λ m. partners f a (node k y) m) (node 0 0) (nodes a) j (found .0)
+        (subst (λ (m : Node). partners f a (node k y) m ≡ true) (sym (found .1))
+        (joined-partners (node k y) (node k (firstAt a k y)) (g .place) (conn-target c) refl c))
         (λ l b e.
-        let q = node-is a l b in
-        let (w, d) = partners-joined n (nodeAt a l) (g .place) (q .place) e in
-        node-equal a l j b (found .0)
-        (ap₂ node (sym w)
-        (sym (q .first) ∙ (ap (λ (v : ℕ). firstAt a v (nodeAt a l .first)) (sym w) ∙ sym (first-same a k d))) ∙
-        sym (found .1)))
+        let (w, d) = partners-joined (node k y) (nodeAt a l) (g .place) (node-is a l b .place) e in
+        node-only a l j k y b found (sym w) (joined-sym a k d))
       where
-        n : Node
-        n = nodeAt f i
-
-        k : ℕ
-        k = n .height
-
-        y : ℕ
-        y = n .first
-
-        g : IsNode f n
-        g = node-is f i h
-
         t : At a k y
         t = keeps k .subset y (g .place)
 
@@ -101,37 +94,20 @@ module _ (f : Picture) (xs : List ℕ) (keeps : (k : ℕ) → Keeps (places f) (
         found : (j < length (nodes a)) × (nodeAt a j ≡ node k (firstAt a k y))
         found = number-found a k y (g .low) t free
 
-  -- and each node of a is the partner of exactly one
-  module _ (j : ℕ) (h : j < length (nodes a)) where
-    pub partner-of : tally (λ n. partners f a n (nodeAt a j)) (nodes f) ≡ 1
-    partner-of =
-        one-index (λ n. partners f a n m) (node 0 0) (nodes f) i (found .0)
-        (subst (λ (n : Node). partners f a n m ≡ true) (sym (found .1))
-        (joined-partners (node k (firstAt f k z)) m (conn-target first) (g .place) refl
+  module _ (k y : ℕ) (g : IsNode a (node k y)) where
+    one-of : tally (λ n. partners f a n (node k y)) (nodes f) ≡ 1
+    one-of =
+        one-index (λ n. partners f a n (node k y)) (node 0 0) (nodes f) i (found .0)
+        (subst (λ (n : Node). partners f a n (node k y) ≡ true) (sym (found .1))
+        (joined-partners (node k (firstAt f k z)) (node k y) (conn-target first) (g .place) refl
         (conn-trans (joined-sym a k (joined-kept f xs keeps first)) (joined-sym a k c))))
         (λ l b e.
-        let q = node-is f l b in
-        let (w, d) = partners-joined (nodeAt f l) m (q .place) (g .place) e in
+        let q = node-is f l b .place in
+        let (w, d) = partners-joined (nodeAt f l) (node k y) q (g .place) e in
         let d′ = subst (λ (v : ℕ). Joined a v (nodeAt f l .first) y) w d in
-        let s′ = subst (λ (v : ℕ). At f v (nodeAt f l .first)) w (q .place) in
-        let r = keeps k .separates (nodeAt f l .first) z s′ s (conn-trans d′ c) in
-        node-equal f l i b (found .0)
-        (ap₂ node w
-        (sym (q .first) ∙ (ap (λ (v : ℕ). firstAt f v (nodeAt f l .first)) w ∙ first-same f k r)) ∙
-        sym (found .1)))
+        let s′ = subst (λ (v : ℕ). At f v (nodeAt f l .first)) w q in
+        node-only f l i k z b found w (keeps k .separates (nodeAt f l .first) z s′ s (conn-trans d′ c)))
       where
-        m : Node
-        m = nodeAt a j
-
-        k : ℕ
-        k = m .height
-
-        y : ℕ
-        y = m .first
-
-        g : IsNode a m
-        g = node-is a j h
-
         reached : (z : ℕ) × At f k z × Joined a k y z
         reached = keeps k .reaches y (g .place)
 
@@ -155,6 +131,14 @@ module _ (f : Picture) (xs : List ℕ) (keeps : (k : ℕ) → Keeps (places f) (
 
         found : (i < length (nodes f)) × (nodeAt f i ≡ node k (firstAt f k z))
         found = number-found f k z (g .low) s free
+
+  -- each node of f has exactly one partner
+  pub partner-found : (i : ℕ) → i < length (nodes f) → tally (λ m. partners f a (nodeAt f i) m) (nodes a) ≡ 1
+  partner-found i h = one-found (nodeAt f i .height) (nodeAt f i .first) (node-is f i h)
+
+  -- and each node of a is the partner of exactly one
+  pub partner-of : (j : ℕ) → j < length (nodes a) → tally (λ n. partners f a n (nodeAt a j)) (nodes f) ≡ 1
+  partner-of j h = one-of (nodeAt a j .height) (nodeAt a j .first) (node-is a j h)
 
   -- the least nodes above joined places have one height in f and in a, or there is none in either
   data Both (y z k r q : ℕ) : Type 0 where

@@ -6,22 +6,18 @@ use mathlib.Core.List.{List}
 use Prim.Native.Nat.{ℕ, zero, suc, _≤_, _<_}
 use native.Mathlib.Decide.{decLt}
 use native.Mathlib.Omega.{arith}
-use lib.Dec.{eqb}
 use lib.ListN.{length}
-use borrow.Author.Tests.{eqb-true}
-use Rattle.picture.specs.Lists.{tally, range, allWithin}
+use Rattle.picture.specs.Lists.{tally, range}
 use Rattle.picture.specs.Pictures.{Picture, places, valueAt, withPixels, isPicture}
-use Rattle.picture.specs.Components.{componentAt}
-use Rattle.picture.specs.Trees.{Node, nodes, nodeAt, componentOf}
+use Rattle.picture.specs.Trees.{nodes, nodeAt}
 use Rattle.picture.specs.Watersheds.{watershed}
 use Rattle.picture.specs.Patches.{patches}
 use Rattle.picture.specs.Kept.{partners}
-use Rattle.lists.proofs.Tests.{and-left, and-right, same-test}
+use Rattle.lists.proofs.Tests.{same-test}
 use Rattle.topology.proofs.Connected.{start, conn-target, conn-trans}
 use Rattle.topology.proofs.Keeping.{Keeps, sec-mono}
 use Rattle.topology.proofs.Adjacency.{Adj, At, Joined, joined-sym}
 use Rattle.topology.proofs.Reached.{firstAt, first-joined, first-same, first-at}
-use Rattle.topology.proofs.Bridge.{within-joined}
 use Rattle.topology.proofs.Accepted.{Accepted, accepted-is}
 use Rattle.topology.proofs.Water.{watershed-shape, watershed-watered}
 use Rattle.topology.proofs.Branches.{joined-mono, joined-kept}
@@ -31,6 +27,7 @@ use Rattle.lists.proofs.Positions.{tally-rises, tally-inject, tally-reach}
 use Rattle.topology.proofs.Leaves.{leafAt, bottom, leaf-sound, leaf-complete, leaf-same, bottom-is, first-bottom}
 use Rattle.topology.proofs.PatchFigures.{patches-count}
 use Rattle.topology.proofs.LeafNodes.{leafNode}
+use Rattle.topology.proofs.Partners.{partners-joined}
 use Rattle.topology.proofs.Demand.{demand-3}
 
 module _ (f : Picture) (xs : List ℕ) (keeps : (k : ℕ) → Keeps (places f) (Adj f) (valueAt f) (valueAt (withPixels f xs)) k) where
@@ -69,35 +66,13 @@ module _ (f : Picture) (xs : List ℕ) (keeps : (k : ℕ) → Keeps (places f) (
   pub leaf-partners :
       (i j : ℕ) → i < length (nodes f) → j < length (nodes a) → partners f a (nodeAt f i) (nodeAt a j) ≡ true →
       (nodeAt f i .height ≡ nodeAt a j .height) × (leafNode f i ≡ leafNode a j)
-  unfolding partners leafNode
-  leaf-partners i j bi bj h = (e, together (m .height) (sym e) t w)
-    where
-      n : Node
-      n = nodeAt f i
-
-      m : Node
-      m = nodeAt a j
-
-      e : n .height ≡ m .height
-      e = eqb-true (n .height) (m .height) (and-left (eqb (n .height) (m .height)) (allWithin (componentOf f n) (componentOf a m)) h)
-
-      w : allWithin (componentOf f n) (componentOf a m) ≡ true
-      w = and-right (eqb (n .height) (m .height)) (allWithin (componentOf f n) (componentOf a m)) h
-
-      s : At f (n .height) (n .first)
-      s = node-is f i bi .place
-
-      t : At a (m .height) (m .first)
-      t = node-is a j bj .place
-
-      together :
-          (k : ℕ) → k ≡ n .height → At a k (m .first) → allWithin (componentOf f n) (componentAt a k (m .first)) ≡ true →
-          leafAt f (n .height) (n .first) ≡ leafAt a k (m .first)
-      together k g u v =
-          let u′ = subst (λ (l : ℕ). At a l (m .first)) g u in
-          let v′ = subst (λ (l : ℕ). allWithin (componentOf f n) (componentAt a l (m .first)) ≡ true) g v in
-          let c = joined-sym a (n .height) (within-joined f a (n .height) (n .first) (m .first) s u′ v′ (n .first) (start s)) in
-          leaf-kept (n .height) (n .first) (m .first) s c ∙ ap (λ (l : ℕ). leafAt a l (m .first)) (sym g)
+  unfolding leafNode
+  leaf-partners i j bi bj h =
+      let s = node-is f i bi .place in
+      let (e, c) = partners-joined f xs keeps (nodeAt f i) (nodeAt a j) s (node-is a j bj .place) h in (
+        e,
+        leaf-kept (nodeAt f i .height) (nodeAt f i .first) (nodeAt a j .first) s c ∙ ap (λ (k : ℕ). leafAt a k (nodeAt a j .first)) e,
+      )
 
   -- the patches number i of f and j of a begin at places of one height that are joined in a
   data Partner (i j : ℕ) : Type 0 where
@@ -147,27 +122,29 @@ module _ (f : Picture) (xs : List ℕ) (keeps : (k : ℕ) → Keeps (places f) (
         partner z w k zb b g q refl r v refl (joined-sym a k (conn-trans c (joined-kept f xs keeps d))),
       )
 
+  -- minima of one height whose first places are joined have one number
+  same-number :
+      (p : Picture) (x y k : ℕ) → x < places p → y < places p → bottom p x ≡ true → bottom p y ≡ true → valueAt p x ≡ k → valueAt p y ≡ k →
+      (At p k x → At p k y → Joined p k x y) → tally (bottom p) (range 0 x) ≡ tally (bottom p) (range 0 y)
+  same-number p x y k xb yb bx by vx vy c =
+      let (sx, fx, lx) = begins p x k xb bx vx in
+      let (sy, fy, ly) = begins p y k yb by vy in
+      ap (λ (z : ℕ). tally (bottom p) (range 0 z)) (sym fx ∙ (first-same p k (c sx sy) ∙ fy))
+
   one-left : (i j n : ℕ) → Partner i n → Partner j n → i ≡ j
   one-left i j n (partner z w k zb wb bz bw ti tn vz vw c) (partner y u l yb ub by bu tj tm vy vu d) =
       let e = tally-inject (bottom a) w u bw bu (tn ∙ sym tm) in
       let g : l ≡ k = sym vu ∙ (ap (valueAt a) (sym e) ∙ vw) in
-      let (sz, fz, lz) = begins f z k zb bz vz in
-      let (sy, fy, ly) = begins f y k yb by (vy ∙ g) in
       let d′ = subst (λ (h : ℕ). Joined a k y h) (sym e) (subst (λ (h : ℕ). Joined a h y u) g d) in
-      let o = keeps k .separates z y sz sy (conn-trans c (joined-sym a k d′)) in
-      let q : z ≡ y = sym fz ∙ (first-same f k o ∙ fy) in
-      sym ti ∙ (ap (λ (h : ℕ). tally (bottom f) (range 0 h)) q ∙ tj)
+      sym ti ∙
+      (same-number f z y k zb yb bz by vz (vy ∙ g) (λ s t. keeps k .separates z y s t (conn-trans c (joined-sym a k d′))) ∙ tj)
 
   one-right : (i j n : ℕ) → Partner n i → Partner n j → i ≡ j
   one-right i j n (partner z w k zb wb bz bw tn ti vz vw c) (partner y u l yb ub by bu tm tj vy vu d) =
       let e = tally-inject (bottom f) z y bz by (tn ∙ sym tm) in
       let g : l ≡ k = sym vy ∙ (ap (valueAt f) (sym e) ∙ vz) in
-      let (sw, fw, lw) = begins a w k wb bw vw in
-      let (su, fu, lu) = begins a u k ub bu (vu ∙ g) in
       let d′ = subst (λ (h : ℕ). Joined a k h u) (sym e) (subst (λ (h : ℕ). Joined a h y u) g d) in
-      let o = conn-trans (joined-sym a k c) d′ in
-      let q : w ≡ u = sym fw ∙ (first-same a k o ∙ fu) in
-      sym ti ∙ (ap (λ (h : ℕ). tally (bottom a) (range 0 h)) q ∙ tj)
+      sym ti ∙ (same-number a w u k wb ub bw bu vw (vu ∙ g) (λ s t. conn-trans (joined-sym a k c) d′) ∙ tj)
 
   pub as-many : Accepted f → Accepted a → length (patches f) ≡ length (patches a)
   as-many ok good =

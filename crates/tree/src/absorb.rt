@@ -30,12 +30,7 @@ fn absorb_edge(
     if q == r {
         return r;
     }
-    if q < r {
-        join(work, cells, q, r, x);
-        return q;
-    }
-    join(work, cells, r, q, x);
-    r
+    join(work, cells, q, r, x)
 }
 
 // Joins the place x of value k to its neighbours that come before it, and answers the next place of its value.

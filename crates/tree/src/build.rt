@@ -2,6 +2,7 @@
 use crate::buckets::thread;
 use crate::levels::levels;
 use cells::wide;
+use union_find::NONE;
 ghost use mathlib.Core.Path.{_≡_};
 ghost use mathlib.Core.Bool.{true};
 ghost use Prim.Native.Nat.{_<_, _≤_, _+_, _*_};
@@ -18,7 +19,7 @@ fn settle_one(work: &mut [u16], n: usize, i: usize)
     ensures { λ _. ⌜ SettledOne n i (now (work .entry)) (now (work .exit)) ⌝ }
 {
     let f = work[n + i];
-    if f == 65535 {
+    if f == NONE {
         return;
     }
     work[n + i] = work[2 * n + wide(f)];
@@ -49,7 +50,7 @@ fn build_exactly(
     requires { ⌜ (length (now work) ≡ 4 * (w * h)) × (length (now cells) ≡ w * h) ⌝ }
     ensures { λ r. ⌜ (r ≡ length (nodes (pictureOf a w h (now (pixels .entry))))) × TreeIn (pictureOf a w h (now (pixels .entry))) (now (work .exit)) ⌝ }
 {
-    let mut heads = [65535u16; 256];
+    let mut heads = [NONE; 256];
     thread(pixels, work, cells, &mut heads);
     let c = levels(a, w, h, pixels, work, cells, &heads);
     settle(work, cells.len(), c);

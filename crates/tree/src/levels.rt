@@ -2,6 +2,8 @@
 use crate::absorb::absorb_level;
 use crate::list::list_level;
 use cells::wide;
+use union_find::NODES;
+use union_find::NONE;
 use union_find::find;
 ghost use mathlib.Core.Path.{_≡_};
 ghost use Prim.Native.Nat.{_<_, _+_, _*_};
@@ -20,8 +22,8 @@ fn number_one(work: &mut [u16], cells: &mut [u16], k: usize, i: usize)
     let n = cells.len();
     let r = wide(work[3 * n + i]);
     work[i] = k as u16;
-    work[n + i] = 65535;
-    cells[r] = (2048 + i) as u16;
+    work[n + i] = NONE;
+    cells[r] = NODES + i as u16;
 }
 
 // The nodes from c on, before d, of height k get their numbers.
@@ -44,7 +46,7 @@ fn map_one(work: &mut [u16], cells: &mut [u16], x: usize) -> usize
     let at = 2 * cells.len() + x;
     let next = wide(work[at]);
     let r = find(cells, x);
-    work[at] = cells[r] - 2048;
+    work[at] = cells[r] - NODES;
     next
 }
 

@@ -14,10 +14,10 @@ use Rattle.topology.proofs.Connected.{conn-source, conn-target, conn-trans, con
 use Rattle.topology.proofs.Adjacency.{Adj, At, Joined, adj-sym, joined-sym}
 use Rattle.topology.proofs.Accepted.{Accepted, byte-at, places-bound}
 use Rattle.topology.proofs.Nodes.{nodes-few}
-use Rattle.tree_laws.proofs.Beneath.{beneath-number}
-use Rattle.tree_laws.proofs.Levels.{put, relink, relink-moved, relink-kept, State, nothing, single, several, Level, Upto, Edges, edges-lower, Merged, met, met-number, linked}
+use Rattle.tree_laws.proofs.Beneath.{Low, beneath, beneath-number}
+use Rattle.tree_laws.proofs.Levels.{⊎-swap, put, relink, relink-moved, relink-kept, relink-same, State, nothing, single, several, Level, Upto, Edges, edges-lower, Merged, merged-exchange, met, met-number, linked}
 use Rattle.tree_laws.proofs.Counts.{soFar}
-use Rattle.tree_laws.proofs.Forests.{Forest, Found, root-cell, forest-link}
+use Rattle.tree_laws.proofs.Forests.{Forest, Found, root-cell, Ordered, ordered-less, in-order, forest-link}
 use Rattle.tree_laws.proofs.Marks.{Names}
 
 -- the cells hold the classes at height k, with the neighbours up to x joined
@@ -47,11 +47,6 @@ pub record Near (p : Picture) (k x j r : ℕ) (l : List ℕ) (fa : ℕ → ℕ) 
 pub record Edge (p : Picture) (x j y : ℕ) : Type 0 where
   pub listed : j < length (neighboursIn p x)
   pub is : y ≡ getD (neighboursIn p x) j 0
-
--- two roots, the smaller first
-pub data Ordered (q r : ℕ) : ℕ → ℕ → Type 0 where
-  below : q < r → Ordered q r q r
-  above : r < q → Ordered q r r q
 
 -- what the link of two roots at x asks
 pub record Linkable (x q r : ℕ) (l : List ℕ) : Type 0 where
@@ -178,23 +173,24 @@ module _ (p : Picture) (ok : Accepted p) (k x : ℕ) where
       at-y : At p k y
       at-y = record { within = u .within; low = ⊎-elim (λ h. omega arith) (λ h. let g = h .0 in omega arith) (u .passed) }
 
-      root-x : (n .root (n .root x) ≡ n .root x) × At p k (n .root x)
-      root-x = (n .level .fixed x (n .within), conn-target (n .level .own x at-x))
-
-      root-y : (n .root (n .root y) ≡ n .root y) × At p k (n .root y)
-      root-y = (n .level .fixed y (u .within), conn-target (n .level .own y at-y))
-
-      joined-roots : Joined p k (n .root x) (n .root y)
-      joined-roots =
-          conn-trans (joined-sym p k (n .level .own x at-x))
-          (conn-trans (conn-edge at-x t at-y) (n .level .own y at-y))
-
       module _ {m : List ℕ} {q : ℕ} (f : Found l y q m) where
         root-of-y : n .root y ≡ q
         root-of-y = f .is (n .root) (n .st) (n .forest)
 
         forest : Forest m (n .root) (n .st)
         forest = f .keeps (n .root) (n .st) (n .forest)
+
+        root-q : n .root q ≡ q
+        root-q = subst (λ (a : ℕ). n .root a ≡ a) root-of-y (n .level .fixed y (u .within))
+
+        root-r : n .root r ≡ r
+        root-r = subst (λ (a : ℕ). n .root a ≡ a) (n .is) (n .level .fixed x (n .within))
+
+        joined-q : Joined p k x q
+        joined-q = subst (Joined p k x) root-of-y (conn-trans (conn-edge at-x t at-y) (n .level .own y at-y))
+
+        joined-r : Joined p k x r
+        joined-r = subst (Joined p k x) (n .is) (n .level .own x at-x)
 
         pub near-same : Edge p x j y → q ≡ r → Near p k x (suc j) r m fa
         near-same e g = near-next m (f .size) forest y e (λ h. root-of-y ∙ (g ∙ sym (n .is)))
@@ -205,119 +201,90 @@ module _ (p : Picture) (ok : Accepted p) (k x : ℕ) where
             let same = n .size in
             let most = places-bound p ok in
             let within = n .within in
-            let x-is = n .is in
-            let y-is = root-of-y in
-            let in-x = root-x .1 .within in
-            let in-y = root-y .1 .within in
+            let in-q = conn-target joined-q .within in
+            let in-r = conn-target joined-r .within in
             record {
               few = omega arith;
               place = omega arith;
               in-q = omega arith;
               in-r = omega arith;
-              name-q = subst (λ (a : ℕ). Names (length m) (getD m a 0)) root-of-y (near-names m (f .size) forest (n .root y) (root-y .1) (root-y .0));
-              name-r = subst (λ (a : ℕ). Names (length m) (getD m a 0)) (n .is) (near-names m (f .size) forest (n .root x) (root-x .1) (root-x .0));
+              name-q = near-names m (f .size) forest q (conn-target joined-q) root-q;
+              name-r = near-names m (f .size) forest r (conn-target joined-r) root-r;
             }
 
-      -- the two roots, the smaller first
-      module _ {m : List ℕ} {q lo hi : ℕ} (f : Found l y q m) (o : Ordered q r lo hi) where
-        less : lo < hi
-        less = by o
-          where
-            by : {a b : ℕ} → Ordered q r a b → a < b
-            by (below h) = h
-            by (above h) = h
+        -- the two roots, the smaller first
+        module _ {lo hi : ℕ} (o : Ordered q r lo hi) where
+          less : lo < hi
+          less = ordered-less o
 
-        ends : ((n .root x ≡ lo) × (n .root y ≡ hi)) ⊎ ((n .root x ≡ hi) × (n .root y ≡ lo))
-        ends = by o
-          where
-            by : {a b : ℕ} → Ordered q r a b → ((n .root x ≡ a) × (n .root y ≡ b)) ⊎ ((n .root x ≡ b) × (n .root y ≡ a))
-            by (below h) = inr (n .is, root-of-y f)
-            by (above h) = inl (n .is, root-of-y f)
+          roots : (n .root lo ≡ lo) × (n .root hi ≡ hi)
+          roots = in-order (λ a b. (n .root a ≡ a) × (n .root b ≡ b)) (λ a b h. (h .1, h .0)) o (root-q, root-r)
 
-        both : Joined p k lo hi × Joined p k x lo
-        both =
-            ⊎-elim
-            (λ h. (
-              subst (λ (b : ℕ). Joined p k lo b) (h .1) (subst (λ (a : ℕ). Joined p k a (n .root y)) (h .0) joined-roots),
-              subst (λ (a : ℕ). Joined p k x a) (h .0) (n .level .own x at-x),
-            ))
-            (λ h.
-            let c : Joined p k lo hi =
-            subst (λ (b : ℕ). Joined p k lo b) (h .0) (subst (λ (a : ℕ). Joined p k a (n .root x)) (h .1) (joined-sym p k joined-roots))
-            in
-            (c, conn-trans (subst (λ (a : ℕ). Joined p k x a) (h .0) (n .level .own x at-x)) (joined-sym p k c)))
-            ends
+          ends : Joined p k x lo × Joined p k x hi
+          ends = in-order (λ a b. Joined p k x a × Joined p k x b) (λ a b h. (h .1, h .0)) o (joined-q, joined-r)
 
-        lo-root : n .root lo ≡ lo
-        lo-root =
-            ⊎-elim
-            (λ h. subst (λ (a : ℕ). n .root a ≡ a) (h .0) (root-x .0))
-            (λ h. subst (λ (a : ℕ). n .root a ≡ a) (h .1) (root-y .0))
-            ends
+          joined : Joined p k lo hi
+          joined = conn-trans (joined-sym p k (ends .0)) (ends .1)
 
-        hi-root : n .root hi ≡ hi
-        hi-root =
-            ⊎-elim
-            (λ h. subst (λ (a : ℕ). n .root a ≡ a) (h .1) (root-y .0))
-            (λ h. subst (λ (a : ℕ). n .root a ≡ a) (h .0) (root-x .0))
-            ends
+          hi-in : hi < length m
+          hi-in = let b = conn-target joined .within in let g = n .size in omega (arith, b, g, f .size)
 
-        hi-in : hi < length m
-        hi-in = let b = conn-target (both .0) .within in let g = n .size in omega (arith, b, g, f .size)
+          small : lo < 2048
+          small = let b = conn-source joined .within in let g = places-bound p ok in omega arith
 
-        small : lo < 2048
-        small = let b = conn-source (both .0) .within in let g = places-bound p ok in omega arith
+          state : (a : ℕ) → a < length m → n .root a ≡ a → getD m a 0 ≡ n .st a
+          state a b e = forest .state a b (root-cell forest a b e)
 
-        lo-state : getD m lo 0 ≡ n .st lo
-        lo-state = forest f .state lo (omega (arith, hi-in, less)) (root-cell (forest f) lo (omega (arith, hi-in, less)) lo-root)
+          lo-state : getD m lo 0 ≡ n .st lo
+          lo-state = state lo (omega (arith, hi-in, less)) (roots .0)
 
-        hi-state : getD m hi 0 ≡ n .st hi
-        hi-state = forest f .state hi hi-in (root-cell (forest f) hi hi-in hi-root)
+          hi-state : getD m hi 0 ≡ n .st hi
+          hi-state = state hi hi-in (roots .1)
 
-        same-class : (a b : ℕ) → n .root a ≡ n .root b → relink (n .root) lo hi a ≡ relink (n .root) lo hi b
-        same-class a b q =
-            by-cases (ℕ-discrete (n .root b) hi)
-            (λ g. relink-moved (n .root) lo hi a (q ∙ g) ∙ sym (relink-moved (n .root) lo hi b g))
-            (λ d. relink-kept (n .root) lo hi a (λ g. d (sym q ∙ g)) ∙ (q ∙ sym (relink-kept (n .root) lo hi b d)))
+          -- both places have the root lo now
+          now : (z : ℕ) → (n .root z ≡ q) ⊎ (n .root z ≡ r) → relink (n .root) lo hi z ≡ lo
+          now z e =
+              ⊎-elim (λ h. relink-kept (n .root) lo hi z (λ g. omega (arith, less)) ∙ h) (λ h. relink-moved (n .root) lo hi z h)
+              (in-order (λ a b. (n .root z ≡ a) ⊎ (n .root z ≡ b)) (λ a b. ⊎-swap) o e)
 
-        x-now : relink (n .root) lo hi x ≡ lo
-        x-now = ⊎-elim (λ h. relink-kept (n .root) lo hi x (λ q. let g = h .0 in omega (arith, less)) ∙ h .0) (λ h. relink-moved (n .root) lo hi x (h .0)) ends
+          lower : (z w : ℕ) → Low p k z → Low p k w → beneath p k z ≡ beneath p k w → n .root z ≡ n .root w
+          lower = edges-lower p k x (n .root) (let h = n .low in omega arith) (n .edges)
 
-        y-now : relink (n .root) lo hi y ≡ lo
-        y-now = ⊎-elim (λ h. relink-moved (n .root) lo hi y (h .1)) (λ h. relink-kept (n .root) lo hi y (λ q. let g = h .1 in omega (arith, less)) ∙ h .1) ends
+          -- the father of a node that one of the two roots says
+          pub near-met :
+              (i : ℕ) → i < 1600 → getD m q 0 ≢ 65535 → getD m r 0 ≢ 65535 → (getD m q 0 ≡ 2048 + i) ⊎ (getD m r 0 ≡ 2048 + i) →
+              (i < length (nodes p)) × (fatherOf p (nodeAt p i) ≡ mapOf p x)
+          near-met i b dq dr e =
+              let (da, db) = in-order (λ a b. (getD m a 0 ≢ 65535) × (getD m b 0 ≢ 65535)) (λ a b h. (h .1, h .0)) o (dq, dr) in
+              let g : (n .st lo ≡ 2048 + i) ⊎ (n .st hi ≡ 2048 + i) =
+              ⊎-elim (λ h. inl (sym lo-state ∙ h)) (λ h. inr (sym hi-state ∙ h))
+              (in-order (λ a b. (getD m a 0 ≡ 2048 + i) ⊎ (getD m b 0 ≡ 2048 + i)) (λ a b. ⊎-swap) o e)
+              in (
+                met-number p ok k (n .low) (soFar p k) x lo hi (n .root) (n .st) fa (n .level) lower less (roots .0) (roots .1) joined (ends .0) (n .value) i b g,
+                met p ok k (n .low) (soFar p k) x lo hi (n .root) (n .st) fa (n .level) lower less (roots .0) (roots .1) joined (ends .0) (n .value) i b
+                    (λ h. da (lo-state ∙ h)) (λ h. db (hi-state ∙ h)) g,
+              )
 
-        -- the father of a node that one of the two roots says
-        pub near-met :
-            (i : ℕ) → i < 1600 → getD m lo 0 ≢ 65535 → getD m hi 0 ≢ 65535 → (getD m lo 0 ≡ 2048 + i) ⊎ (getD m hi 0 ≡ 2048 + i) →
-            (i < length (nodes p)) × (fatherOf p (nodeAt p i) ≡ mapOf p x)
-        near-met i b da db e =
-            let g : (n .st lo ≡ 2048 + i) ⊎ (n .st hi ≡ 2048 + i) = ⊎-elim (λ q. inl (sym lo-state ∙ q)) (λ q. inr (sym hi-state ∙ q)) e in
-            let lower = edges-lower p k x (n .root) (let h = n .low in omega arith) (n .edges) in (
-              met-number p ok k (n .low) (soFar p k) x lo hi (n .root) (n .st) fa (n .level) lower less lo-root hi-root (both .0) (both .1) (n .value) i b g,
-              met p ok k (n .low) (soFar p k) x lo hi (n .root) (n .st) fa (n .level) lower less lo-root hi-root (both .0) (both .1) (n .value) i b
-                  (λ q. da (lo-state ∙ q)) (λ q. db (hi-state ∙ q)) g,
-            )
-
-        -- the two roots are linked
-        pub near-linked :
-            (s : ℕ) (fb : ℕ → ℕ) → 2048 ≤ s → Merged x (getD m lo 0) (getD m hi 0) s fa fb → Edge p x j y →
-            Near p k x (suc j) lo (set (set m hi lo) lo s) fb
-        near-linked s fb big merged e =
-            record {
-              root = relink (n .root) lo hi;
-              st = put (n .st) lo s;
-              size = length-set (set m hi lo) lo s ∙ (length-set m hi lo ∙ (f .size ∙ n .size));
-              low = n .low;
-              forest = forest-link m lo hi s (n .root) (n .st) (forest f) less hi-in small lo-root hi-root big;
-              level =
-                  linked p ok k (n .low) (soFar p k) x lo hi (n .root) (n .st) fa (n .level)
-                  (edges-lower p k x (n .root) (let h = n .low in omega arith) (n .edges))
-                  less lo-root hi-root (both .0) (both .1) (n .value) s fb
-                  (subst (λ (a : ℕ). Merged x a (n .st hi) s fa fb) lo-state
-                  (subst (λ (a : ℕ). Merged x (getD m lo 0) a s fa fb) hi-state merged));
-              edges = record { same = λ a b c d g. same-class a b (n .edges .same a b c d g) };
-              within = n .within;
-              value = n .value;
-              is = x-now;
-              seen = seen-next (relink (n .root) lo hi) same-class y e (λ h. y-now ∙ sym x-now);
-            }
+          -- the two roots are linked
+          pub near-linked :
+              (s : ℕ) (fb : ℕ → ℕ) → 2048 ≤ s → Merged x (getD m q 0) (getD m r 0) s fa fb → Edge p x j y →
+              Near p k x (suc j) lo (set (set m hi lo) lo s) fb
+          near-linked s fb big merged e =
+              record {
+                root = relink (n .root) lo hi;
+                st = put (n .st) lo s;
+                size = length-set (set m hi lo) lo s ∙ (length-set m hi lo ∙ (f .size ∙ n .size));
+                low = n .low;
+                forest = forest-link m lo hi s (n .root) (n .st) forest less hi-in small (roots .0) (roots .1) big;
+                level =
+                    linked p ok k (n .low) (soFar p k) x lo hi (n .root) (n .st) fa (n .level) lower
+                    less (roots .0) (roots .1) joined (ends .0) (n .value) s fb
+                    (subst (λ (a : ℕ). Merged x a (n .st hi) s fa fb) lo-state
+                    (subst (λ (a : ℕ). Merged x (getD m lo 0) a s fa fb) hi-state
+                    (in-order (λ a b. Merged x (getD m a 0) (getD m b 0) s fa fb) (λ a b. merged-exchange) o merged)));
+                edges = record { same = λ a b c d g. relink-same (n .root) lo hi a b (n .edges .same a b c d g) };
+                within = n .within;
+                value = n .value;
+                is = now x (inr (n .is));
+                seen = seen-next (relink (n .root) lo hi) (relink-same (n .root) lo hi) y e (λ h. now y (inl root-of-y) ∙ sym (now x (inr (n .is))));
+              }

@@ -6,15 +6,15 @@ use mathlib.Core.List.{List}
 use Prim.Native.Nat.{ℕ, suc, _+_, _-_, _≤_, _<_}
 use native.Mathlib.Decide.{ℕ-discrete}
 use native.Mathlib.Omega.{arith}
-use lib.ListN.{length, getD, set, length-set}
+use lib.ListN.{length, getD}
 use Rattle.picture.specs.Pictures.{Picture, places}
 use Rattle.picture.specs.Trees.{nodes, nodeAt, fatherOf, mapOf}
 use Rattle.lists.proofs.Tests.{clash}
 use Rattle.topology.proofs.Accepted.{Accepted}
 use Rattle.tree_laws.proofs.Levels.{put, put-same, put-other, Merged, left, right, both}
-use Rattle.tree_laws.proofs.Forests.{Found, Parents, forest-parents}
+use Rattle.tree_laws.proofs.Forests.{Found, ordered, ordered-most, Hung, hung-size, Parents, forest-parents}
 use Rattle.tree_laws.proofs.Marks.{Names}
-use Rattle.tree_laws.proofs.Absorbing.{Classes, Near, Edge, Ordered, below, above, Linkable, edge-touch, edge-within, near-skip, near-same, near-linkable, near-linked, near-met}
+use Rattle.tree_laws.proofs.Absorbing.{Classes, Near, Edge, Linkable, edge-touch, edge-within, near-skip, near-same, near-linkable, near-linked, near-met}
 use Rattle.tree_laws.proofs.Chains.{Comes, upto-of}
 
 -- the lent entries of two lists contradict the tree: a node's father is the node of a pixel, and their entries differ
@@ -54,12 +54,12 @@ pub data MergedBy (x a b s : ℕ) (fs m : List ℕ) : Type 0 where
       a ≢ 65535 → b ≢ 65535 → s ≡ 65534 →
       ((i : ℕ) → i < 1600 → (a ≡ 2048 + i) ⊎ (b ≡ 2048 + i) → getD fs i 0 ≡ getD m x 0) → MergedBy x a b s fs m
 
--- what a checked link leaves: the link, or a difference
-pub data Joint (x lo hi : ℕ) (l fs m : List ℕ) (o : List ℕ) : Bool → Type 0 where
-  linked : (s : ℕ) → 2048 ≤ s → o ≡ set (set l hi lo) lo s → MergedBy x (getD l lo 0) (getD l hi 0) s fs m → Joint x lo hi l fs m o true
+-- what a checked link of two roots leaves: the link, with the root z, or a difference, with the number of cells for z
+pub data Joint (x q r : ℕ) (l fs m : List ℕ) (o : List ℕ) (z : ℕ) : Type 0 where
+  linked : (s : ℕ) → 2048 ≤ s → Hung q r s l o z → MergedBy x (getD l q 0) (getD l r 0) s fs m → Joint x q r l fs m o z
   differs :
-      (i : ℕ) → i < 1600 → getD l lo 0 ≢ 65535 → getD l hi 0 ≢ 65535 → (getD l lo 0 ≡ 2048 + i) ⊎ (getD l hi 0 ≡ 2048 + i) →
-      getD fs i 0 ≢ getD m x 0 → length o ≡ length l → Joint x lo hi l fs m o false
+      (i : ℕ) → i < 1600 → getD l q 0 ≢ 65535 → getD l r 0 ≢ 65535 → (getD l q 0 ≡ 2048 + i) ⊎ (getD l r 0 ≡ 2048 + i) →
+      getD fs i 0 ≢ getD m x 0 → length o ≡ length l → z ≡ length l → Joint x q r l fs m o z
 
 -- the entries with x at the node that a state names
 marked : ℕ → ℕ → (ℕ → ℕ) → ℕ → ℕ
@@ -106,46 +106,40 @@ merged-by x a b s fs m fa ra rb (by-both da db q f) g = (
 pub agrees-none : (s x : ℕ) (fs m : List ℕ) → 65534 ≤ s → Agrees s x fs m true
 agrees-none s x fs m h = record { yes = λ e i b q. absurd (omega arith); never = λ e. absurd (clash refl e) }
 
-pub agrees-same : (s x t : ℕ) (fs m : List ℕ) → t ≡ s → 2048 ≤ s → getD fs (t - 2048) 0 ≡ getD m x 0 → Agrees s x fs m true
+pub agrees-same : (s x t : ℕ) (fs m : List ℕ) → t ≡ s - 2048 → 2048 ≤ s → getD fs t 0 ≡ getD m x 0 → Agrees s x fs m true
 agrees-same s x t fs m e r h =
     record {
-      yes = λ q i b g. let z : i ≡ t - 2048 = omega arith in ap (λ (y : ℕ). getD fs y 0) z ∙ h;
+      yes = λ q i b g. let z : i ≡ t = omega arith in ap (λ (y : ℕ). getD fs y 0) z ∙ h;
       never = λ q. absurd (clash refl q);
     }
 
-pub agrees-not : (s x t : ℕ) (fs m : List ℕ) → t ≡ s → s < 65534 → (getD fs (t - 2048) 0 ≡ getD m x 0 → ⊥) → Agrees s x fs m false
+pub agrees-not : (s x t : ℕ) (fs m : List ℕ) → t ≡ s - 2048 → s < 65534 → (getD fs t 0 ≡ getD m x 0 → ⊥) → Agrees s x fs m false
 agrees-not s x t fs m e b h =
     record {
       yes = λ q. absurd (clash q refl);
-      never = λ q. (b, λ g. h (ap (λ (y : ℕ). getD fs (y - 2048) 0) e ∙ g));
+      never = λ q. (b, λ g. h (ap (λ (y : ℕ). getD fs y 0) e ∙ g));
     }
 
-module _ (x lo hi n : ℕ) (l fs m : List ℕ) (few : n ≤ 1600) (na : Names n (getD l lo 0)) (nb : Names n (getD l hi 0)) where
-  pub joint-left : (s : ℕ) → s ≡ getD l hi 0 → getD l lo 0 ≡ 65535 → Joint x lo hi l fs m (set (set l hi lo) lo s) true
-  joint-left s q e = linked s (let r = nb .root in omega arith) refl (by-left e q)
+module _ (x q r n : ℕ) (l fs m : List ℕ) (few : n ≤ 1600) (na : Names n (getD l q 0)) (nb : Names n (getD l r 0)) where
+  pub joint-left : (o : List ℕ) (z : ℕ) → getD l q 0 ≡ 65535 → Hung q r (getD l r 0) l o z → Joint x q r l fs m o z
+  joint-left o z e h = linked (getD l r 0) (nb .root) h (by-left e refl)
 
-  pub joint-right : (s : ℕ) → s ≡ getD l lo 0 → getD l hi 0 ≡ 65535 → Joint x lo hi l fs m (set (set l hi lo) lo s) true
-  joint-right s q e = linked s (let r = na .root in omega arith) refl (by-right e q)
+  pub joint-right : (o : List ℕ) (z : ℕ) → getD l r 0 ≡ 65535 → Hung q r (getD l q 0) l o z → Joint x q r l fs m o z
+  joint-right o z e h = linked (getD l q 0) (na .root) h (by-right e refl)
 
-  module _ (da : getD l lo 0 ≢ 65535) (db : getD l hi 0 ≢ 65535) where
-    pub joint-lo : Agrees (getD l lo 0) x fs m false → Joint x lo hi l fs m l false
-    joint-lo a =
+  module _ (da : getD l q 0 ≢ 65535) (db : getD l r 0 ≢ 65535) where
+    -- the state s is that of one of the two
+    pub joint-differs : (s : ℕ) → (getD l q 0 ≡ s) ⊎ (getD l r 0 ≡ s) → Names n s → Agrees s x fs m false → Joint x q r l fs m l (length l)
+    joint-differs s e names a =
         let (b, d) = a .never refl in
-        let r = na .root in
-        let q = na .node b in
-        differs (getD l lo 0 - 2048) (omega arith) da db (inl (omega arith)) d refl
+        let g = names .root in
+        let h = names .node b in
+        differs (s - 2048) (omega arith) da db (⊎-elim (λ t. inl (omega arith)) (λ t. inr (omega arith)) e) d refl refl
 
-    pub joint-hi : Agrees (getD l hi 0) x fs m false → Joint x lo hi l fs m l false
-    joint-hi a =
-        let (b, d) = a .never refl in
-        let r = nb .root in
-        let q = nb .node b in
-        differs (getD l hi 0 - 2048) (omega arith) da db (inr (omega arith)) d refl
-
-    pub joint-both : Agrees (getD l lo 0) x fs m true → Agrees (getD l hi 0) x fs m true → Joint x lo hi l fs m (set (set l hi lo) lo 65534) true
-    joint-both a b =
-        linked 65534 (omega arith) refl
-        (by-both da db refl (λ i h. ⊎-elim (λ e. a .yes refl i h e) (λ e. b .yes refl i h e)))
+    pub joint-both : (o : List ℕ) (z : ℕ) → Agrees (getD l q 0) x fs m true → Agrees (getD l r 0) x fs m true → Hung q r 65534 l o z → Joint x q r l fs m o z
+    joint-both o z a b h =
+        linked 65534 (omega arith) h
+        (by-both da db refl (λ i g. ⊎-elim (λ e. a .yes refl i g e) (λ e. b .yes refl i g e)))
 
 -- x is joined to some of its neighbours, and y is the next
 pub record LookReady (pixels : List ℕ) (k x r y : ℕ) (l fs m : List ℕ) : Type 0 where
@@ -180,8 +174,8 @@ module _ (pixels : List ℕ) (k x r y : ℕ) (l fs m : List ℕ) where
   pub look-parents : LookReady pixels k x r y l fs m → Parents l
   look-parents e = forest-parents (e .near .near .forest)
 
-  pub look-skip : LookReady pixels k x r y l fs m → Comes k x y (getD pixels y 0) false → Looked pixels k x r y l fs m r l
-  look-skip ready c =
+  pub look-skip : Comes k x y (getD pixels y 0) false → Looked pixels k x r y l fs m r l
+  look-skip c =
       record {
         size = refl;
         near =
@@ -216,54 +210,35 @@ module _ (pixels : List ℕ) (k x r y : ℕ) (l fs m : List ℕ) where
     pub look-join : LookReady pixels k x r y l fs m → Linkable x q r o
     look-join e = linkable (e .p) (e .j) (e .ok) (e .is) (e .edge) (e .near)
 
-    -- the names of the two roots, the smaller first
-    names : {lo hi : ℕ} → Ordered q r lo hi → Linkable x q r o → Names (length o) (getD o lo 0) × Names (length o) (getD o hi 0)
-    names (below h) a = (a .name-q, a .name-r)
-    names (above h) a = (a .name-r, a .name-q)
-
-    most : {lo hi : ℕ} → Ordered q r lo hi → lo ≤ r
-    most (below h) = omega arith
-    most (above h) = omega arith
-
-    look-linked : {lo hi : ℕ} (u : List ℕ) → Ordered q r lo hi → Joint x lo hi o fs m u true → Looked pixels k x r y l fs m lo u
-    look-linked {lo} {hi} u h (linked s big e g) =
+    -- the two roots are linked, or the lent lists differ
+    pub look-joined : (u : List ℕ) (z : ℕ) → q ≢ r → Joint x q r o fs m u z → Looked pixels k x r y l fs m z u
+    look-joined u z d (linked s big h g) =
         record {
-          size = ap length e ∙ (length-set (set o hi lo) lo s ∙ (length-set o hi lo ∙ f .size));
+          size = hung-size h ∙ f .size;
           near =
-              λ p j ok i a n z.
+              λ p j ok i a n b.
               let (w, t) = edge-touch p ok k x j y a in
-              let (na, nb) = names h (linkable p j ok i a n) in
-              let (fb, merged, agree) = merged-by x (getD o lo 0) (getD o hi 0) s fs m (n .fa) (na .root) (nb .root) g (n .agree) in
+              let names = linkable p j ok i a n in
+              let (fb, merged, agree) =
+              merged-by x (getD o q 0) (getD o r 0) s fs m (n .fa) (names .name-q .root) (names .name-r .root) g (n .agree)
+              in
               record {
                 fa = fb;
                 near =
-                    subst (λ (v : List ℕ). Near p k x (suc j) lo v fb) (sym e)
-                    (near-linked p ok k x j r l (n .fa) (n .near) y (upto-of p i w c) t f h s fb big merged a);
+                    subst (λ (v : List ℕ). Near p k x (suc j) z v fb) (sym (h .cells))
+                    (near-linked p ok k x j r l (n .fa) (n .near) y (upto-of p i w c) t f (h .order) s fb big merged a);
                 agree = agree;
               };
-          differs = λ p j ok i a n z. absurd (let w = root-in p j ok n in omega (arith, most h));
+          differs = λ p j ok i a n b. absurd (let w = root-in p j ok n in omega (arith, ordered-most (h .order)));
         }
-
-    look-differs : {lo hi : ℕ} (u : List ℕ) (z : ℕ) → Ordered q r lo hi → z ≡ length u → Joint x lo hi o fs m u false → Looked pixels k x r y l fs m z u
-    look-differs u z h e (differs i b da db a d s) =
+    look-joined u z d (differs i b dq dr a e s is) =
         record {
           size = s ∙ f .size;
           near = λ p j ok i a n v. absurd (let g = f .size in omega arith);
           differs =
               λ p j ok g t n v.
               let (w, touch) = edge-touch p ok k x j y t in
-              let (num, father) = near-met p ok k x j r l (n .fa) (n .near) y (upto-of p g w c) touch f h i b da db a in
-              record { at = i; pixel = x; number = num; place = n .near .within; father = father; differs = d };
+              let (lo, hi, order) = ordered q r d in
+              let (num, father) = near-met p ok k x j r l (n .fa) (n .near) y (upto-of p g w c) touch f order i b dq dr a in
+              record { at = i; pixel = x; number = num; place = n .near .within; father = father; differs = e };
         }
-
-    pub look-below : (u : List ℕ) → q < r → q < length l → Joint x q r o fs m u true → Looked pixels k x r y l fs m q u
-    look-below u h b = look-linked u (below h)
-
-    pub look-above : (u : List ℕ) → r < q → Joint x r q o fs m u true → Looked pixels k x r y l fs m r u
-    look-above u h = look-linked u (above h)
-
-    pub look-differs-below : (u : List ℕ) (z : ℕ) → q < r → z ≡ length u → Joint x q r o fs m u false → Looked pixels k x r y l fs m z u
-    look-differs-below u z h = look-differs u z (below h)
-
-    pub look-differs-above : (u : List ℕ) (z : ℕ) → r < q → z ≡ length u → Joint x r q o fs m u false → Looked pixels k x r y l fs m z u
-    look-differs-above u z h = look-differs u z (above h)

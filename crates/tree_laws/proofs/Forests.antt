@@ -7,7 +7,7 @@ use native.Mathlib.Decide.{ℕ-discrete, decLt}
 use native.Mathlib.Omega.{arith}
 use lib.ListN.{length, getD, set, length-set}
 use lib.Seq.{getD-set-same, getD-set-other}
-use Rattle.tree_laws.proofs.Levels.{put, put-same, put-other, relink, relink-moved, relink-kept}
+use Rattle.tree_laws.proofs.Levels.{put, put-same, put-other, relink, relink-moved, relink-kept, relink-same}
 
 -- every parent is a smaller place
 pub record Parents (l : List ℕ) : Type 0 where
@@ -169,6 +169,43 @@ module _ (l : List ℕ) (x : ℕ) (b : x < length l) (h : Parents l) (low : getD
   split-up u e h =
       subst (λ (v : ℕ). Split l x v (set l x (getD l v 0))) (sym e) (split-move (subst (λ (v : ℕ). getD l v 0 < 2048) e h))
 
+-- two roots, the smaller first
+pub data Ordered (q r : ℕ) : ℕ → ℕ → Type 0 where
+  below : q < r → Ordered q r q r
+  above : r < q → Ordered q r r q
+
+pub ordered-less : {q r lo hi : ℕ} → Ordered q r lo hi → lo < hi
+ordered-less (below h) = h
+ordered-less (above h) = h
+
+pub ordered-most : {q r lo hi : ℕ} → Ordered q r lo hi → lo ≤ r
+ordered-most (below h) = omega arith
+ordered-most (above h) = omega arith
+
+pub ordered : (q r : ℕ) → q ≢ r → (lo : ℕ) × (hi : ℕ) × Ordered q r lo hi
+ordered q r d = by-cases (decLt q r) (λ h. (q, r, below h)) (λ h. (r, q, above (omega arith)))
+
+-- what holds of two roots in either order holds of them with the smaller first
+pub in-order : {q r lo hi : ℕ} (P : ℕ → ℕ → Type 0) → ((a b : ℕ) → P a b → P b a) → Ordered q r lo hi → P q r → P lo hi
+in-order P exchange (below h) f = f
+in-order {q} {r} P exchange (above h) f = exchange q r f
+
+-- the greater of two roots hung below the smaller, lo, which gets the state s
+pub record Hung (q r s : ℕ) (l m : List ℕ) (lo : ℕ) : Type 0 where
+  pub hi : ℕ
+  pub order : Ordered q r lo hi
+  pub cells : m ≡ set (set l hi lo) lo s
+
+pub hung-size : {q r s lo : ℕ} {l m : List ℕ} → Hung q r s l m lo → length m ≡ length l
+hung-size {s = s} {lo = lo} {l = l} h =
+    ap length (h .cells) ∙ (length-set (set l (h .hi) lo) lo s ∙ length-set l (h .hi) lo)
+
+pub hung-below : (q r s : ℕ) (l : List ℕ) → q < r → Hung q r s l (set (set l r q) q s) q
+hung-below q r s l h = record { hi = r; order = below h; cells = refl }
+
+pub hung-above : (q r s : ℕ) (l : List ℕ) → r < q → Hung q r s l (set (set l q r) r s) r
+hung-above q r s l h = record { hi = q; order = above h; cells = refl }
+
 -- the class of hi hung below lo, which gets the state s
 pub forest-link :
     (l : List ℕ) (lo hi s : ℕ) (root st : ℕ → ℕ) → Forest l root st → lo < hi → hi < length l → lo < 2048 → root lo ≡ lo → root hi ≡ hi → 2048 ≤ s →
@@ -204,12 +241,6 @@ forest-link l lo hi s root st f less b small at-lo at-hi big =
     lo-other : root lo ≢ hi
     lo-other e = omega arith
 
-    same-class : (y z : ℕ) → root y ≡ root z → relink root lo hi y ≡ relink root lo hi z
-    same-class y z e =
-        by-cases (ℕ-discrete (root z) hi)
-        (λ g. relink-moved root lo hi y (e ∙ g) ∙ sym (relink-moved root lo hi z g))
-        (λ d. relink-kept root lo hi y (λ g. d (sym e ∙ g)) ∙ (e ∙ sym (relink-kept root lo hi z d)))
-
     by : (y : ℕ) → y < length l →
         (getD (set (set l hi lo) lo s) y 0 < 2048 → getD (set (set l hi lo) lo s) y 0 < y) ×
         (getD (set (set l hi lo) lo s) y 0 < 2048 → relink root lo hi (getD (set (set l hi lo) lo s) y 0) ≡ relink root lo hi y)
@@ -230,7 +261,7 @@ forest-link l lo hi s root st f less b small at-lo at-hi big =
         (λ e.
         let g = cell-other y d e in (
           λ q. let t = f .less y c (omega arith) in omega arith,
-          λ q. ap (relink root lo hi) g ∙ same-class (getD l y 0) y (f .up y c (omega arith)),
+          λ q. ap (relink root lo hi) g ∙ relink-same root lo hi (getD l y 0) y (f .up y c (omega arith)),
         )))
 
     high : (y : ℕ) → y < length l → 2048 ≤ getD (set (set l hi lo) lo s) y 0 →

@@ -18,6 +18,10 @@ use Rattle.topology.proofs.Accepted.{Accepted, places-bound}
 use Rattle.topology.proofs.Nodes.{nodes-few}
 use Rattle.tree_laws.proofs.Beneath.{Low, beneath, low-at, beneath-number, beneath-joined, fork-father}
 
+-- two cases exchanged
+pub ⊎-swap : {A B : Type 0} → A ⊎ B → B ⊎ A
+⊎-swap e = ⊎-elim (λ a. inr a) (λ b. inl b) e
+
 -- the roots after the class of hi is hung below lo
 unfoldable pub relink : (ℕ → ℕ) → ℕ → ℕ → ℕ → ℕ
 relink root lo hi z = pick (eqb (root z) hi) lo (root z)
@@ -29,6 +33,12 @@ relink-moved root lo hi z e = ap (λ (b : Bool). pick b lo (root z)) (eq-eqb (ro
 pub relink-kept : (root : ℕ → ℕ) (lo hi z : ℕ) → root z ≢ hi → relink root lo hi z ≡ root z
 unfolding relink
 relink-kept root lo hi z d = ap (λ (b : Bool). pick b lo (root z)) (ne-eqb (root z) hi d)
+
+pub relink-same : (root : ℕ → ℕ) (lo hi y z : ℕ) → root y ≡ root z → relink root lo hi y ≡ relink root lo hi z
+relink-same root lo hi y z e =
+    by-cases (ℕ-discrete (root z) hi)
+    (λ g. relink-moved root lo hi y (e ∙ g) ∙ sym (relink-moved root lo hi z g))
+    (λ d. relink-kept root lo hi y (λ g. d (sym e ∙ g)) ∙ (e ∙ sym (relink-kept root lo hi z d)))
 
 -- the state s of a root c: no component beneath, one that goes down to a node, or several
 pub data State (p : Picture) (k : ℕ) (root : ℕ → ℕ) (c s : ℕ) : Type 0 where
@@ -72,6 +82,12 @@ pub data Merged (x a b s : ℕ) (fa fb : ℕ → ℕ) : Type 0 where
       a ≢ 65535 → b ≢ 65535 → s ≡ 65534 →
       ((i : ℕ) → i < 1600 → (a ≡ 2048 + i) ⊎ (b ≡ 2048 + i) → fb i ≡ x) →
       ((i : ℕ) → i < 1600 → a ≢ 2048 + i → b ≢ 2048 + i → fb i ≡ fa i) → Merged x a b s fa fb
+
+-- the two states exchanged
+pub merged-exchange : {x a b s : ℕ} {fa fb : ℕ → ℕ} → Merged x a b s fa fb → Merged x b a s fa fb
+merged-exchange (left e q f) = right e q f
+merged-exchange (right e q f) = left e q f
+merged-exchange (both da db q f g) = both db da q (λ i h e. f i h (⊎-swap e)) (λ i h d e. g i h e d)
 
 module _ (p : Picture) (k x : ℕ) (root : ℕ → ℕ) (e : Edges p k x root) where
   -- what is joined within the places passed is in one class

@@ -8,7 +8,7 @@ use native.Mathlib.Omega.{arith}
 use lib.ListN.{length, getD, set}
 use lib.Seq.{getD-set-same, getD-set-other}
 use Rattle.tree_laws.proofs.Levels.{Merged, left, right, both}
-use Rattle.tree_laws.proofs.Forests.{Block, block-same, block-then, block-set}
+use Rattle.tree_laws.proofs.Forests.{Hung, Block, block-same, block-then, block-set}
 
 -- a state: one of the two marks, or the name of a node below n
 pub record Names (n s : ℕ) : Type 0 where
@@ -26,31 +26,30 @@ pub record MergedIn (n x a b s : ℕ) (w v : List ℕ) : Type 0 where
   pub root : 2048 ≤ s
   pub merged : n ≤ 1600 → Merged x a b s (λ i. getD w (n + i) 0) (λ i. getD v (n + i) 0)
 
--- the class of hi hung below lo
-pub record LinkedIn (x lo hi : ℕ) (l m w v : List ℕ) : Type 0 where
+-- two roots linked at x; lo is the root that is left
+pub record LinkedIn (x q r : ℕ) (l m w v : List ℕ) (lo : ℕ) : Type 0 where
   pub state : ℕ
   pub root : 2048 ≤ state
   pub block : Block (length l) (length l) w v
-  pub cells : m ≡ set (set l hi lo) lo state
+  pub hung : Hung q r state l m lo
   pub merged :
-      (n : ℕ) → n ≡ length l → Merged x (getD l lo 0) (getD l hi 0) state (λ i. getD w (n + i) 0) (λ i. getD v (n + i) 0)
+      (n : ℕ) → n ≡ length l → Merged x (getD l q 0) (getD l r 0) state (λ i. getD w (n + i) 0) (λ i. getD v (n + i) 0)
 
 pub mark-none : (n s x : ℕ) (w : List ℕ) → 65534 ≤ s → Marked n s x w w
 mark-none n s x w h =
     record { block = block-same n n w; hit = λ i b e g. absurd (omega arith); miss = λ i d. refl }
 
-pub mark-some : (n s x t : ℕ) (w : List ℕ) → t ≡ s → Names n s → s < 65534 → 2 * n ≤ length w → Marked n s x w (set w (n + (t - 2048)) x)
+pub mark-some : (n s x t : ℕ) (w : List ℕ) → t ≡ s - 2048 → Names n s → s < 65534 → 2 * n ≤ length w → Marked n s x w (set w (n + t) x)
 mark-some n s x t w e h b room =
     let r = h .root in
     let q = h .node b in
     record {
-      block = block-set n n w (t - 2048) x (omega arith);
+      block = block-set n n w t x (omega arith);
       hit =
           λ i c g k.
-          let at : n + i ≡ n + (t - 2048) = omega arith in
-          ap (λ (j : ℕ). getD (set w (n + (t - 2048)) x) j 0) at ∙
-          getD-set-same w (n + (t - 2048)) x 0 (omega arith);
-      miss = λ i d. getD-set-other w (n + (t - 2048)) (n + i) x 0 (λ g. d (omega arith));
+          let at : n + i ≡ n + t = omega arith in
+          ap (λ (j : ℕ). getD (set w (n + t) x) j 0) at ∙ getD-set-same w (n + t) x 0 (omega arith);
+      miss = λ i d. getD-set-other w (n + t) (n + i) x 0 (λ g. d (omega arith));
     }
 
 pub merge-left : (n x a b : ℕ) (w : List ℕ) → Names n b → a ≡ 65535 → MergedIn n x a b b w w
@@ -81,16 +80,16 @@ merge-both n x a b w u v ha hb da db p q =
     }
 
 pub link-in :
-    (x lo hi s : ℕ) (l w v : List ℕ) → length l ≤ 1600 → MergedIn (length l) x (getD l lo 0) (getD l hi 0) s w v →
-    LinkedIn x lo hi l (set (set l hi lo) lo s) w v
-link-in x lo hi s l w v few m =
+    (x q r s lo : ℕ) (l o w v : List ℕ) → length l ≤ 1600 → MergedIn (length l) x (getD l q 0) (getD l r 0) s w v → Hung q r s l o lo →
+    LinkedIn x q r l o w v lo
+link-in x q r s lo l o w v few m h =
     record {
       state = s;
       root = m .root;
       block = m .block;
-      cells = refl;
+      hung = h;
       merged =
           λ n e.
-          subst (λ (b : ℕ). Merged x (getD l lo 0) (getD l hi 0) s (λ i. getD w (b + i) 0) (λ i. getD v (b + i) 0)) (sym e)
+          subst (λ (b : ℕ). Merged x (getD l q 0) (getD l r 0) s (λ i. getD w (b + i) 0) (λ i. getD v (b + i) 0)) (sym e)
           (m .merged few);
     }

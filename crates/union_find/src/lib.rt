@@ -1,12 +1,24 @@
-// Union-find in cells: a cell below 2048 is a parent, a smaller place; a greater one marks a root with its state:
-// 65535 no lower place, 65534 several nodes beneath, 65533 listed, 2048 + i the node i.
+// Union-find in cells: a cell below NODES is a parent, a smaller place; a greater one marks a root with its state.
 use cells::value;
 use cells::wide;
+ghost use mathlib.Core.Logic.{_≢_};
 ghost use Prim.Native.Nat.{_<_, _≤_, _+_, _*_};
 ghost use lib.ListN.{length, getD};
 ghost use Rattle.tree_laws.proofs.Chains.{Comes};
-ghost use Rattle.tree_laws.proofs.Forests.{Parents, Split, Found};
+ghost use Rattle.tree_laws.proofs.Forests.{Parents, Split, Found, Hung};
 ghost use Rattle.tree_laws.proofs.Marks.{Marked, Names, MergedIn, LinkedIn};
+
+// The states of a root: NODES + i where one node i is beneath, and three marks. The laws write the numbers.
+pub const NODES: u16 = 2048;
+
+// The root of a new node, in the list of its height.
+pub const LISTED: u16 = 65533;
+
+// Several nodes are beneath.
+pub const SEVERAL: u16 = 65534;
+
+// No lower place is beneath; also the father of the last node, and the place where a value has none.
+pub const NONE: u16 = 65535;
 
 // The parent of a place; its cell gets the grandparent.
 fn split(cells: &mut [u16], x: usize) -> usize
@@ -15,7 +27,7 @@ fn split(cells: &mut [u16], x: usize) -> usize
 {
     let up = wide(cells[x]);
     let above = cells[up];
-    if above < 2048 {
+    if above < NODES {
         cells[x] = above;
         return up;
     }
@@ -28,7 +40,7 @@ pub fn find(cells: &mut [u16], x: usize) -> usize
     ensures { λ r. ⌜ Found (now (cells .entry)) x r (now (cells .exit)) ⌝ }
 {
     let mut i = x;
-    while cells[i] < 2048 {
+    while cells[i] < NODES {
         i = split(cells, i);
     }
     i
@@ -39,8 +51,8 @@ fn mark(work: &mut [u16], n: usize, state: u16, x: usize)
     requires { ⌜ Names n state × (2 * n ≤ length (now work)) × (x < 1600) ⌝ }
     ensures { λ _. ⌜ Marked n state x (now (work .entry)) (now (work .exit)) ⌝ }
 {
-    if state < 65534 {
-        work[n + (wide(state) - 2048)] = x as u16;
+    if state < SEVERAL {
+        work[n + wide(state - NODES)] = x as u16;
     }
 }
 
@@ -49,28 +61,42 @@ fn merge(work: &mut [u16], n: usize, a: u16, b: u16, x: usize) -> u16
     requires { ⌜ Names n a × Names n b × (2 * n ≤ length (now work)) × (x < 1600) ⌝ }
     ensures { λ r. ⌜ MergedIn n x a b r (now (work .entry)) (now (work .exit)) ⌝ }
 {
-    if a == 65535 {
+    if a == NONE {
         return b;
     }
-    if b == 65535 {
+    if b == NONE {
         return a;
     }
     mark(work, n, a, x);
     mark(work, n, b, x);
-    65534
+    SEVERAL
 }
 
-// Hangs the root hi below the root lo, at the pixel x.
-pub fn join(work: &mut [u16], cells: &mut [u16], lo: usize, hi: usize, x: usize)
-    requires { ⌜ (lo < hi) × (hi < length (now cells)) × (length (now cells) ≤ 1600) × (x < 1600) ⌝ }
-    requires { ⌜ Names (length (now cells)) (getD (now cells) lo 0) × Names (length (now cells)) (getD (now cells) hi 0) ⌝ }
+// Hangs the greater of two roots below the smaller, which gets the state, and answers the smaller.
+pub fn hang(cells: &mut [u16], q: usize, r: usize, state: u16) -> usize
+    requires { ⌜ (q ≢ r) × (q < length (now cells)) × (r < length (now cells)) × (length (now cells) ≤ 1600) ⌝ }
+    ensures { λ lo. ⌜ Hung q r state (now (cells .entry)) (now (cells .exit)) lo ⌝ }
+{
+    if q < r {
+        cells[r] = q as u16;
+        cells[q] = state;
+        return q;
+    }
+    cells[q] = r as u16;
+    cells[r] = state;
+    r
+}
+
+// Links two roots at the pixel x, and answers the root that is left.
+pub fn join(work: &mut [u16], cells: &mut [u16], q: usize, r: usize, x: usize) -> usize
+    requires { ⌜ (q ≢ r) × (q < length (now cells)) × (r < length (now cells)) × (length (now cells) ≤ 1600) × (x < 1600) ⌝ }
+    requires { ⌜ Names (length (now cells)) (getD (now cells) q 0) × Names (length (now cells)) (getD (now cells) r 0) ⌝ }
     requires { ⌜ 2 * length (now cells) ≤ length (now work) ⌝ }
-    ensures { λ _. ⌜ LinkedIn x lo hi (now (cells .entry)) (now (cells .exit)) (now (work .entry)) (now (work .exit)) ⌝ }
+    ensures { λ lo. ⌜ LinkedIn x q r (now (cells .entry)) (now (cells .exit)) (now (work .entry)) (now (work .exit)) lo ⌝ }
 {
     let n = cells.len();
-    let state = merge(work, n, cells[lo], cells[hi], x);
-    cells[hi] = lo as u16;
-    cells[lo] = state;
+    let state = merge(work, n, cells[q], cells[r], x);
+    hang(cells, q, r, state)
 }
 
 // The place y comes before the place x of value k: by value, then by place.

@@ -1,15 +1,16 @@
 -- A height of the check, all heights, and their start.
-use mathlib.Core.Path.{_≡_, refl, sym, ap, subst, _∙_}
+use mathlib.Core.Path.{_≡_, refl, sym, subst, _∙_}
 use mathlib.Core.Bool.{Bool, true, false}
 use mathlib.Core.Logic.{inl, by-cases, _≢_}
 use mathlib.Core.List.{List}
 use Prim.Native.Nat.{ℕ, _+_, _-_, _≤_, _<_}
 use native.Mathlib.Nat.{mul-pos}
 use native.Mathlib.Numerals.{add-one}
-use native.Mathlib.Decide.{ℕ-discrete, decLt}
+use native.Mathlib.Decide.{decLt}
 use native.Mathlib.Omega.{arith}
-use lib.ListN.{length, getD, set, length-set}
-use lib.Seq.{getD-set-same, getD-set-other}
+use lib.ListN.{length, getD}
+use Rattle.cells.specs.Blocks.{Filled}
+use Rattle.cells.proofs.Blocks.{filled-entry}
 use Rattle.picture.specs.Pictures.{Picture, places, isPicture}
 use Rattle.lists.proofs.Tests.{clash}
 use Rattle.topology.proofs.Accepted.{accepted-is, byte-at, places-bound}
@@ -22,28 +23,16 @@ use Rattle.tree_laws.proofs.Checks.{Checking}
 use Rattle.tree_laws.proofs.Looks.{Passed}
 use Rattle.verify.specs.Checked.{Says}
 use Rattle.verify_nodes.specs.Steps.{Run, Counted, Matched, CountReady, NodesChecked, MapReady, MapChecked, Verified}
-use Rattle.verify.specs.Heights.{Sizes, LevelChecked, Fresh}
+use Rattle.verify.specs.Heights.{Sizes, LevelChecked}
 use Rattle.verify_nodes.proofs.Counted.{counted-start}
 use Rattle.verify_nodes.proofs.Matched.{matched-start}
 use Rattle.verify.proofs.Verified.{differs-tree, verified-next, verified-tree, tree-ends}
 
-pub fresh-start : (l : List ℕ) → Fresh 0 l l
-fresh-start l = record { size = refl; cell = λ j h. absurd (omega arith) }
-
-pub fresh-turn : (i : ℕ) (o l : List ℕ) → Fresh i o l → i < length l → Fresh (i + 1) o (set l i 65535)
-fresh-turn i o l s b =
-    record {
-      size = length-set l i 65535 ∙ s .size;
-      cell =
-          λ j h.
-          by-cases (ℕ-discrete j i)
-          (λ e. ap (λ (z : ℕ). getD (set l i 65535) z 0) e ∙ getD-set-same l i 65535 0 b)
-          (λ e. getD-set-other l i j 65535 0 e ∙ s .cell j (omega arith));
-    }
-
 module _ (p : Picture) (count : ℕ) (hs fs ss m : List ℕ) where
-  pub verified-start : (i : ℕ) (o l : List ℕ) → isPicture p ≡ true → length o ≡ places p → Fresh i o l → length l ≤ i → Verified p 0 0 count l hs fs ss m
-  verified-start i o l ok size f b =
+  pub verified-start : (n : ℕ) (o l : List ℕ) → isPicture p ≡ true → length o ≡ places p → Filled 0 n 65535 o l → n ≡ places p → Verified p 0 0 count l hs fs ss m
+  verified-start n o l ok size f e =
+      let same = f .kept .size in
+      let none = filled-entry f in
       record {
         checking =
             record {
@@ -53,14 +42,14 @@ module _ (p : Picture) (count : ℕ) (hs fs ss m : List ℕ) where
                   record {
                     root = λ y. y;
                     st = λ y. 65535;
-                    size = f .size ∙ size;
+                    size = same ∙ size;
                     forest =
                         record {
                           below = λ y c. omega arith;
-                          less = λ y c h. absurd (let e = f .cell y (omega arith) in omega arith);
-                          up = λ y c h. absurd (let e = f .cell y (omega arith) in omega arith);
+                          less = λ y c h. absurd (let a = none y (omega arith) in omega arith);
+                          up = λ y c h. absurd (let a = none y (omega arith) in omega arith);
                           top = λ y c h. refl;
-                          state = λ y c h. f .cell y (omega arith);
+                          state = λ y c h. none y (omega arith);
                         };
                     level = subst (λ (c : ℕ). Level p 0 c (λ y. y) (λ y. 65535) (λ j. 65535)) (sym (so-none p)) (level-start p (λ j. 65535));
                     edges = edges-start p (λ y. y);

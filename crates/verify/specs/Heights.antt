@@ -1,8 +1,7 @@
 -- What the heights of the check ask and leave.
-use mathlib.Core.Path.{_≡_}
 use mathlib.Core.List.{List}
 use Prim.Native.Nat.{ℕ, _+_, _≤_, _<_}
-use lib.ListN.{length, getD}
+use lib.ListN.{length}
 use Rattle.picture.specs.Pictures.{Picture}
 use Rattle.lent_tree.specs.Lent.{HoldsTree}
 use Rattle.verify_nodes.specs.Steps.{Verified}
@@ -21,8 +20,3 @@ pub record Sizes (n : ℕ) (xs hs fs ss m l : List ℕ) : Type 0 where
 pub record LevelChecked (p : Picture) (k count : ℕ) (l hs fs ss m : List ℕ) (d : ℕ) : Type 0 where
   pub yes : d ≤ count → Verified p (k + 1) d count l hs fs ss m
   pub never : count < d → HoldsTree p count hs fs ss m → ⊥
-
--- the first i cells are 65535
-pub record Fresh (i : ℕ) (o l : List ℕ) : Type 0 where
-  pub size : length l ≡ length o
-  pub cell : (j : ℕ) → j < i → getD l j 0 ≡ 65535

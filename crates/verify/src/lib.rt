@@ -1,4 +1,5 @@
 // A lent tree is the tree of a picture: the heights one after the other, with n cells for the union-find.
+use union_find::NONE;
 use verify_nodes::check_map;
 use verify_nodes::check_nodes;
 use verify_nodes::run_end;
@@ -10,18 +11,7 @@ ghost use lib.ListN.{length, drop};
 ghost use Rattle.picture.specs.Pictures.{isPicture, pictureOf};
 ghost use Rattle.verify.specs.Checked.{Says};
 ghost use Rattle.verify_nodes.specs.Steps.{Verified};
-ghost use Rattle.verify.specs.Heights.{Sizes, LevelChecked, Fresh};
-
-// The cells become 65535: every place is alone.
-fn fresh(cells: &mut [u16])
-    ensures { λ _. ⌜ Fresh (length (now (cells .entry))) (now (cells .entry)) (now (cells .exit)) ⌝ }
-{
-    let mut i = 0;
-    while i < cells.len() {
-        cells[i] = 65535;
-        i += 1;
-    }
-}
+ghost use Rattle.verify.specs.Heights.{Sizes, LevelChecked};
 
 // The height k: answers the number of nodes up to it, or more than the count if the lists are not the tree.
 fn check_level(
@@ -124,13 +114,13 @@ pub fn is_tree(
         return false;
     }
     let part = &mut cells[..n];
-    fresh(part);
+    cells::fill(part, 0, n, NONE);
     let c = check_levels(a, w, h, pixels, count, heights, fathers, firsts, map, part);
     if c != count {
         return false;
     }
     let last = fathers[count - 1];
-    if last != 65535 {
+    if last != NONE {
         return false;
     }
     true

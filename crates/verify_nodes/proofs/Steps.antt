@@ -141,12 +141,13 @@ module _ (pixels : List ℕ) (k x v : ℕ) (l m : List ℕ) (b : x < length l) (
     value-of : (p : Picture) → p .pixels ≡ pixels → valueAt p x ≡ k
     value-of p g = ap (λ (u : List ℕ). getD u x 0) g ∙ (sym e ∙ same)
 
-    pub map-yes : (t n : ℕ) → t ≡ getD o r 0 → n ≡ getD m x 0 → t ≡ 2048 + n → getD o r 0 < 65534 → MapChecked pixels k x (x + 1) l m o true
-    map-yes t n et en q h =
+    pub map-yes : getD o r 0 - 2048 ≡ getD m x 0 → getD o r 0 < 65534 → MapChecked pixels k x (x + 1) l m o true
+    map-yes q h =
         record {
           yes =
               λ z p c d fs ss g s.
               let size = s .counted .size in
+              let top = f .top in
               matched-turn p k c d x r l o fs ss m s f (omega arith) (value-of p g) h (omega arith);
           never = λ z. absurd (clash refl z);
         }
@@ -168,8 +169,8 @@ module _ (pixels : List ℕ) (k x v : ℕ) (l m : List ℕ) (b : x < length l) (
           never = λ z p c d fs ss g s count hs run tree. let a = tree-cell p c d fs ss g s count hs run tree in let i = a .0 in let j = a .1 in omega arith;
         }
 
-    pub map-differs : (t n : ℕ) → t ≡ getD o r 0 → n ≡ getD m x 0 → (t ≡ 2048 + n → ⊥) → MapChecked pixels k x (x + 1) l m o false
-    map-differs t n et en d =
+    pub map-differs : (getD o r 0 - 2048 ≡ getD m x 0 → ⊥) → MapChecked pixels k x (x + 1) l m o false
+    map-differs d =
         record {
           yes = λ z. absurd (clash z refl);
           never = λ z p c d′ fs ss g s count hs run tree. let a = tree-cell p c d′ fs ss g s count hs run tree .0 in d (omega arith);

@@ -1,6 +1,8 @@
 // The lent nodes of one height against the new roots, and the lent map against their numbers.
 use cells::value;
 use cells::wide;
+use union_find::NODES;
+use union_find::SEVERAL;
 use union_find::find;
 ghost use Prim.Native.Nat.{_<_, _≤_, _+_};
 ghost use lib.ListN.{length};
@@ -34,7 +36,7 @@ fn node_fits(pixels: &[u8], firsts: &[u16], cells: &[u16], k: usize, c: usize, i
     if k < value(pixels[f]) {
         return false;
     }
-    if cells[f] < 65534 {
+    if cells[f] < SEVERAL {
         return false;
     }
     if i <= c {
@@ -64,7 +66,7 @@ pub fn check_nodes(
         if !node_fits(pixels, firsts, cells, k, c, i) {
             return false;
         }
-        cells[wide(firsts[i])] = (2048 + i) as u16;
+        cells[wide(firsts[i])] = NODES + i as u16;
         i += 1;
     }
     true
@@ -81,11 +83,10 @@ fn check_map_one(pixels: &[u8], map: &[u16], cells: &mut [u16], k: usize, x: usi
     }
     let r = find(cells, x);
     let state = cells[r];
-    if 65534 <= state {
+    if SEVERAL <= state {
         return false;
     }
-    let node = wide(map[x]);
-    if wide(state) != 2048 + node {
+    if state - NODES != map[x] {
         return false;
     }
     true

@@ -1,11 +1,15 @@
 // The pixels of one height join the classes; at each link the lent fathers are compared.
 use cells::value;
 use cells::wide;
+use union_find::NODES;
+use union_find::NONE;
+use union_find::SEVERAL;
 use union_find::comes_before;
 use union_find::find;
-ghost use mathlib.Core.Path.{_≡_};
+use union_find::hang;
+ghost use mathlib.Core.Logic.{_≢_};
 ghost use Prim.Native.Nat.{_<_, _≤_, _+_, _*_};
-ghost use lib.ListN.{length, getD, set};
+ghost use lib.ListN.{length, getD};
 ghost use Rattle.tree_laws.proofs.Marks.{Names};
 ghost use Rattle.tree_laws.proofs.Checks.{Agrees, Joint, LookReady, Looked, Checking};
 ghost use Rattle.tree_laws.proofs.Looks.{Passed};
@@ -16,8 +20,8 @@ fn agrees(fathers: &[u16], map: &[u16], state: u16, x: usize) -> bool
     requires { ⌜ Names (length (now fathers)) state × (x < length (now map)) ⌝ }
     ensures { λ r. ⌜ Agrees state x (now (fathers .entry)) (now (map .entry)) r ⌝ }
 {
-    if state < 65534 {
-        let father = fathers[wide(state) - 2048];
+    if state < SEVERAL {
+        let father = fathers[wide(state - NODES)];
         let node = map[x];
         if father == node {
             return true;
@@ -27,47 +31,35 @@ fn agrees(fathers: &[u16], map: &[u16], state: u16, x: usize) -> bool
     true
 }
 
-// Hangs the root hi below the root lo, which gets the state.
-fn hang(cells: &mut [u16], lo: usize, hi: usize, state: u16)
-    requires { ⌜ (lo < hi) × (hi < length (now cells)) × (length (now cells) ≤ 1600) ⌝ }
-    ensures { λ _. ⌜ now (cells .exit) ≡ set (set (now (cells .entry)) hi lo) lo state ⌝ }
-{
-    cells[hi] = lo as u16;
-    cells[lo] = state;
-}
-
-// Links two roots at the pixel x, unless a lent father differs.
+// Links two roots at the pixel x: answers the root that is left, or the number of cells if a lent father differs.
 fn check_join(
     fathers: &[u16],
     map: &[u16],
     cells: &mut [u16],
-    lo: usize,
-    hi: usize,
+    q: usize,
+    r: usize,
     x: usize,
-) -> bool
-    requires { ⌜ (lo < hi) × (hi < length (now cells)) × (length (now cells) ≤ 1600) × (x < length (now cells)) ⌝ }
-    requires { ⌜ Names (length (now cells)) (getD (now cells) lo 0) × Names (length (now cells)) (getD (now cells) hi 0) ⌝ }
+) -> usize
+    requires { ⌜ (q ≢ r) × (q < length (now cells)) × (r < length (now cells)) × (length (now cells) ≤ 1600) × (x < length (now cells)) ⌝ }
+    requires { ⌜ Names (length (now cells)) (getD (now cells) q 0) × Names (length (now cells)) (getD (now cells) r 0) ⌝ }
     requires { ⌜ (length (now cells) ≤ length (now fathers)) × (length (now cells) ≤ length (now map)) ⌝ }
-    ensures { λ r. ⌜ Joint x lo hi (now (cells .entry)) (now (fathers .entry)) (now (map .entry)) (now (cells .exit)) r ⌝ }
+    ensures { λ z. ⌜ Joint x q r (now (cells .entry)) (now (fathers .entry)) (now (map .entry)) (now (cells .exit)) z ⌝ }
 {
-    let a = cells[lo];
-    let b = cells[hi];
-    if a == 65535 {
-        hang(cells, lo, hi, b);
-        return true;
+    let a = cells[q];
+    let b = cells[r];
+    if a == NONE {
+        return hang(cells, q, r, b);
     }
-    if b == 65535 {
-        hang(cells, lo, hi, a);
-        return true;
+    if b == NONE {
+        return hang(cells, q, r, a);
     }
     if !agrees(fathers, map, a, x) {
-        return false;
+        return cells.len();
     }
     if !agrees(fathers, map, b, x) {
-        return false;
+        return cells.len();
     }
-    hang(cells, lo, hi, 65534);
-    true
+    hang(cells, q, r, SEVERAL)
 }
 
 // Joins the place x, whose root is r, to its neighbour y if y comes before x: answers the root, or the number of cells if a lent father differs.
@@ -92,16 +84,7 @@ fn check_edge(
     if q == r {
         return r;
     }
-    if q < r {
-        if check_join(fathers, map, cells, q, r, x) {
-            return q;
-        }
-        return cells.len();
-    }
-    if check_join(fathers, map, cells, r, q, x) {
-        return r;
-    }
-    cells.len()
+    check_join(fathers, map, cells, q, r, x)
 }
 
 // Joins the place x, if it has the value k, to its neighbours that come before it, unless a lent father differs.

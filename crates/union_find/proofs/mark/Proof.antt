@@ -8,11 +8,11 @@ use Rattle.union_find.proofs.mark.Tie as tie
 cast-work : tie.Need-cast-work
 cast-work c = search needs
 
+sub-wide : tie.Need-sub-wide
+sub-wide c = omega (arith, c .before .before .pre .0 .root)
+
 wide-requires : tie.Need-wide-requires
 wide-requires c κs = search needs
-
-sub-work : tie.Need-sub-work
-sub-work c = search needs
 
 add-work : tie.Need-add-work
 add-work c = search needs
@@ -39,8 +39,8 @@ mark-spec =
     tie.close
     (tie.spec
     cast-work
+    sub-wide
     wide-requires
-    sub-work
     add-work
     mul-work
     slice-write-work

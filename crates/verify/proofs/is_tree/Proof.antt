@@ -6,7 +6,7 @@ use lib.Seq.{length-take-le, drop-at}
 use mathlib.Core.Path.{_≡_, refl, sym, _∙_}
 use mathlib.Core.List.{List, _++_}
 use native.Mathlib.Omega.{arith}
-use Prim.Native.Nat.{ℕ, _≤_}
+use Prim.Native.Nat.{ℕ, _+_, _≤_}
 use borrow.Author.Needs.{needs}
 use Rattle.verify.proofs.is_tree.Statement.{statement}
 use Rattle.verify.proofs.is_tree.Tie as tie
@@ -16,6 +16,9 @@ behind-kept :
     (n : ℕ) {k : ℕ} (cells last : List ℕ) → n ≤ length cells → length last ≡ k → k ≡ length (take n cells) →
     drop n (last ++ drop n cells) ≡ drop n cells
 behind-kept n cells last h a b = drop-at last _ n (a ∙ (b ∙ length-take-le n cells h))
+
+front-room : (n : ℕ) (cells : List ℕ) → n ≤ length cells → 0 + n ≤ length (take n cells)
+front-room n cells h = omega (arith, length-take-le n cells h)
 
 mul-n : tie.Need-mul-n
 mul-n c = search needs
@@ -34,17 +37,17 @@ slice-relend-prefix-part c = search needs
 slice-aggregate-part : tie.Need-slice-aggregate-part
 slice-aggregate-part c = sym (length-take-le _ _ (c .before .before .before .before .before .before .before .before .before .pre .1 .0))
 
-fresh-requires : tie.Need-fresh-requires
-fresh-requires c κs = search needs
+fill-requires : tie.Need-fill-requires
+fill-requires c κs = front-room _ _ (c .before .before .before .before .before .before .before .before .before .before .pre .1 .0)
 
 check-levels-requires : tie.Need-check-levels-requires
 check-levels-requires c κs =
     let s = c .before .before .before .before .before .before .before .before .before .before .before .before .before in
-    let f = c .before .before .fresh .ensures in
+    let f = c .before .before .fill .ensures in
     let e = length-take-le _ _ (s .pre .1 .0) in (
-      verified-start _ _ _ _ _ _ _ _ _ (s .pre .0) e f (omega (arith, f .size)),
-      sizes-of (pictureOf (s .args .a) (s .args .w) (s .args .h) (s .args .pixels .now)) _ _ _ _ _ _ (s .pre .0) (f .size ∙ e)
-          (omega (arith, f .size, e, c .before .before .before .before .before .if2 .left)) (s .pre .1 .1) (s .pre .1 .2) (s .pre .1 .3) (s .pre .1 .4),
+      verified-start _ _ _ _ _ _ _ _ _ (s .pre .0) e f refl,
+      sizes-of (pictureOf (s .args .a) (s .args .w) (s .args .h) (s .args .pixels .now)) _ _ _ _ _ _ (s .pre .0) (f .kept .size ∙ e)
+          (omega (arith, f .kept .size, e, c .before .before .before .before .before .if2 .left)) (s .pre .1 .1) (s .pre .1 .2) (s .pre .1 .3) (s .pre .1 .4),
     )
 
 same-length : tie.Need-same-length
@@ -53,7 +56,7 @@ same-length c = search needs
 returns-3 : tie.Need-returns-3
 returns-3 c =
     let t = c .before .before .before .check-levels in
-    let kept = behind-kept _ _ (t .last .1 .1 .1 .1 .1 .1 .1 .1 .1 .0) (c .before .before .before .before .before .before .before .before .before .before .before .before .before .before .before .before .before .pre .1 .0) (t .kept .1 .1 .1 .1 .1 .1 .1 .1 .1 .0) (c .before .before .before .before .before .before .fresh .ensures .size) in
+    let kept = behind-kept _ _ (t .last .1 .1 .1 .1 .1 .1 .1 .1 .1 .0) (c .before .before .before .before .before .before .before .before .before .before .before .before .before .before .before .before .before .pre .1 .0) (t .kept .1 .1 .1 .1 .1 .1 .1 .1 .1 .0) (c .before .before .before .before .before .before .fill .ensures .kept .size) in
     (says-count _ _ _ _ _ _ _ _ (t .ensures) (c .if3 .taken), kept)
 
 sub-last : tie.Need-sub-last
@@ -71,7 +74,7 @@ same-length-2 c = search needs
 returns-4 : tie.Need-returns-4
 returns-4 c =
     let t = c .before .before .before .before .before .check-levels in
-    let kept = behind-kept _ _ (t .last .1 .1 .1 .1 .1 .1 .1 .1 .1 .0) (c .before .before .before .before .before .before .before .before .before .before .before .before .before .before .before .before .before .before .before .pre .1 .0) (t .kept .1 .1 .1 .1 .1 .1 .1 .1 .1 .0) (c .before .before .before .before .before .before .before .before .fresh .ensures .size) in
+    let kept = behind-kept _ _ (t .last .1 .1 .1 .1 .1 .1 .1 .1 .1 .0) (c .before .before .before .before .before .before .before .before .before .before .before .before .before .before .before .before .before .before .before .pre .1 .0) (t .kept .1 .1 .1 .1 .1 .1 .1 .1 .1 .0) (c .before .before .before .before .before .before .before .before .fill .ensures .kept .size) in
     (says-father _ _ _ _ _ _ _ _ (t .ensures) (c .before .before .if3 .left) (c .if4 .taken), kept)
 
 same-length-3 : tie.Need-same-length-3
@@ -80,7 +83,7 @@ same-length-3 c = search needs
 returns-5 : tie.Need-returns-5
 returns-5 c =
     let t = c .before .before .before .before .before .check-levels in
-    let kept = behind-kept _ _ (t .last .1 .1 .1 .1 .1 .1 .1 .1 .1 .0) (c .before .before .before .before .before .before .before .before .before .before .before .before .before .before .before .before .before .before .before .pre .1 .0) (t .kept .1 .1 .1 .1 .1 .1 .1 .1 .1 .0) (c .before .before .before .before .before .before .before .before .fresh .ensures .size) in
+    let kept = behind-kept _ _ (t .last .1 .1 .1 .1 .1 .1 .1 .1 .1 .0) (c .before .before .before .before .before .before .before .before .before .before .before .before .before .before .before .before .before .before .before .pre .1 .0) (t .kept .1 .1 .1 .1 .1 .1 .1 .1 .1 .0) (c .before .before .before .before .before .before .before .before .fill .ensures .kept .size) in
     (says-tree _ _ _ _ _ _ _ _ (t .ensures) (c .before .before .if3 .left) (c .if4 .left), kept)
 
 pub is-tree-spec : {M : Type 1} → statement M
@@ -92,7 +95,7 @@ is-tree-spec =
     returns-2
     slice-relend-prefix-part
     slice-aggregate-part
-    fresh-requires
+    fill-requires
     check-levels-requires
     same-length
     returns-3

@@ -1,6 +1,5 @@
 -- `verify_nodes::check_map_one` meets its contract.
 use Rattle.verify_nodes.proofs.Steps.{map-other, map-yes, map-free, map-differs}
-use native.Mathlib.Omega.{arith}
 use borrow.Author.Needs.{needs}
 use Rattle.verify_nodes.proofs.check_map_one.Statement.{statement}
 use Rattle.verify_nodes.proofs.check_map_one.Tie as tie
@@ -29,32 +28,26 @@ same-length c = search needs
 returns-2 : tie.Need-returns-2
 returns-2 c = map-free _ _ _ _ _ _ (c .before .before .before .before .before .before .before .before .before .before .before .before .pre .1) (c .before .before .before .before .before .before .before .value .ensures) _ _ (c .before .before .before .before .find .ensures) (c .before .before .before .before .before .before .if1 .left) (c .if2 .taken)
 
-mul-wide : tie.Need-mul-wide
-mul-wide c = search needs
+sub-if3 : tie.Need-sub-if3
+sub-if3 c = search needs
 
-shared-slice-read-wide : tie.Need-shared-slice-read-wide
-shared-slice-read-wide c = search needs
+mul-if3 : tie.Need-mul-if3
+mul-if3 c = search needs
 
-wide-requires : tie.Need-wide-requires
-wide-requires c κs = search needs
-
-wide-requires-2 : tie.Need-wide-requires-2
-wide-requires-2 c κs = search needs
-
-add-if3 : tie.Need-add-if3
-add-if3 c = omega (arith, c .before .wide .ensures, c .before .before .shared-slice-known4 .given (c .before .before .before .before .before .before .before .before .before .before .before .before .before .before .before .args .x))
+shared-slice-read-if3 : tie.Need-shared-slice-read-if3
+shared-slice-read-if3 c = search needs
 
 same-length-2 : tie.Need-same-length-2
 same-length-2 c = search needs
 
 returns-3 : tie.Need-returns-3
-returns-3 c = map-differs _ _ _ _ _ _ (c .before .before .before .before .before .before .before .before .before .before .before .before .before .before .before .before .pre .1) (c .before .before .before .before .before .before .before .before .before .before .before .value .ensures) _ _ (c .before .before .before .before .before .before .before .before .find .ensures) (c .before .before .before .before .before .before .before .before .before .before .if1 .left) _ _ (c .before .wide2 .ensures) (c .before .before .wide .ensures) (c .if3 .taken)
+returns-3 c = map-differs _ _ _ _ _ _ (c .before .before .before .before .before .before .before .before .before .before .before .before .before .before .pre .1) (c .before .before .before .before .before .before .before .before .before .value .ensures) _ _ (c .before .before .before .before .before .before .find .ensures) (c .before .before .before .before .before .before .before .before .if1 .left) (c .if3 .taken)
 
 same-length-3 : tie.Need-same-length-3
 same-length-3 c = search needs
 
 returns-4 : tie.Need-returns-4
-returns-4 c = map-yes _ _ _ _ _ _ (c .before .before .before .before .before .before .before .before .before .before .before .before .before .before .before .before .pre .1) (c .before .before .before .before .before .before .before .before .before .before .before .value .ensures) _ _ (c .before .before .before .before .before .before .before .before .find .ensures) (c .before .before .before .before .before .before .before .before .before .before .if1 .left) _ _ (c .before .wide2 .ensures) (c .before .before .wide .ensures) (c .if3 .left) (c .before .before .before .before .if2 .left)
+returns-4 c = map-yes _ _ _ _ _ _ (c .before .before .before .before .before .before .before .before .before .before .before .before .before .before .pre .1) (c .before .before .before .before .before .before .before .before .before .value .ensures) _ _ (c .before .before .before .before .before .before .find .ensures) (c .before .before .before .before .before .before .before .before .if1 .left) (c .if3 .left) (c .before .before .if2 .left)
 
 pub check-map-one-spec : {M : Type 1} → statement M
 check-map-one-spec =
@@ -68,11 +61,9 @@ check-map-one-spec =
     slice-read-state
     same-length
     returns-2
-    mul-wide
-    shared-slice-read-wide
-    wide-requires
-    wide-requires-2
-    add-if3
+    sub-if3
+    mul-if3
+    shared-slice-read-if3
     same-length-2
     returns-3
     same-length-3

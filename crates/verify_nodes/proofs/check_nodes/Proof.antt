@@ -29,11 +29,11 @@ returns : tie.Need-returns Inv-loop μ-loop
 returns c = let t = c .before .node-fits in
     counting-fails _ _ _ _ _ _ _ _ _ (c .before .before .before .before .loop .inv .0) (c .before .before .before .loop-test .taken) (fit-is (not-true (t .result) (c .if1 .taken)) (t .ensures))
 
-add-cells : tie.Need-add-cells Inv-loop μ-loop
-add-cells c = search needs
-
 cast-cells : tie.Need-cast-cells Inv-loop μ-loop
 cast-cells c = search needs
+
+add-cells : tie.Need-add-cells Inv-loop μ-loop
+add-cells c = search needs
 
 mul-wide : tie.Need-mul-wide Inv-loop μ-loop
 mul-wide c = search needs
@@ -83,8 +83,8 @@ check-nodes-spec =
     node-fits-requires
     same-length
     returns
-    add-cells
     cast-cells
+    add-cells
     mul-wide
     shared-slice-read-wide
     wide-requires

@@ -5,11 +5,11 @@ use borrow.Author.Needs.{needs}
 use Rattle.verify_pixels.proofs.agrees.Statement.{statement}
 use Rattle.verify_pixels.proofs.agrees.Tie as tie
 
+sub-wide : tie.Need-sub-wide
+sub-wide c = omega (arith, c .before .before .before .pre .0 .root)
+
 wide-requires : tie.Need-wide-requires
 wide-requires c κs = search needs
-
-sub-father : tie.Need-sub-father
-sub-father c = search needs
 
 mul-father : tie.Need-mul-father
 mul-father c = search needs
@@ -36,8 +36,8 @@ pub agrees-spec : {M : Type 1} → statement M
 agrees-spec =
     tie.close
     (tie.spec
+    sub-wide
     wide-requires
-    sub-father
     mul-father
     shared-slice-read-father
     mul-node

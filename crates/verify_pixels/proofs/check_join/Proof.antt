@@ -1,9 +1,10 @@
 -- `verify_pixels::check_join` meets its contract.
-use Rattle.verify_pixels.proofs.Answers.{agrees-is, joint-at}
+use Rattle.verify_pixels.proofs.Answers.{agrees-is}
 use Rattle.tree_laws.proofs.Looks.{names-more}
-use Rattle.tree_laws.proofs.Checks.{joint-left, joint-right, joint-lo, joint-hi, joint-both}
+use Rattle.tree_laws.proofs.Checks.{joint-left, joint-right, joint-differs, joint-both}
 use borrow.Author.Tests.{not-true, not-false}
 use mathlib.Core.Path.{refl}
+use mathlib.Core.Logic.{inl, inr}
 use native.Mathlib.Omega.{arith}
 use borrow.Author.Needs.{needs}
 use Rattle.verify_pixels.proofs.check_join.Statement.{statement}
@@ -29,7 +30,7 @@ same-length c = search needs
 
 returns : tie.Need-returns
 returns c = let s = c .before .before .before .before .before .before .before .before .before .before .pre in
-    joint-at (c .before .before .hang .ensures) (joint-left _ _ _ _ _ _ _ (s .0 .2) (s .1 .0 .0) (s .1 .0 .1) _ refl (c .before .before .before .before .if1 .taken))
+    joint-left _ _ _ _ _ _ _ (s .0 .3) (s .1 .0 .0) (s .1 .0 .1) _ _ (c .before .before .before .before .if1 .taken) (c .before .before .hang .ensures)
 
 hang-requires-2 : tie.Need-hang-requires-2
 hang-requires-2 c κs = search needs
@@ -39,25 +40,25 @@ same-length-2 c = search needs
 
 returns-2 : tie.Need-returns-2
 returns-2 c = let s = c .before .before .before .before .before .before .before .before .before .before .before .pre in
-    joint-at (c .before .before .hang2 .ensures) (joint-right _ _ _ _ _ _ _ (s .0 .2) (s .1 .0 .0) (s .1 .0 .1) _ refl (c .before .before .before .before .if2 .taken))
+    joint-right _ _ _ _ _ _ _ (s .0 .3) (s .1 .0 .0) (s .1 .0 .1) _ _ (c .before .before .before .before .if2 .taken) (c .before .before .hang2 .ensures)
 
 agrees-requires : tie.Need-agrees-requires
 agrees-requires c κs = let s = c .before .before .before .before .before .before .before .pre in
-    (names-more (s .1 .1 .0) (s .1 .0 .0), omega (arith, s .0 .3, s .1 .1 .1))
+    (names-more (s .1 .1 .0) (s .1 .0 .0), omega (arith, s .0 .4, s .1 .1 .1))
 
 returns-3 : tie.Need-returns-3
 returns-3 c = let s = c .before .before .before .before .before .before .before .before .before .pre in
     let t = c .before .agrees in
-    joint-lo _ _ _ _ _ _ _ (s .0 .2) (s .1 .0 .0) (s .1 .0 .1) (c .before .before .before .if1 .left) (c .before .before .if2 .left) (agrees-is (not-true (t .result) (c .if3 .taken)) (t .ensures))
+    joint-differs _ _ _ _ _ _ _ (s .0 .3) (s .1 .0 .0) (s .1 .0 .1) (c .before .before .before .if1 .left) (c .before .before .if2 .left) _ (inl refl) (s .1 .0 .0) (agrees-is (not-true (t .result) (c .if3 .taken)) (t .ensures))
 
 agrees-requires-2 : tie.Need-agrees-requires-2
 agrees-requires-2 c κs = let s = c .before .before .before .before .before .before .before .before .before .pre in
-    (names-more (s .1 .1 .0) (s .1 .0 .1), omega (arith, s .0 .3, s .1 .1 .1))
+    (names-more (s .1 .1 .0) (s .1 .0 .1), omega (arith, s .0 .4, s .1 .1 .1))
 
 returns-4 : tie.Need-returns-4
 returns-4 c = let s = c .before .before .before .before .before .before .before .before .before .before .before .pre in
     let t = c .before .agrees2 in
-    joint-hi _ _ _ _ _ _ _ (s .0 .2) (s .1 .0 .0) (s .1 .0 .1) (c .before .before .before .before .before .if1 .left) (c .before .before .before .before .if2 .left) (agrees-is (not-true (t .result) (c .if4 .taken)) (t .ensures))
+    joint-differs _ _ _ _ _ _ _ (s .0 .3) (s .1 .0 .0) (s .1 .0 .1) (c .before .before .before .before .before .if1 .left) (c .before .before .before .before .if2 .left) _ (inr refl) (s .1 .0 .1) (agrees-is (not-true (t .result) (c .if4 .taken)) (t .ensures))
 
 hang-requires-3 : tie.Need-hang-requires-3
 hang-requires-3 c κs = search needs
@@ -69,9 +70,8 @@ returns-5 : tie.Need-returns-5
 returns-5 c = let s = c .before .before .before .before .before .before .before .before .before .before .before .before .before .before .before .pre in
     let t = c .before .before .before .before .before .before .before .agrees in
     let u = c .before .before .before .before .before .agrees2 in
-    joint-at (c .before .before .hang3 .ensures)
-    (joint-both _ _ _ _ _ _ _ (s .0 .2) (s .1 .0 .0) (s .1 .0 .1) (c .before .before .before .before .before .before .before .before .before .if1 .left) (c .before .before .before .before .before .before .before .before .if2 .left)
-    (agrees-is (not-false (t .result) (c .before .before .before .before .before .before .if3 .left)) (t .ensures)) (agrees-is (not-false (u .result) (c .before .before .before .before .if4 .left)) (u .ensures)))
+    joint-both _ _ _ _ _ _ _ (s .0 .3) (s .1 .0 .0) (s .1 .0 .1) (c .before .before .before .before .before .before .before .before .before .if1 .left) (c .before .before .before .before .before .before .before .before .if2 .left) _ _
+    (agrees-is (not-false (t .result) (c .before .before .before .before .before .before .if3 .left)) (t .ensures)) (agrees-is (not-false (u .result) (c .before .before .before .before .if4 .left)) (u .ensures)) (c .before .before .hang3 .ensures)
 
 pub check-join-spec : {M : Type 1} → statement M
 check-join-spec =

@@ -40,11 +40,11 @@ mul-work-2 c = search needs
 slice-write-work-2 : tie.Need-slice-write-work-2
 slice-write-work-2 c = simp length-set (omega (arith, c .before .before .before .before .pre .0 .room, c .before .before .before .before .pre .0 .within))
 
-add-cells : tie.Need-add-cells
-add-cells c = search needs
-
 cast-cells : tie.Need-cast-cells
 cast-cells c = search needs
+
+add-cells : tie.Need-add-cells
+add-cells c = search needs
 
 mul-cells : tie.Need-mul-cells
 mul-cells c = search needs
@@ -76,8 +76,8 @@ number-one-spec =
     add-work
     mul-work-2
     slice-write-work-2
-    add-cells
     cast-cells
+    add-cells
     mul-cells
     slice-write-cells
     same-length
