@@ -13,6 +13,9 @@ use Rattle.cells.specs.Blocks.{UntouchedOutside, Filled}
 pub kept-refl : (b n : ℕ) (l : List ℕ) → UntouchedOutside b n l l
 kept-refl b n l = record { size = refl; outside = λ j h. refl }
 
+pub kept-trans : (b n : ℕ) (l m o : List ℕ) → UntouchedOutside b n l m → UntouchedOutside b n m o → UntouchedOutside b n l o
+kept-trans b n l m o f g = record { size = g .size ∙ f .size; outside = λ j h. g .outside j h ∙ f .outside j h }
+
 -- a store inside the block
 pub kept-store : (b n j v : ℕ) (l m : List ℕ) → b ≤ j → j < b + n → UntouchedOutside b n l m → UntouchedOutside b n l (set m j v)
 kept-store b n j v l m h c k =

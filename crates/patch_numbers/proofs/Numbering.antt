@@ -14,9 +14,8 @@ use borrow.Author.Tests.{eqb-true, eqb-false, eq-eqb, ne-eqb}
 use Rattle.picture.specs.Lists.{pick, tally, range}
 use Rattle.cells.specs.Blocks.{blockEntry, UntouchedOutside, Filled}
 use Rattle.lists.proofs.Tests.{and-left, and-right, and-both, clash, on-pick}
-use Rattle.lists.proofs.Lists.{tally-length, length-range}
+use Rattle.lists.proofs.Lists.{tally-length, length-range, set-cases}
 use Rattle.lists.proofs.Positions.{tally-next-in, tally-next-out}
-use Rattle.labelling_laws.proofs.Zones.{set-cases}
 use Rattle.patch_numbers.specs.Numbers.{Mapped, Cleared, Mark, beyond, marked, Son, Marks, starts, Number, passed, given, Numbers, patchIn}
 use Rattle.cells.proofs.Blocks.{kept-refl, kept-set}
 

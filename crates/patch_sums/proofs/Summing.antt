@@ -18,10 +18,7 @@ use Rattle.cells.specs.Blocks.{blockEntry, UntouchedOutside, Filled}
 use Rattle.topology.proofs.PatchSums.{sumAt, sum-none, sum-in, sum-out, sum-most}
 use Rattle.patch_sums.specs.declared.Run.{Run}
 use Rattle.patch_sums.specs.Sums.{Figure, sizes, columns, rows, term, terms, termAt, base, raised, Raisable, SumsRoom, Added, RunAfter, NumberedRows, Sums, RowSummed}
-use Rattle.cells.proofs.Blocks.{kept-refl, kept-store}
-
-kept-trans : (b n : ℕ) (l m o : List ℕ) → UntouchedOutside b n l m → UntouchedOutside b n m o → UntouchedOutside b n l o
-kept-trans b n l m o f g = record { size = g .size ∙ f .size; outside = λ j h. g .outside j h ∙ f .outside j h }
+use Rattle.cells.proofs.Blocks.{kept-refl, kept-trans, kept-store}
 
 pick-in : (c d v : ℕ) → c ≡ d → pick (eqb c d) v 0 ≡ v
 pick-in c d v e = ap (λ (b : Bool). pick b v 0) (eq-eqb c d e)

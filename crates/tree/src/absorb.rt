@@ -6,7 +6,7 @@ use union_find::join;
 ghost use Prim.Native.Nat.{_<_, _+_, _*_};
 ghost use lib.ListN.{length};
 ghost use Rattle.picture.specs.Pictures.{pictureOf};
-ghost use Rattle.tree_laws.proofs.Forests.{Block};
+ghost use Rattle.cells.specs.Blocks.{UntouchedOutside};
 ghost use Rattle.tree_laws.proofs.Chains.{EdgeReady, EdgeDone};
 ghost use Rattle.tree_laws.proofs.Walks.{WalkReady, Absorbed};
 
@@ -70,7 +70,7 @@ pub fn absorb_level(
     head: usize,
 )
     requires { ⌜ WalkReady (pictureOf a w h (now pixels)) k head (now cells) (now work) ⌝ }
-    ensures { λ _. ⌜ WalkReady (pictureOf a w h (now (pixels .entry))) k (w * h) (now (cells .exit)) (now (work .exit)) × Block (w * h) (w * h) (now (work .entry)) (now (work .exit)) ⌝ }
+    ensures { λ _. ⌜ WalkReady (pictureOf a w h (now (pixels .entry))) k (w * h) (now (cells .exit)) (now (work .exit)) × UntouchedOutside (w * h) (w * h) (now (work .entry)) (now (work .exit)) ⌝ }
 {
     let mut x = head;
     while x < cells.len() {

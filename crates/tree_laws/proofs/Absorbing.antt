@@ -1,6 +1,6 @@
 -- The pixels of one height join the classes, a place and a neighbour at a time.
 use mathlib.Core.Path.{_≡_, refl, sym, ap, subst, _∙_}
-use mathlib.Core.Logic.{_⊎_, inl, inr, ⊎-elim, by-cases, _≢_}
+use mathlib.Core.Logic.{_⊎_, inl, inr, ⊎-elim, by-cases, _≢_, ⊎-swap}
 use mathlib.Core.List.{List}
 use Prim.Native.Nat.{ℕ, suc, _+_, _≤_, _<_}
 use native.Mathlib.Decide.{ℕ-discrete}
@@ -15,7 +15,7 @@ use Rattle.topology.proofs.Adjacency.{Adj, At, Joined, adj-sym, joined-sym}
 use Rattle.topology.proofs.Accepted.{Accepted, byte-at, places-bound}
 use Rattle.topology.proofs.Nodes.{nodes-few}
 use Rattle.tree_laws.proofs.Beneath.{Low, beneath, beneath-number}
-use Rattle.tree_laws.proofs.Levels.{⊎-swap, put, relink, relink-moved, relink-kept, relink-same, State, nothing, single, several, Level, Upto, Edges, edges-lower, Merged, merged-exchange, met, met-number, linked}
+use Rattle.tree_laws.proofs.Levels.{put, relink, relink-moved, relink-kept, relink-same, State, nothing, single, several, Level, Upto, Edges, edges-lower, Merged, merged-exchange, met, met-number, linked}
 use Rattle.tree_laws.proofs.Counts.{soFar}
 use Rattle.tree_laws.proofs.Forests.{Forest, Found, root-cell, Ordered, ordered-less, in-order, forest-link}
 use Rattle.tree_laws.proofs.Marks.{Names}

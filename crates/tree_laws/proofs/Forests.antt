@@ -1,8 +1,8 @@
 -- Union-find in a list of cells: a cell below 2048 is a parent, a smaller place; a greater one marks a root with its state.
 use mathlib.Core.Path.{_≡_, refl, sym, ap, subst, _∙_}
-use mathlib.Core.Logic.{_⊎_, inl, inr, by-cases, _≢_}
+use mathlib.Core.Logic.{by-cases, _≢_}
 use mathlib.Core.List.{List}
-use Prim.Native.Nat.{ℕ, _+_, _≤_, _<_}
+use Prim.Native.Nat.{ℕ, _≤_, _<_}
 use native.Mathlib.Decide.{ℕ-discrete, decLt}
 use native.Mathlib.Omega.{arith}
 use lib.ListN.{length, getD, set, length-set}
@@ -313,25 +313,3 @@ forest-state l r s root st f b at-r big =
         (λ d.
         let g = getD-set-other l r y s 0 d in
         (f .top y c (omega arith), g ∙ (f .state y c (omega arith) ∙ sym (put-other st r s y d))))
-
--- the cells beyond the n from b on are as they were
-pub record Block (n b : ℕ) (w v : List ℕ) : Type 0 where
-  pub size : length v ≡ length w
-  pub other : (i : ℕ) → (i < b) ⊎ (b + n ≤ i) → getD v i 0 ≡ getD w i 0
-
-pub block-same : (n b : ℕ) (w : List ℕ) → Block n b w w
-block-same n b w = record { size = refl; other = λ i h. refl }
-
-pub block-then : (n b : ℕ) (u v w : List ℕ) → Block n b u v → Block n b v w → Block n b u w
-block-then n b u v w a c = record { size = c .size ∙ a .size; other = λ i h. c .other i h ∙ a .other i h }
-
-pub block-set : (n b : ℕ) (w : List ℕ) (i x : ℕ) → i < n → Block n b w (set w (b + i) x)
-block-set n b w i x h =
-    record {
-      size = length-set w (b + i) x;
-      other = λ j g. getD-set-other w (b + i) j x 0 (λ e. apart j e g);
-    }
-  where
-    apart : (j : ℕ) → j ≡ b + i → (j < b) ⊎ (b + n ≤ j) → ⊥
-    apart j e (inl q) = omega arith
-    apart j e (inr q) = omega arith

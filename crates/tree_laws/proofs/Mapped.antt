@@ -15,7 +15,9 @@ use Rattle.topology.proofs.Nodes.{nodes-few}
 use Rattle.topology.proofs.Descent.{under, map-under}
 use Rattle.tree_laws.proofs.Levels.{Level, Upto}
 use Rattle.tree_laws.proofs.Counts.{soFar, so-few}
-use Rattle.tree_laws.proofs.Forests.{Forest, Found, Block, block-set, Parents, forest-parents}
+use Rattle.cells.specs.Blocks.{UntouchedOutside}
+use Rattle.cells.proofs.Blocks.{kept-refl, kept-set}
+use Rattle.tree_laws.proofs.Forests.{Forest, Found, Parents, forest-parents}
 use Rattle.tree_laws.proofs.Absorbing.{Classes}
 use Rattle.tree_laws.proofs.Chains.{fathersIn, mapIn, NextOfValue, After, Threads, upto-skip, classes-skip}
 use Rattle.tree_laws.proofs.Walks.{WalkReady}
@@ -175,8 +177,8 @@ module _ (p : Picture) (k d x q : ℕ) (l w m v : List ℕ) (s : MapFrom p k d x
       ap (λ (a : List ℕ). getD a (2 * places p + x) 0) work ∙
       (getD-set-same w (2 * places p + x) (getD m (t .r) 0 - 2048) 0 room ∙ says-x)
 
-  block : Block (places p) (2 * places p) w v
-  block = subst (Block (places p) (2 * places p) w) (sym work) (block-set (places p) (2 * places p) w x (getD m (t .r) 0 - 2048) b)
+  block : UntouchedOutside (2 * places p) (places p) w v
+  block = subst (UntouchedOutside (2 * places p) (places p) w) (sym work) (kept-set (2 * places p) (places p) x (getD m (t .r) 0 - 2048) w w b (kept-refl (2 * places p) (places p) w))
 
   mapped-other : (y : ℕ) → y ≢ x → mapIn p v y ≡ mapIn p w y
   mapped-other y e =
@@ -197,8 +199,8 @@ module _ (p : Picture) (k d x q : ℕ) (l w m v : List ℕ) (s : MapFrom p k d x
               count = g .count;
               nodes =
                   record {
-                    heights = λ i h. block .other i (inl (omega (arith, few))) ∙ g .nodes .heights i h;
-                    firsts = λ i h. block .other (3 * places p + i) (inr (omega arith)) ∙ g .nodes .firsts i h;
+                    heights = λ i h. block .outside i (inl (omega (arith, few))) ∙ g .nodes .heights i h;
+                    firsts = λ i h. block .outside (3 * places p + i) (inr (omega arith)) ∙ g .nodes .firsts i h;
                   };
               root = g .root;
               st = g .st;
@@ -206,7 +208,7 @@ module _ (p : Picture) (k d x q : ℕ) (l w m v : List ℕ) (s : MapFrom p k d x
               forest = forest;
               level =
                   level-fathers p (suc k) d (g .root) (g .st) (fathersIn p w) (fathersIn p v) (g .level)
-                  (λ i h. block .other (places p + i) (inl (omega (arith, few))));
+                  (λ i h. block .outside (places p + i) (inl (omega (arith, few))));
               edges = g .edges;
               says = g .says;
               threads = record { mapped = mapped; linked = linked };
@@ -302,7 +304,7 @@ between-ready p k c x l w b n =
 
 -- after the height's pixels have joined, the list begins
 pub between-list :
-    (p : Picture) (k c x : ℕ) (l w m v : List ℕ) → k ≤ 255 → Between p k c l w → NextOfValue p k 0 x → WalkReady p k (places p) m v → Block (places p) (places p) w v →
+    (p : Picture) (k c x : ℕ) (l w m v : List ℕ) → k ≤ 255 → Between p k c l w → NextOfValue p k 0 x → WalkReady p k (places p) m v → UntouchedOutside (places p) (places p) w v →
     ListFrom p k c c x m v
 between-list p k c x l w m v low b n r block =
     let e = b .count in
@@ -312,8 +314,8 @@ between-list p k c x l w m v low b n r block =
       listing =
           list-start p k c x m v r low (b .count)
           (record {
-            heights = λ i g. block .other i (inl (omega arith)) ∙ b .nodes .heights i g;
-            firsts = λ i g. block .other (3 * places p + i) (inr (omega arith)) ∙ b .nodes .firsts i g;
+            heights = λ i g. block .outside i (inl (omega arith)) ∙ b .nodes .heights i g;
+            firsts = λ i g. block .outside (3 * places p + i) (inr (omega arith)) ∙ b .nodes .firsts i g;
           })
           n;
       is = n .is;

@@ -8,7 +8,9 @@ use native.Mathlib.Omega.{arith}
 use lib.ListN.{length, getD, set}
 use lib.Seq.{getD-set-same, getD-set-other}
 use Rattle.tree_laws.proofs.Levels.{Merged, left, right, both}
-use Rattle.tree_laws.proofs.Forests.{Hung, Block, block-same, block-then, block-set}
+use Rattle.cells.specs.Blocks.{UntouchedOutside}
+use Rattle.cells.proofs.Blocks.{kept-refl, kept-set, kept-trans}
+use Rattle.tree_laws.proofs.Forests.{Hung}
 
 -- a state: one of the two marks, or the name of a node below n
 pub record Names (n s : ℕ) : Type 0 where
@@ -17,12 +19,12 @@ pub record Names (n s : ℕ) : Type 0 where
 
 -- x at the entry of the node that the state names, in the block of n cells from n on
 pub record Marked (n s x : ℕ) (w v : List ℕ) : Type 0 where
-  pub block : Block n n w v
+  pub block : UntouchedOutside n n w v
   pub hit : (i : ℕ) → i < n → s ≡ 2048 + i → s < 65534 → getD v (n + i) 0 ≡ x
   pub miss : (i : ℕ) → s ≢ 2048 + i → getD v (n + i) 0 ≡ getD w (n + i) 0
 
 pub record MergedIn (n x a b s : ℕ) (w v : List ℕ) : Type 0 where
-  pub block : Block n n w v
+  pub block : UntouchedOutside n n w v
   pub root : 2048 ≤ s
   pub merged : n ≤ 1600 → Merged x a b s (λ i. getD w (n + i) 0) (λ i. getD v (n + i) 0)
 
@@ -30,21 +32,21 @@ pub record MergedIn (n x a b s : ℕ) (w v : List ℕ) : Type 0 where
 pub record LinkedIn (x q r : ℕ) (l m w v : List ℕ) (lo : ℕ) : Type 0 where
   pub state : ℕ
   pub root : 2048 ≤ state
-  pub block : Block (length l) (length l) w v
+  pub block : UntouchedOutside (length l) (length l) w v
   pub hung : Hung q r state l m lo
   pub merged :
       (n : ℕ) → n ≡ length l → Merged x (getD l q 0) (getD l r 0) state (λ i. getD w (n + i) 0) (λ i. getD v (n + i) 0)
 
 pub mark-none : (n s x : ℕ) (w : List ℕ) → 65534 ≤ s → Marked n s x w w
 mark-none n s x w h =
-    record { block = block-same n n w; hit = λ i b e g. absurd (omega arith); miss = λ i d. refl }
+    record { block = kept-refl n n w; hit = λ i b e g. absurd (omega arith); miss = λ i d. refl }
 
 pub mark-some : (n s x t : ℕ) (w : List ℕ) → t ≡ s - 2048 → Names n s → s < 65534 → 2 * n ≤ length w → Marked n s x w (set w (n + t) x)
 mark-some n s x t w e h b room =
     let r = h .root in
     let q = h .node b in
     record {
-      block = block-set n n w t x (omega arith);
+      block = kept-set n n t x w w (omega arith) (kept-refl n n w);
       hit =
           λ i c g k.
           let at : n + i ≡ n + t = omega arith in
@@ -54,18 +56,18 @@ mark-some n s x t w e h b room =
 
 pub merge-left : (n x a b : ℕ) (w : List ℕ) → Names n b → a ≡ 65535 → MergedIn n x a b b w w
 merge-left n x a b w h e =
-    record { block = block-same n n w; root = h .root; merged = λ g. left e refl (λ i c. refl) }
+    record { block = kept-refl n n w; root = h .root; merged = λ g. left e refl (λ i c. refl) }
 
 pub merge-right : (n x a b : ℕ) (w : List ℕ) → Names n a → b ≡ 65535 → MergedIn n x a b a w w
 merge-right n x a b w h e =
-    record { block = block-same n n w; root = h .root; merged = λ g. right e refl (λ i c. refl) }
+    record { block = kept-refl n n w; root = h .root; merged = λ g. right e refl (λ i c. refl) }
 
 pub merge-both :
     (n x a b : ℕ) (w u v : List ℕ) → Names n a → Names n b → a ≢ 65535 → b ≢ 65535 → Marked n a x w u → Marked n b x u v →
     MergedIn n x a b 65534 w v
 merge-both n x a b w u v ha hb da db p q =
     record {
-      block = block-then n n w u v (p .block) (q .block);
+      block = kept-trans n n w u v (p .block) (q .block);
       root = omega arith;
       merged =
           λ few.

@@ -1,16 +1,18 @@
 -- The walk along the chain of one height: each of its pixels joins the classes.
-use mathlib.Core.Path.{_≡_, refl, sym, ap, subst, _∙_}
+use mathlib.Core.Path.{_≡_, refl, sym, subst, _∙_}
 use mathlib.Core.Logic.{_⊎_, inl, inr, ⊎-elim}
 use mathlib.Core.List.{List}
 use Prim.Native.Nat.{ℕ, suc, _+_, _*_, _≤_, _<_}
 use native.Mathlib.Numerals.{add-one}
 use native.Mathlib.Omega.{arith}
-use lib.ListN.{length, getD, drop, List·getD-append}
+use lib.ListN.{length, getD}
 use Rattle.picture.specs.Pictures.{Picture, places, valueAt}
-use Rattle.picture.specs.Geometry.{neighboursIn, Placed, Listed}
+use Rattle.picture.specs.Geometry.{neighboursIn, Placed}
 use Rattle.topology.proofs.Accepted.{Accepted}
 use Rattle.tree_laws.proofs.Levels.{Upto}
-use Rattle.tree_laws.proofs.Forests.{Found, Block, block-same, block-then, Parents, forest-parents}
+use Rattle.cells.specs.Blocks.{UntouchedOutside}
+use Rattle.cells.proofs.Blocks.{kept-refl, kept-trans}
+use Rattle.tree_laws.proofs.Forests.{Found, Parents, forest-parents}
 use Rattle.tree_laws.proofs.Absorbing.{Classes, Near, near-start, near-end}
 use Rattle.tree_laws.proofs.Chains.{fathersIn, mapIn, NextOfValue, Threads, classes-skip, EdgeReady, EdgeDone}
 
@@ -26,7 +28,7 @@ pub record WalkReady (p : Picture) (k x : ℕ) (l w : List ℕ) : Type 0 where
 pub record Absorbed (p : Picture) (k x r : ℕ) (m w v : List ℕ) : Type 0 where
   pub ready : WalkReady p k r m v
   pub more : x < r
-  pub block : Block (places p) (places p) w v
+  pub block : UntouchedOutside (places p) (places p) w v
 
 -- the pixel x is joined to the first i of its neighbours
 pub record Joining (p : Picture) (k x i r : ℕ) (l w v : List ℕ) : Type 0 where
@@ -34,12 +36,12 @@ pub record Joining (p : Picture) (k x i r : ℕ) (l w v : List ℕ) : Type 0 whe
   pub room : length v ≡ 4 * places p
   pub most : i ≤ length (neighboursIn p x)
   pub near : Near p k x i r l (fathersIn p v)
-  pub block : Block (places p) (places p) w v
+  pub block : UntouchedOutside (places p) (places p) w v
 
 pub ready-parents : {p : Picture} {k x : ℕ} {l w : List ℕ} → WalkReady p k x l w → Parents l
 ready-parents r = forest-parents (r .classes .forest)
 
-pub threads-block : (p : Picture) (k x b : ℕ) (w v : List ℕ) → Threads p k x (mapIn p w) → Block (places p) b w v → (b + places p ≤ 2 * places p) ⊎ (3 * places p ≤ b) → Threads p k x (mapIn p v)
+pub threads-block : (p : Picture) (k x b : ℕ) (w v : List ℕ) → Threads p k x (mapIn p w) → UntouchedOutside b (places p) w v → (b + places p ≤ 2 * places p) ⊎ (3 * places p ≤ b) → Threads p k x (mapIn p v)
 threads-block p k x b w v t k′ o =
     record {
       mapped = λ y u. same y (u .within) ∙ t .mapped y u;
@@ -47,7 +49,7 @@ threads-block p k x b w v t k′ o =
     }
   where
     same : (y : ℕ) → y < places p → getD v (2 * places p + y) 0 ≡ getD w (2 * places p + y) 0
-    same y h = k′ .other (2 * places p + y) (⊎-elim (λ a. inr (omega arith)) (λ a. inl (omega arith)) o)
+    same y h = k′ .outside (2 * places p + y) (⊎-elim (λ a. inr (omega arith)) (λ a. inl (omega arith)) o)
 
 module _ (p : Picture) (k x : ℕ) where
   pub joining-start : (r : ℕ) (l m w : List ℕ) → WalkReady p k x l w → x < places p → Found l x r m → Joining p k x 0 r m w w
@@ -57,7 +59,7 @@ module _ (p : Picture) (k x : ℕ) where
         room = a .room;
         most = omega arith;
         near = near-start p (a .ok) k x r l m (fathersIn p w) (a .classes) b (a .is b) f;
-        block = block-same (places p) (places p) w;
+        block = kept-refl (places p) (places p) w;
       }
 
   pub edge-ready : (i r y : ℕ) (l w v : List ℕ) → Joining p k x i r l w v → i < length (neighboursIn p x) → y ≡ getD (neighboursIn p x) i 0 → EdgeReady (p .pixels) k x r y l v
@@ -76,7 +78,7 @@ module _ (p : Picture) (k x : ℕ) where
       (i r y q : ℕ) (l m w v u : List ℕ) → Joining p k x i r l w v → i < length (neighboursIn p x) → y ≡ getD (neighboursIn p x) i 0 →
       EdgeDone (p .pixels) k x r y l v q m u → Joining p k x (i + 1) q m w u
   joining-turn i r y q l m w v u a b e d =
-      let block = subst (λ (n : ℕ). Block n n v u) (a .near .size) (d .block) in
+      let block = subst (λ (n : ℕ). UntouchedOutside n n v u) (a .near .size) (d .block) in
       record {
         ok = a .ok;
         room = block .size ∙ a .room;
@@ -84,7 +86,7 @@ module _ (p : Picture) (k x : ℕ) where
         near =
             subst (λ (j : ℕ). Near p k x j q m (fathersIn p u)) (sym (add-one i))
             (d .near p i (a .ok) refl (record { listed = b; is = e }) (a .near));
-        block = block-then (places p) (places p) w v u (a .block) block;
+        block = kept-trans (places p) (places p) w v u (a .block) block;
       }
 
   pub joining-end :
@@ -114,12 +116,6 @@ module _ (p : Picture) (k x : ℕ) where
         more = let f = next .from in omega arith;
         block = a .block;
       }
-
--- a neighbour as the cells list it
-pub listed-cell : {ns cells after : List ℕ} {r : ℕ} → Listed ns cells r after → (i : ℕ) → i < r → getD after i 0 ≡ getD ns i 0
-listed-cell {ns} {cells} {after} {r} s i b =
-    ap (λ (l : List ℕ). getD l i 0) (s .whole) ∙
-    List·getD-append ns (drop r cells) 0 i (let e = s .count in omega arith)
 
 pub ready-placed : (p : Picture) (k x : ℕ) (l w : List ℕ) → WalkReady p k x l w → x < length l → Placed (p .width) (p .height) x
 ready-placed p k x l w r b =

@@ -1,7 +1,7 @@
 -- `verify_pixels::check_pixel` meets its contract.
 use Rattle.picture.specs.Pictures.{pictureOf}
 use Rattle.tree_laws.proofs.Looks.{Looking, passed-yes, passed-not, checking-placed, checking-parents, look-start, look-ready, look-turn, look-differs, look-end, look-pass}
-use Rattle.tree_laws.proofs.Walks.{listed-cell}
+use Rattle.picture.proofs.Neighbours.{listed-at}
 use mathlib.Core.Path.{sym, _∙_}
 use native.Mathlib.Omega.{arith}
 use Prim.Native.Nat.{_-_}
@@ -52,7 +52,7 @@ check-edge-requires c κs = let s = c .before .before .before .before .before .b
     let i = c .before .before .before .loop .inv in
     let z = i .by-near .near .size in
     let y = c .before .before .before .before .before .before .before .before .before .before .before .before .before .before .before .before .before .before .pre .0 .0 .classes .size in
-    (look-ready _ _ _ _ _ _ _ _ _ i (omega arith) (c .wide .ensures ∙ listed-cell s _ b), (omega (arith, c .before .before .before .before .before .before .before .before .before .before .before .before .before .before .before .before .before .before .pre .1 .0), omega (arith, c .before .before .before .before .before .before .before .before .before .before .before .before .before .before .before .before .before .before .pre .1 .1)))
+    (look-ready _ _ _ _ _ _ _ _ _ i (omega arith) (c .wide .ensures ∙ listed-at _ _ _ _ s _ b), (omega (arith, c .before .before .before .before .before .before .before .before .before .before .before .before .before .before .before .before .before .before .pre .1 .0), omega (arith, c .before .before .before .before .before .before .before .before .before .before .before .before .before .before .before .before .before .before .pre .1 .1)))
 
 same-length : tie.Need-same-length Inv-loop μ-loop
 same-length c = c .before .before .before .check-edge .ensures .size ∙ (c .before .before .before .before .before .before .before .loop .inv .by-near .near .size ∙ sym (c .before .before .before .before .before .before .before .before .before .before .before .before .before .before .before .before .before .before .before .before .before .before .pre .0 .0 .classes .size))
@@ -62,7 +62,7 @@ returns-2 c = let s = c .before .before .before .before .before .before .before 
     let b = c .before .before .before .before .before .before .loop-test .taken in
     let e = s .count in
     passed-not _ _ _ _ _ _
-    (look-differs _ _ _ _ _ _ _ _ _ (c .before .before .before .before .before .before .before .loop .inv) (omega arith) (c .before .before .before .before .wide .ensures ∙ listed-cell s _ b) _ _ (c .before .before .before .check-edge .ensures) (c .if2 .taken))
+    (look-differs _ _ _ _ _ _ _ _ _ (c .before .before .before .before .before .before .before .loop .inv) (omega arith) (c .before .before .before .before .wide .ensures ∙ listed-at _ _ _ _ s _ b) _ _ (c .before .before .before .check-edge .ensures) (c .if2 .taken))
 
 add-i : tie.Need-add-i Inv-loop μ-loop
 add-i c = search needs
@@ -74,7 +74,7 @@ loop-again : tie.Need-loop-again Inv-loop μ-loop
 loop-again c = let s = c .before .before .before .before .before .before .before .before .before .before .before .before .before .neighbours .ensures in
     let b = c .before .before .before .before .before .before .loop-test .taken in
     let e = s .count in
-    look-turn _ _ _ _ _ _ _ _ _ (c .before .before .before .before .before .before .before .loop .inv) (omega arith) (c .before .before .before .before .wide .ensures ∙ listed-cell s _ b) _ _ (c .before .before .before .check-edge .ensures) (c .if2 .left)
+    look-turn _ _ _ _ _ _ _ _ _ (c .before .before .before .before .before .before .before .loop .inv) (omega arith) (c .before .before .before .before .wide .ensures ∙ listed-at _ _ _ _ s _ b) _ _ (c .before .before .before .check-edge .ensures) (c .if2 .left)
 
 same-length-2 : tie.Need-same-length-2 Inv-loop μ-loop
 same-length-2 c = search needs

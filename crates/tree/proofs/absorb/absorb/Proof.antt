@@ -1,6 +1,7 @@
 -- `tree::absorb::absorb` meets its contract.
 use Rattle.picture.specs.Pictures.{pictureOf}
-use Rattle.tree_laws.proofs.Walks.{Joining, joining-start, joining-turn, joining-end, edge-ready, listed-cell, ready-placed, ready-parents}
+use Rattle.picture.proofs.Neighbours.{listed-at}
+use Rattle.tree_laws.proofs.Walks.{Joining, joining-start, joining-turn, joining-end, edge-ready, ready-placed, ready-parents}
 use lib.ListN.{getD}
 use mathlib.Core.Path.{ap, _∙_}
 use native.Mathlib.Omega.{arith}
@@ -41,7 +42,7 @@ absorb-edge-requires : tie.Need-absorb-edge-requires Inv-loop μ-loop
 absorb-edge-requires c κs = let s = c .before .before .before .before .before .before .before .before .before .before .neighbours .ensures in
     let b = c .before .before .before .loop-test .taken in
     let e = s .count in
-    edge-ready _ _ _ _ _ _ _ _ _ (c .before .before .before .before .loop .inv) (omega arith) (c .wide .ensures ∙ listed-cell s _ b)
+    edge-ready _ _ _ _ _ _ _ _ _ (c .before .before .before .before .loop .inv) (omega arith) (c .wide .ensures ∙ listed-at _ _ _ _ s _ b)
 
 add-i : tie.Need-add-i Inv-loop μ-loop
 add-i c = search needs
@@ -53,7 +54,7 @@ loop-again : tie.Need-loop-again Inv-loop μ-loop
 loop-again c = let s = c .before .before .before .before .before .before .before .before .before .before .before .before .before .before .before .neighbours .ensures in
     let b = c .before .before .before .before .before .before .before .before .loop-test .taken in
     let e = s .count in
-    joining-turn _ _ _ _ _ _ _ _ _ _ _ _ (c .before .before .before .before .before .before .before .before .before .loop .inv) (omega arith) (c .before .before .before .before .before .wide .ensures ∙ listed-cell s _ b) (c .before .before .before .before .absorb-edge .ensures)
+    joining-turn _ _ _ _ _ _ _ _ _ _ _ _ (c .before .before .before .before .before .before .before .before .before .loop .inv) (omega arith) (c .before .before .before .before .before .wide .ensures ∙ listed-at _ _ _ _ s _ b) (c .before .before .before .before .absorb-edge .ensures)
 
 mul-wide-2 : tie.Need-mul-wide-2 Inv-loop μ-loop
 mul-wide-2 c = search needs
