@@ -22,8 +22,8 @@ use Rattle.tree_laws.proofs.Numbering.{level-start, edges-start}
 use Rattle.tree_laws.proofs.Checks.{Checking}
 use Rattle.tree_laws.proofs.Looks.{Passed}
 use Rattle.verify.specs.Checked.{Says}
-use Rattle.verify_nodes.specs.Steps.{Run, Counted, Matched, CountReady, NodesChecked, MapReady, MapChecked, Verified}
-use Rattle.verify.specs.Heights.{Sizes, LevelChecked}
+use Rattle.verify_nodes.specs.Steps.{Run, Counted, Matched, CountReady, NodesChecked, LentMapReady, MapChecked, Verified}
+use Rattle.verify.specs.Heights.{ListsLong, LevelChecked}
 use Rattle.verify_nodes.proofs.Counted.{counted-start}
 use Rattle.verify_nodes.proofs.Matched.{matched-start}
 use Rattle.verify.proofs.Verified.{differs-tree, verified-next, verified-tree, tree-ends}
@@ -93,7 +93,7 @@ module _ (p : Picture) (count : ℕ) (hs fs ss m : List ℕ) where
           matched : Matched p k c d 0 u fs ss m
           matched = matched-start p k c d u fs ss m (n .yes g p fs m refl counted)
 
-          pub level-map : MapReady (p .pixels) k 0 u m
+          pub level-map : LentMapReady (p .pixels) k 0 u m
           level-map = record { p = p; c = c; d = d; fs = fs; ss = ss; is = refl; matched = matched }
 
           pub level-same : length u ≡ places p
@@ -159,7 +159,7 @@ module _ (p : Picture) (count : ℕ) (hs fs ss m : List ℕ) where
       says-tree q =
           record { yes = λ z. verified-tree p count l hs fs ss m verified q; never = λ z. absurd (clash refl z) }
 
-pub sizes-at : (n : ℕ) (xs hs fs ss m o l : List ℕ) → length l ≡ length o → Sizes n xs hs fs ss m o → Sizes n xs hs fs ss m l
+pub sizes-at : (n : ℕ) (xs hs fs ss m o l : List ℕ) → length l ≡ length o → ListsLong n xs hs fs ss m o → ListsLong n xs hs fs ss m l
 sizes-at n xs hs fs ss m o l e s =
     record {
       count = let a = s .count in omega arith;
@@ -173,7 +173,7 @@ sizes-at n xs hs fs ss m o l e s =
 
 pub sizes-of :
     (p : Picture) (n : ℕ) (hs fs ss m l : List ℕ) → isPicture p ≡ true → length l ≡ places p → n ≤ length l → places p ≤ length hs → places p ≤ length fs →
-    places p ≤ length ss → places p ≤ length m → Sizes n (p .pixels) hs fs ss m l
+    places p ≤ length ss → places p ≤ length m → ListsLong n (p .pixels) hs fs ss m l
 sizes-of p n hs fs ss m l ok e h a b c d =
     let k = accepted-is p ok in
     let few = places-bound p k in

@@ -7,7 +7,7 @@ use Rattle.lent_tree.specs.Lent.{HoldsTree}
 use Rattle.verify_nodes.specs.Steps.{Verified}
 
 -- the lists are long enough for the cells, and the count is no greater
-pub record Sizes (n : ℕ) (xs hs fs ss m l : List ℕ) : Type 0 where
+pub record ListsLong (n : ℕ) (xs hs fs ss m l : List ℕ) : Type 0 where
   pub count : n ≤ length l
   pub few : length l ≤ 1600
   pub pixels : length l ≤ length xs

@@ -11,7 +11,7 @@ ghost use lib.ListN.{length, drop};
 ghost use Rattle.picture.specs.Pictures.{isPicture, pictureOf};
 ghost use Rattle.verify.specs.Checked.{Says};
 ghost use Rattle.verify_nodes.specs.Steps.{Verified};
-ghost use Rattle.verify.specs.Heights.{Sizes, LevelChecked};
+ghost use Rattle.verify.specs.Heights.{ListsLong, LevelChecked};
 
 // The height k: answers the number of nodes up to it, or more than the count if the lists are not the tree.
 fn check_level(
@@ -29,7 +29,7 @@ fn check_level(
     c: usize,
 ) -> usize
     requires { ⌜ Verified (pictureOf a w h (now pixels)) k c count (now cells) (now heights) (now fathers) (now firsts) (now map) × (k < 256) ⌝ }
-    requires { ⌜ Sizes count (now pixels) (now heights) (now fathers) (now firsts) (now map) (now cells) ⌝ }
+    requires { ⌜ ListsLong count (now pixels) (now heights) (now fathers) (now firsts) (now map) (now cells) ⌝ }
     ensures { λ d. ⌜ LevelChecked (pictureOf a w h (now (pixels .entry))) k count (now (cells .exit)) (now (heights .entry)) (now (fathers .entry)) (now (firsts .entry)) (now (map .entry)) d ⌝ }
 {
     if !check_pixels(a, w, h, pixels, fathers, map, cells, k) {
@@ -59,7 +59,7 @@ fn check_levels(
     cells: &mut [u16],
 ) -> usize
     requires { ⌜ Verified (pictureOf a w h (now pixels)) 0 0 count (now cells) (now heights) (now fathers) (now firsts) (now map) ⌝ }
-    requires { ⌜ Sizes count (now pixels) (now heights) (now fathers) (now firsts) (now map) (now cells) ⌝ }
+    requires { ⌜ ListsLong count (now pixels) (now heights) (now fathers) (now firsts) (now map) (now cells) ⌝ }
     ensures { λ d. ⌜ LevelChecked (pictureOf a w h (now (pixels .entry))) 255 count (now (cells .exit)) (now (heights .entry)) (now (fathers .entry)) (now (firsts .entry)) (now (map .entry)) d ⌝ }
 {
     let mut c = 0;

@@ -20,7 +20,7 @@ use Rattle.tree_laws.proofs.Numbering.{root-first, fork-free}
 use Rattle.tree_laws.proofs.Forests.{root-cell, forest-state}
 use Rattle.tree_laws.proofs.Checks.{Checking}
 use Rattle.lent_tree.specs.Lent.{HoldsTree}
-use Rattle.verify_nodes.specs.Steps.{Run, Counted, Fits}
+use Rattle.verify_nodes.specs.Steps.{Run, Counted, NodeFits}
 use Rattle.verify_nodes.proofs.Places.{firsts-rise}
 
 pub counted-start : (p : Picture) (k c : ℕ) (l fs ss m : List ℕ) → k ≤ 255 → c ≡ soFar p k → Checking p k (places p) l fs m → Counted p k c c l fs ss m
@@ -48,7 +48,7 @@ counted-start p k c l fs ss m low e s =
     }
 
 module _ (p : Picture) (k c i : ℕ) (l fs ss m : List ℕ) (s : Counted p k c i l fs ss m) where
-  pub counted-turn : i < 1600 → Fits p k c i l ss → Counted p k c (i + 1) (set l (getD ss i 0) (2048 + i)) fs ss m
+  pub counted-turn : i < 1600 → NodeFits p k c i l ss → Counted p k c (i + 1) (set l (getD ss i 0) (2048 + i)) fs ss m
   counted-turn few t =
       subst (λ (z : ℕ). Counted p k c z (set l r (2048 + i)) fs ss m) (sym (add-one i))
       (record {
@@ -136,7 +136,7 @@ module _ (p : Picture) (k c i : ℕ) (l fs ss m : List ℕ) (s : Counted p k c i
     first-is j g = tree .firsts j (let a = run .most in let b = tree .total in omega arith)
 
     -- the tree's own first place passes the tests
-    pub tree-fits : Fits p k c i l ss
+    pub tree-fits : NodeFits p k c i l ss
     tree-fits =
         let n = node-is p i number in
         let hk = height-is i (s .order) below in

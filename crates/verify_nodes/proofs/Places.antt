@@ -21,12 +21,12 @@ use Rattle.tree_laws.proofs.Counts.{soFar, so-next, so-few, so-at}
 
 module _ (p : Picture) where
   -- a node's number is that of the first of its height and a part
-  pub record Stands (i : ℕ) : Type 0 where
+  pub record AtHeight (i : ℕ) : Type 0 where
     pub j : ℕ
     pub less : j < length (nodesAt p (nodeAt p i .height))
     pub is : i ≡ soFar p (nodeAt p i .height) + j
 
-  pub node-stands : (i : ℕ) → i < length (nodes p) → Stands i
+  pub node-stands : (i : ℕ) → i < length (nodes p) → AtHeight i
   unfolding isNode
   node-stands i b =
       let n = node-is p i b in
@@ -106,7 +106,7 @@ module _ (p : Picture) where
           (so-at p k a low c ∙
           (ap (λ (l : List Node). getD l a (node 0 0)) (nodes-at p k) ∙ getD-map (node k) 0 (node 0 0) chosen a (omega arith)))
 
-      by : Stands i → Stands j → nodeAt p i .first < nodeAt p j .first
+      by : AtHeight i → AtHeight j → nodeAt p i .first < nodeAt p j .first
       by s t =
           let si = s .is ∙ ap (λ (m : ℕ). soFar p m + s .j) ei in
           let tj = t .is ∙ ap (λ (m : ℕ). soFar p m + t .j) ej in

@@ -11,32 +11,32 @@ use Rattle.picture.specs.Pictures.{Picture, places, valueAt}
 use Rattle.lists.proofs.Tests.{clash}
 use Rattle.tree_laws.proofs.Forests.{Found, Parents, forest-parents}
 use Rattle.lent_tree.specs.Lent.{HoldsTree}
-use Rattle.verify_nodes.specs.Steps.{Run, Counted, Matched, Fit, CountReady, NodesChecked, MapReady, MapChecked}
+use Rattle.verify_nodes.specs.Steps.{Run, Counted, Matched, Fit, CountReady, NodesChecked, LentMapReady, MapChecked}
 use Rattle.verify_nodes.proofs.Counted.{counted-turn, tree-fits}
 use Rattle.verify_nodes.proofs.Matched.{matched-pass, matched-turn, matched-cell}
 
 -- the run of the height k from c on goes at least to i
-pub record Running (k c i : ℕ) (hs : List ℕ) : Type 0 where
+pub record RunTo (k c i : ℕ) (hs : List ℕ) : Type 0 where
   pub order : c ≤ i
   pub same : (j : ℕ) → c ≤ j → j < i → getD hs j 0 ≡ k
 
-pub running-start : (k c : ℕ) (hs : List ℕ) → Running k c c hs
-running-start k c hs = record { order = omega arith; same = λ j a b. absurd (omega arith) }
+pub run-start : (k c : ℕ) (hs : List ℕ) → RunTo k c c hs
+run-start k c hs = record { order = omega arith; same = λ j a b. absurd (omega arith) }
 
-pub running-turn : (k c i v : ℕ) (hs : List ℕ) → Running k c i hs → v ≡ getD hs i 0 → v ≡ k → Running k c (i + 1) hs
-running-turn k c i v hs s e q =
+pub run-turn : (k c i v : ℕ) (hs : List ℕ) → RunTo k c i hs → v ≡ getD hs i 0 → v ≡ k → RunTo k c (i + 1) hs
+run-turn k c i v hs s e q =
     let o = s .order in
     record {
       order = omega arith;
       same = λ j a b. by-cases (ℕ-discrete j i) (λ z. ap (λ (y : ℕ). getD hs y 0) z ∙ (sym e ∙ q)) (λ z. s .same j a (omega arith));
     }
 
-pub running-stop : (k c i v count : ℕ) (hs : List ℕ) → Running k c i hs → i < count → v ≡ getD hs i 0 → (v ≡ k → ⊥) → Run k c i count hs
-running-stop k c i v count hs s b e d =
+pub run-stop : (k c i v count : ℕ) (hs : List ℕ) → RunTo k c i hs → i < count → v ≡ getD hs i 0 → (v ≡ k → ⊥) → Run k c i count hs
+run-stop k c i v count hs s b e d =
     record { order = s .order; most = omega arith; same = s .same; ends = λ h q. d (e ∙ q) }
 
-pub running-end : (k c i count : ℕ) (hs : List ℕ) → Running k c i hs → i ≤ count → count ≤ i → Run k c i count hs
-running-end k c i count hs s a b = record { order = s .order; most = a; same = s .same; ends = λ h. absurd (omega arith) }
+pub run-end : (k c i count : ℕ) (hs : List ℕ) → RunTo k c i hs → i ≤ count → count ≤ i → Run k c i count hs
+run-end k c i count hs s a b = record { order = s .order; most = a; same = s .same; ends = λ h. absurd (omega arith) }
 
 module _ (pixels : List ℕ) (k c i f : ℕ) (l ss : List ℕ) (e : f ≡ getD ss i 0) where
   pub unfit-beyond : length l ≤ f → Fit pixels k c i l ss false
@@ -81,18 +81,18 @@ module _ (pixels : List ℕ) (k c i f : ℕ) (l ss : List ℕ) (e : f ≡ getD s
         never = λ q. absurd (clash refl q);
       }
 
-pub record Counting (pixels : List ℕ) (k c i : ℕ) (o ss l : List ℕ) : Type 0 where
+pub record NodesNumbered (pixels : List ℕ) (k c i : ℕ) (o ss l : List ℕ) : Type 0 where
   pub order : c ≤ i
   pub size : length l ≡ length o
   pub from : (p : Picture) (fs m : List ℕ) → p .pixels ≡ pixels → Counted p k c c o fs ss m → Counted p k c i l fs ss m
 
-pub counting-start : (pixels : List ℕ) (k c : ℕ) (l ss : List ℕ) → Counting pixels k c c l ss l
-counting-start pixels k c l ss = record { order = omega arith; size = refl; from = λ p fs m e s. s }
+pub numbered-start : (pixels : List ℕ) (k c : ℕ) (l ss : List ℕ) → NodesNumbered pixels k c c l ss l
+numbered-start pixels k c l ss = record { order = omega arith; size = refl; from = λ p fs m e s. s }
 
-pub counting-turn :
-    (pixels : List ℕ) (k c i f : ℕ) (o ss l : List ℕ) → Counting pixels k c i o ss l → i < 1600 → Fit pixels k c i l ss true → f ≡ getD ss i 0 →
-    Counting pixels k c (i + 1) o ss (set l f (2048 + i))
-counting-turn pixels k c i f o ss l s b t e =
+pub numbered-turn :
+    (pixels : List ℕ) (k c i f : ℕ) (o ss l : List ℕ) → NodesNumbered pixels k c i o ss l → i < 1600 → Fit pixels k c i l ss true → f ≡ getD ss i 0 →
+    NodesNumbered pixels k c (i + 1) o ss (set l f (2048 + i))
+numbered-turn pixels k c i f o ss l s b t e =
     let a = s .order in
     record {
       order = omega arith;
@@ -105,15 +105,15 @@ counting-turn pixels k c i f o ss l s b t e =
     }
 
 -- the place of a lent first place that fits
-pub counting-within : (pixels : List ℕ) (k c i f : ℕ) (o ss l : List ℕ) → CountReady pixels k c o ss → Counting pixels k c i o ss l → Fit pixels k c i l ss true → f ≡ getD ss i 0 → f < length l
-counting-within pixels k c i f o ss l r s t e =
+pub numbered-within : (pixels : List ℕ) (k c i f : ℕ) (o ss l : List ℕ) → CountReady pixels k c o ss → NodesNumbered pixels k c i o ss l → Fit pixels k c i l ss true → f ≡ getD ss i 0 → f < length l
+numbered-within pixels k c i f o ss l r s t e =
     let h = s .from (r .p) (r .fs) (r .m) (r .is) (r .counted) in
     let z = h .size in
     let w = t .yes refl (r .p) (record { is = r .is; size = z }) .within in
     omega arith
 
-pub counting-fails : (pixels : List ℕ) (k c d i : ℕ) (o ss l u : List ℕ) → Counting pixels k c i o ss l → i < d → Fit pixels k c i l ss false → NodesChecked pixels k c d o ss u false
-counting-fails pixels k c d i o ss l u s b t =
+pub numbered-fails : (pixels : List ℕ) (k c d i : ℕ) (o ss l u : List ℕ) → NodesNumbered pixels k c i o ss l → i < d → Fit pixels k c i l ss false → NodesChecked pixels k c d o ss u false
+numbered-fails pixels k c d i o ss l u s b t =
     record {
       yes = λ q. absurd (clash q refl);
       never =
@@ -122,8 +122,8 @@ counting-fails pixels k c d i o ss l u s b t =
           t .never refl p (record { is = e; size = h .size }) (tree-fits p k c i l fs ss m h d count hs run b tree);
     }
 
-pub counting-end : (pixels : List ℕ) (k c d i : ℕ) (o ss l : List ℕ) → Counting pixels k c i o ss l → i ≡ d → NodesChecked pixels k c d o ss l true
-counting-end pixels k c d i o ss l s e =
+pub numbered-end : (pixels : List ℕ) (k c d i : ℕ) (o ss l : List ℕ) → NodesNumbered pixels k c i o ss l → i ≡ d → NodesChecked pixels k c d o ss l true
+numbered-end pixels k c d i o ss l s e =
     record {
       yes = λ q p fs m g h. subst (λ (z : ℕ). Counted p k c z l fs ss m) e (s .from p fs m g h);
       never = λ q. absurd (clash refl q);
@@ -177,23 +177,23 @@ module _ (pixels : List ℕ) (k x v : ℕ) (l m : List ℕ) (b : x < length l) (
         }
 
 -- the lent map of the pixels before x is checked
-pub record Mapping (pixels : List ℕ) (k x : ℕ) (o m l : List ℕ) : Type 0 where
+pub record MapCheckedTo (pixels : List ℕ) (k x : ℕ) (o m l : List ℕ) : Type 0 where
   pub size : length l ≡ length o
   pub most : x ≤ length o
   pub from :
       (p : Picture) (c d : ℕ) (fs ss : List ℕ) → p .pixels ≡ pixels → Matched p k c d 0 o fs ss m → Matched p k c d x l fs ss m
 
-pub mapping-start : (pixels : List ℕ) (k : ℕ) (l m : List ℕ) → Mapping pixels k 0 l m l
-mapping-start pixels k l m = record { size = refl; most = omega arith; from = λ p c d fs ss e s. s }
+pub map-start : (pixels : List ℕ) (k : ℕ) (l m : List ℕ) → MapCheckedTo pixels k 0 l m l
+map-start pixels k l m = record { size = refl; most = omega arith; from = λ p c d fs ss e s. s }
 
-pub mapping-ready : (pixels : List ℕ) (k x : ℕ) (o m l : List ℕ) → MapReady pixels k 0 o m → Mapping pixels k x o m l → Parents l
-mapping-ready pixels k x o m l r s =
+pub map-ready : (pixels : List ℕ) (k x : ℕ) (o m l : List ℕ) → LentMapReady pixels k 0 o m → MapCheckedTo pixels k x o m l → Parents l
+map-ready pixels k x o m l r s =
     forest-parents (s .from (r .p) (r .c) (r .d) (r .fs) (r .ss) (r .is) (r .matched) .counted .forest)
 
-pub mapping-turn :
-    (pixels : List ℕ) (k x : ℕ) (o m l u : List ℕ) (b : Bool) → Mapping pixels k x o m l → x < length l → MapChecked pixels k x (x + 1) l m u b → b ≡ true →
-    length u ≡ length l → Mapping pixels k (x + 1) o m u
-mapping-turn pixels k x o m l u b s h t e z =
+pub map-turn :
+    (pixels : List ℕ) (k x : ℕ) (o m l u : List ℕ) (b : Bool) → MapCheckedTo pixels k x o m l → x < length l → MapChecked pixels k x (x + 1) l m u b → b ≡ true →
+    length u ≡ length l → MapCheckedTo pixels k (x + 1) o m u
+map-turn pixels k x o m l u b s h t e z =
     let a = s .size in
     record {
       size = z ∙ s .size;
@@ -201,17 +201,17 @@ mapping-turn pixels k x o m l u b s h t e z =
       from = λ p c d fs ss g q. t .yes e p c d fs ss g (s .from p c d fs ss g q);
     }
 
-pub mapping-fails :
-    (pixels : List ℕ) (k x : ℕ) (o m l u : List ℕ) (b : Bool) → Mapping pixels k x o m l → MapChecked pixels k x (x + 1) l m u b → b ≡ false →
+pub map-fails :
+    (pixels : List ℕ) (k x : ℕ) (o m l u : List ℕ) (b : Bool) → MapCheckedTo pixels k x o m l → MapChecked pixels k x (x + 1) l m u b → b ≡ false →
     MapChecked pixels k 0 (length o) o m u false
-mapping-fails pixels k x o m l u b s t e =
+map-fails pixels k x o m l u b s t e =
     record {
       yes = λ q. absurd (clash q refl);
       never = λ q p c d fs ss g i. t .never e p c d fs ss g (s .from p c d fs ss g i);
     }
 
-pub mapping-end : (pixels : List ℕ) (k x : ℕ) (o m l : List ℕ) → Mapping pixels k x o m l → length l ≤ x → MapChecked pixels k 0 (length o) o m l true
-mapping-end pixels k x o m l s h =
+pub map-end : (pixels : List ℕ) (k x : ℕ) (o m l : List ℕ) → MapCheckedTo pixels k x o m l → length l ≤ x → MapChecked pixels k 0 (length o) o m l true
+map-end pixels k x o m l s h =
     let a = s .size in
     let b = s .most in
     record {

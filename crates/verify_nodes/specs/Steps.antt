@@ -46,7 +46,7 @@ pub record Counted (p : Picture) (k c i : ℕ) (l fs ss m : List ℕ) : Type 0 w
   pub either : (y : ℕ) → y < places p → root y ≡ y → Member (λ j. getD ss j 0) c i y ⊎ (new y ≡ st y)
 
 -- the tests that the lent first place of the node i passes: a place of value at most k, above the one before it, a root without a number
-pub record Fits (p : Picture) (k c i : ℕ) (l ss : List ℕ) : Type 0 where
+pub record NodeFits (p : Picture) (k c i : ℕ) (l ss : List ℕ) : Type 0 where
   pub within : getD ss i 0 < places p
   pub low : valueAt p (getD ss i 0) ≤ k
   pub above : c < i → getD ss (i - 1) 0 < getD ss i 0
@@ -65,8 +65,8 @@ pub record Frame (p : Picture) (pixels l : List ℕ) : Type 0 where
 
 -- the answer whether the lent first place of the node i passes its tests
 pub record Fit (pixels : List ℕ) (k c i : ℕ) (l ss : List ℕ) (b : Bool) : Type 0 where
-  pub yes : b ≡ true → (p : Picture) → Frame p pixels l → Fits p k c i l ss
-  pub never : b ≡ false → (p : Picture) → Frame p pixels l → Fits p k c i l ss → ⊥
+  pub yes : b ≡ true → (p : Picture) → Frame p pixels l → NodeFits p k c i l ss
+  pub never : b ≡ false → (p : Picture) → Frame p pixels l → NodeFits p k c i l ss → ⊥
 
 -- some picture's roots of height k can be counted
 pub record CountReady (pixels : List ℕ) (k c : ℕ) (l ss : List ℕ) : Type 0 where
@@ -84,7 +84,7 @@ pub record NodesChecked (pixels : List ℕ) (k c d : ℕ) (o ss l : List ℕ) (b
       (count : ℕ) (hs : List ℕ) → Run k c d count hs → HoldsTree p count hs fs ss m → ⊥
 
 -- some picture's lent map can be checked from x on
-pub record MapReady (pixels : List ℕ) (k x : ℕ) (l m : List ℕ) : Type 0 where
+pub record LentMapReady (pixels : List ℕ) (k x : ℕ) (l m : List ℕ) : Type 0 where
   pub p : Picture
   pub c : ℕ
   pub d : ℕ

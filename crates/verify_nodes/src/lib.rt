@@ -7,7 +7,7 @@ use union_find::find;
 ghost use Prim.Native.Nat.{_<_, _≤_, _+_};
 ghost use lib.ListN.{length};
 ghost use Rattle.tree_laws.proofs.Forests.{Parents};
-ghost use Rattle.verify_nodes.specs.Steps.{Run, Fit, CountReady, NodesChecked, MapReady, MapChecked};
+ghost use Rattle.verify_nodes.specs.Steps.{Run, Fit, CountReady, NodesChecked, LentMapReady, MapChecked};
 
 // The end of the lent heights k from c on.
 pub fn run_end(heights: &[u8], k: usize, c: usize, count: usize) -> usize
@@ -94,7 +94,7 @@ fn check_map_one(pixels: &[u8], map: &[u16], cells: &mut [u16], k: usize, x: usi
 
 // The lent nodes of the pixels of value k are those that their roots say.
 pub fn check_map(pixels: &[u8], map: &[u16], cells: &mut [u16], k: usize) -> bool
-    requires { ⌜ MapReady (now pixels) k 0 (now cells) (now map) ⌝ }
+    requires { ⌜ LentMapReady (now pixels) k 0 (now cells) (now map) ⌝ }
     requires { ⌜ (length (now cells) ≤ length (now map)) × (length (now cells) ≤ length (now pixels)) ⌝ }
     ensures { λ r. ⌜ MapChecked (now (pixels .entry)) k 0 (length (now (cells .entry))) (now (cells .entry)) (now (map .entry)) (now (cells .exit)) r ⌝ }
 {

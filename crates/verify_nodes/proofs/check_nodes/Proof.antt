@@ -1,5 +1,5 @@
 -- `verify_nodes::check_nodes` meets its contract.
-use Rattle.verify_nodes.proofs.Steps.{Counting, counting-start, counting-turn, counting-within, counting-fails, counting-end, fit-is}
+use Rattle.verify_nodes.proofs.Steps.{NodesNumbered, numbered-start, numbered-turn, numbered-within, numbered-fails, numbered-end, fit-is}
 use borrow.Author.Tests.{not-true, not-false}
 use native.Mathlib.Omega.{arith}
 use Prim.Native.Nat.{_-_, _≤_}
@@ -8,13 +8,13 @@ use Rattle.verify_nodes.proofs.check_nodes.Statement.{statement}
 use Rattle.verify_nodes.proofs.check_nodes.Tie as tie
 
 abbrev Inv-loop : tie.InvT-loop
-Inv-loop pixels firsts cells₀ k c d i₀ cells i = Counting pixels k c i cells₀ firsts cells × (i ≤ d)
+Inv-loop pixels firsts cells₀ k c d i₀ cells i = NodesNumbered pixels k c i cells₀ firsts cells × (i ≤ d)
 
 abbrev μ-loop : tie.MeasureT-loop
 μ-loop pixels firsts cells₀ k c d i₀ cells i = d - i
 
 loop-holds : tie.Need-loop-holds Inv-loop μ-loop
-loop-holds c = (counting-start _ _ _ _ _, c .before .before .before .pre .0 .1)
+loop-holds c = (numbered-start _ _ _ _ _, c .before .before .before .pre .0 .1)
 
 node-fits-requires : tie.Need-node-fits-requires Inv-loop μ-loop
 node-fits-requires c κs = let s = c .before .before .before .before .before .before .pre in
@@ -27,7 +27,7 @@ same-length c = c .before .before .before .before .loop .inv .0 .size
 
 returns : tie.Need-returns Inv-loop μ-loop
 returns c = let t = c .before .node-fits in
-    counting-fails _ _ _ _ _ _ _ _ _ (c .before .before .before .before .loop .inv .0) (c .before .before .before .loop-test .taken) (fit-is (not-true (t .result) (c .if1 .taken)) (t .ensures))
+    numbered-fails _ _ _ _ _ _ _ _ _ (c .before .before .before .before .loop .inv .0) (c .before .before .before .loop-test .taken) (fit-is (not-true (t .result) (c .if1 .taken)) (t .ensures))
 
 cast-cells : tie.Need-cast-cells Inv-loop μ-loop
 cast-cells c = search needs
@@ -48,11 +48,11 @@ wide-requires c κs = search needs
 mul-cells : tie.Need-mul-cells Inv-loop μ-loop
 mul-cells c = let t = c .before .before .before .node-fits in
     let i = c .before .before .before .before .before .before .loop .inv .0 in
-    omega (arith, i .size, c .before .before .before .before .before .before .before .before .before .before .pre .0 .3, counting-within _ _ _ _ _ _ _ _ (c .before .before .before .before .before .before .before .before .before .before .pre .0 .0) i (fit-is (not-false (t .result) (c .before .before .if1 .left)) (t .ensures)) (c .wide .ensures))
+    omega (arith, i .size, c .before .before .before .before .before .before .before .before .before .before .pre .0 .3, numbered-within _ _ _ _ _ _ _ _ (c .before .before .before .before .before .before .before .before .before .before .pre .0 .0) i (fit-is (not-false (t .result) (c .before .before .if1 .left)) (t .ensures)) (c .wide .ensures))
 
 slice-write-cells : tie.Need-slice-write-cells Inv-loop μ-loop
 slice-write-cells c = let t = c .before .before .before .node-fits in
-    counting-within _ _ _ _ _ _ _ _ (c .before .before .before .before .before .before .before .before .before .before .pre .0 .0) (c .before .before .before .before .before .before .loop .inv .0) (fit-is (not-false (t .result) (c .before .before .if1 .left)) (t .ensures)) (c .wide .ensures)
+    numbered-within _ _ _ _ _ _ _ _ (c .before .before .before .before .before .before .before .before .before .before .pre .0 .0) (c .before .before .before .before .before .before .loop .inv .0) (fit-is (not-false (t .result) (c .before .before .if1 .left)) (t .ensures)) (c .wide .ensures)
 
 add-i : tie.Need-add-i Inv-loop μ-loop
 add-i c = search needs
@@ -64,14 +64,14 @@ loop-again : tie.Need-loop-again Inv-loop μ-loop
 loop-again c = let t = c .before .before .before .node-fits in
     let s = c .before .before .before .before .before .before .before .before .before .before .pre in
     let b = c .before .before .before .before .before .loop-test .taken in
-    (counting-turn _ _ _ _ _ _ _ _ (c .before .before .before .before .before .before .loop .inv .0) (omega (arith, s .0 .2, s .0 .3)) (fit-is (not-false (t .result) (c .before .before .if1 .left)) (t .ensures)) (c .wide .ensures), search needs)
+    (numbered-turn _ _ _ _ _ _ _ _ (c .before .before .before .before .before .before .loop .inv .0) (omega (arith, s .0 .2, s .0 .3)) (fit-is (not-false (t .result) (c .before .before .if1 .left)) (t .ensures)) (c .wide .ensures), search needs)
 
 same-length-2 : tie.Need-same-length-2 Inv-loop μ-loop
 same-length-2 c = c .before .loop .inv .0 .size
 
 returns-2 : tie.Need-returns-2 Inv-loop μ-loop
 returns-2 c = let i = c .before .loop .inv in
-    counting-end _ _ _ _ _ _ _ _ (i .0) (omega (arith, i .1, c .loop-test .left))
+    numbered-end _ _ _ _ _ _ _ _ (i .0) (omega (arith, i .1, c .loop-test .left))
 
 pub check-nodes-spec : {M : Type 1} → statement M
 check-nodes-spec =
