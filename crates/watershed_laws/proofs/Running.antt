@@ -18,7 +18,7 @@ use Rattle.lists.proofs.Tests.{on-pick, on-test, clash}
 use Rattle.topology.proofs.Keeping.{Lowers, Fallen}
 use Rattle.topology.proofs.Adjacency.{Adj, adj-sym, adj-irreflexive}
 use Rattle.topology.proofs.Bridge.{lowerable-above, lowerable-lowers, lowers-lowerable}
-use Rattle.topology.proofs.Climb.{Meet, same, left, right}
+use Rattle.topology.proofs.Climb.{Meet, meet-same}
 use Rattle.topology.proofs.Water.{less}
 use Rattle.watershed_laws.proofs.Oracle.{Oracle, Stops, Drops, stops-drops, stops-there, drops-wakes, drops-oracle}
 use Rattle.watershed_laws.proofs.Falls.{First, fall-water}
@@ -116,22 +116,6 @@ total-less [] x s h l = absurd (omega arith)
 total-less (y ∷ ys) zero s h l = omega arith
 total-less (y ∷ ys) (suc x) s h l = let r = total-less ys x s (omega arith) l in omega arith
 
--- a climb in other cells that agree on the fathers of the nodes
-climb-same :
-    (m : ℕ) (P Q : ℕ → ℕ) → ((i : ℕ) → i < m → P i ≡ Q i) → ((i : ℕ) → suc i < m → Q i < m) →
-    {a b r : ℕ} → a < m → b < m → Meet P a b r → Meet Q a b r × (r < m)
-climb-same m P Q e f ha hb same = (same, ha)
-climb-same m P Q e f {a} {b} {r} ha hb (left l n) =
-    let q = e a ha in
-    let c = f a (omega arith) in
-    let (u, h) = climb-same m P Q e f (subst (λ (j : ℕ). j < m) (sym q) c) hb n in
-    (left l (subst (λ (j : ℕ). Meet Q j b r) q u), h)
-climb-same m P Q e f {a} {b} {r} ha hb (right l n) =
-    let q = e b hb in
-    let c = f b (omega arith) in
-    let (u, h) = climb-same m P Q e f ha (subst (λ (j : ℕ). j < m) (sym q) c) n in
-    (right l (subst (λ (j : ℕ). Meet Q a j r) q u), h)
-
 -- the map's entry of x becomes that of low
 module _ (n : ℕ) (tree : List ℕ) (c : Climbs n tree) (x low : ℕ) (hx : x < n) (hl : low < n) where
   abbrev mapped-as : List ℕ
@@ -189,7 +173,7 @@ module _ (n : ℕ) (tree : List ℕ) (c : Climbs n tree) (x low : ℕ) (hx : x <
       let m₁ = subst (λ (j : ℕ). Meet (λ i. getD mapped-as (n + i) 0) j (getD mapped-as (2 * n + z) 0) (q .node)) (map-entry y (q .first)) (q .meet) in
       let m₂ = subst (λ (j : ℕ). Meet (λ i. getD mapped-as (n + i) 0) (getD tree (2 * n + answers y) 0) j (q .node)) (map-entry z (q .second)) m₁ in
       let (m₃, r) =
-      climb-same (c .count) (λ i. getD mapped-as (n + i) 0) (λ i. getD tree (n + i) 0)
+      meet-same (c .count) (λ i. getD mapped-as (n + i) 0) (λ i. getD tree (n + i) 0)
       (λ i l. map-before (n + i) (omega arith))
       (λ i l. c .rises i l .1)
       (c .mapped (answers y) hy) (c .mapped (answers z) hz) m₂
