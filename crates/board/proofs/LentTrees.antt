@@ -21,7 +21,7 @@ use Rattle.topology.proofs.TreeLists.{length-heights, length-fathers, length-fi
 use Rattle.tree_lists.specs.Lists.{Rooms, InFront}
 use Rattle.lent_tree.specs.Lent.{HoldsTree}
 use Rattle.verify.specs.Checked.{Says}
-use Rattle.lent_tree.specs.Climbs.{PassReady}
+use Rattle.lent_tree.specs.Passes.{PassReady}
 use Rattle.faults.specs.Faults.{outputFault}
 use Rattle.answers.specs.Answers.{over, afterCall}
 use Rattle.board.specs.Trees.{begins, isTree, shortest, treeFaultOf, placesFaultOf, checkedFault, TreeLent}
@@ -168,13 +168,14 @@ no-places-fault p hs fs ss m q x y e =
 -- a tree and two places of its picture, ready for the pass
 pub pass-ready :
     (p : Picture) (count : ℕ) (hs fs ss m : List ℕ) (x y : ℕ) → TreeLent 0 p hs fs ss m → isTree p count hs fs ss m ≡ true → x < places p → y < places p →
-    PassReady (p .pixels) count hs fs m x y
+    PassReady (p .pixels) hs fs m x y
 pass-ready p count hs fs ss m x y l e bx by =
     let t = tree-entries p count hs fs ss m e in
     let few = nodes-few p in
     let c = t .total in
     record {
       p = p;
+      count = count;
       ss = ss;
       ok = l .accepted refl;
       is = refl;

@@ -158,15 +158,7 @@ pub fn pass_between(
     if fault != 0 {
         return refused(fault);
     }
-    let height = pass(
-        pixels,
-        count as usize,
-        heights,
-        fathers,
-        map,
-        x as usize,
-        y as usize,
-    );
+    let height = pass(pixels, heights, fathers, map, x as usize, y as usize);
     finish(work, pixels.len(), height as u32)
 }
 

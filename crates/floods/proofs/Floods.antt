@@ -170,7 +170,7 @@ module _ (p : Picture) (k x c : ℕ) where
 
     -- what lies on the stack is a place
     pub flowing-top : getD after r 0 < places p
-    flowing-top = conn-target (flooding-top .sound (getD after r 0) (flooding-top .stack r (omega arith))) .within
+    flowing-top = conn-target (flooding-top .sound (getD after r 0) (flooding-top .search .stack (getD after r 0) (r, omega arith, refl))) .within
 
     pub flowing-room : Room (places p) (p .pixels) m after r
     flowing-room =

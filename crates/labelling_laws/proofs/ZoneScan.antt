@@ -20,7 +20,7 @@ use Rattle.topology.proofs.Reached.{firstAt, first-joined, first-least}
 use Rattle.lists.proofs.Positions.{tally-next-in, tally-next-out}
 use Rattle.topology.proofs.Leaves.{leafAt, bottom, bottom-is, is-bottom}
 use Rattle.topology.proofs.PatchFigures.{patches-count}
-use Rattle.labelling_laws.proofs.Zones.{Flat, Zone, Flooded, zone-joined, zone-whole, zone-leaf, lower-no-leaf}
+use Rattle.labelling_laws.proofs.Zones.{Flat, Zone, ZoneFlooded, zone-joined, zone-whole, zone-leaf, lower-no-leaf}
 
 -- how many places are not visited
 abbrev pub unvisited : List ℕ → ℕ
@@ -89,7 +89,7 @@ module _ (p : Picture) where
           let (z, l, d) = s .seen y (conn-target c .within) m in
           absurd (s .done z x l (zone-back d c) new))
 
-      module _ (after : List ℕ) (low : Bool) (f : Flooded p (valueAt p x) x cells after low) where
+      module _ (after : List ℕ) (low : Bool) (f : ZoneFlooded p (valueAt p x) x cells after low) where
         flooded-scan : (q : ℕ) → q ≡ tally (bottom p) (range 0 (suc x)) → Scanned p (suc x) q after
         flooded-scan q e =
             record {

@@ -1,2 +1,2 @@
--- Laws of the climb.
-pub mod Climbs
+-- Laws of the pass.
+pub mod Passes

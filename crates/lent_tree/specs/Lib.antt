@@ -1,3 +1,3 @@
 -- A lent tree, and the pass read off it.
 pub mod Lent
-pub mod Climbs
+pub mod Passes

@@ -18,7 +18,7 @@ use Rattle.lists.proofs.Lists.{in-mem, tally-length, length-range}
 use Rattle.lists.proofs.Cuts.{drop-all}
 use Rattle.topology.proofs.Connected.{start, conn-target}
 use Rattle.topology.proofs.Adjacency.{Adj}
-use Rattle.labelling_laws.proofs.Zones.{Flat, Flooding, Flooded, flood-start, flood-pop, flood-done, flood-lower, flood-higher, flood-visited, flood-visit, flood-end}
+use Rattle.labelling_laws.proofs.Zones.{Flat, ZoneFlooding, ZoneFlooded, zone-start, zone-pop, zone-done, zone-lower, zone-higher, zone-level, zone-visit, zone-end}
 use Rattle.labelling_laws.proofs.ZoneScan.{unvisited-set, Scanned, scan-start, scan-seen, scan-fresh, scan-lower, scan-minimum, scan-end}
 use Rattle.topology.proofs.Leaves.{bottom}
 use Rattle.topology.proofs.Accepted.{accepted-is, places-bound}
@@ -40,7 +40,7 @@ module _ (pixels : List ℕ) (k y : ℕ) (cells : List ℕ) (s : Stack) (room : 
         moved = record { size = refl; link = room .link; room = omega arith; less = omega arith };
         follows =
             λ p x q before zs e b r f.
-            flood-lower p k x before cells (s .top) (s .height) (s .low) q y zs f r b
+            zone-lower p k x before cells (s .top) (s .height) (s .low) q y zs f r b
             (let v = value-in p e in omega arith);
       }
 
@@ -50,7 +50,7 @@ module _ (pixels : List ℕ) (k y : ℕ) (cells : List ℕ) (s : Stack) (room : 
         moved = stays;
         follows =
             λ p x q before zs e b r f.
-            flood-higher p k x before cells (s .top) (s .height) (s .low) q y zs f (let v = value-in p e in omega arith);
+            zone-higher p k x before cells (s .top) (s .height) (s .low) q y zs f (let v = value-in p e in omega arith);
       }
 
   pub visit-visited : getD pixels y 0 ≡ k → getD cells y 0 ≢ 65535 → Visit pixels k y cells s cells s
@@ -59,7 +59,7 @@ module _ (pixels : List ℕ) (k y : ℕ) (cells : List ℕ) (s : Stack) (room : 
         moved = stays;
         follows =
             λ p x q before zs e b r f.
-            flood-visited p k x before cells (s .top) (s .height) (s .low) q y zs f (value-in p e ∙ h) m;
+            zone-level p k x before cells (s .top) (s .height) (s .low) q y zs f (value-in p e ∙ h) m;
       }
 
   pub visit-new :
@@ -75,8 +75,8 @@ module _ (pixels : List ℕ) (k y : ℕ) (cells : List ℕ) (s : Stack) (room : 
         moved = record { size = length-set cells y (s .top); link = d; room = omega arith; less = omega arith };
         follows =
             λ p x q before zs e i r f.
-            subst (λ (t : ℕ). Flooding p k x before (set cells y (s .top)) y t (s .low) q zs) (sym (add-one (s .height)))
-            (flood-visit p k x before cells (s .top) (s .height) (s .low) q y zs f r i (value-in p e ∙ h) m c d);
+            subst (λ (t : ℕ). ZoneFlooding p k x before (set cells y (s .top)) y t (s .low) q zs) (sym (add-one (s .height)))
+            (zone-visit p k x before cells (s .top) (s .height) (s .low) q y zs f r i (value-in p e ∙ h) m c d);
       }
 
 module _ (p : Picture) (k q : ℕ) where
@@ -140,15 +140,14 @@ module _ (p : Picture) (k q : ℕ) where
       record {
         moved = subst (λ (x : ℕ). Moved cells (popped cells x s) after r) e (f .moved);
         follows =
-            λ x before a w.
-            flood-done p k x before after (r .top) (r .height) (r .low)
+            λ x before w.
+            zone-done p k x before after (r .top) (r .height) (r .low)
             (subst (λ (zs : List ℕ). Floods p k x before after r q zs) none
             (f .follows x before
-            (flood-pop p k x before cells q (s .height - 1) (s .low) (neighboursIn p q)
-            (subst (λ (z : ℕ). Flooding p k x before cells z (suc (s .height - 1)) (s .low) x []) (sym e)
-            (subst (λ (t : ℕ). Flooding p k x before cells (s .top) t (s .low) x []) up w))
-            (λ z b g. in-mem z (neighboursIn p q) (neighbours-touch p q z some .1 (b, g))))))
-            a;
+            (zone-pop p k x before cells q (s .height - 1) (s .low) (neighboursIn p q)
+            (subst (λ (z : ℕ). ZoneFlooding p k x before cells z (suc (s .height - 1)) (s .low) x []) (sym e)
+            (subst (λ (t : ℕ). ZoneFlooding p k x before cells (s .top) t (s .low) x []) up w))
+            (λ z b g. in-mem z (neighboursIn p q) (neighbours-touch p q z some .1 (b, g))))));
       }
     where
       up : s .height ≡ suc (s .height - 1)
@@ -160,7 +159,6 @@ module _ (p : Picture) (k q : ℕ) where
 -- a flood of the zone of x as it runs
 pub record Running (p : Picture) (k x : ℕ) (before cells : List ℕ) (s : Stack) : Type 0 where
   pub room : Room (p .pixels) cells s
-  pub flat : Flat p k x
   pub flooding : Floods p k x before cells s x []
 
 module _ (p : Picture) (x : ℕ) where
@@ -187,16 +185,15 @@ module _ (p : Picture) (x : ℕ) where
               link = d;
               room = omega arith;
             };
-        flat = flat;
         flooding =
-            subst (λ (l : List ℕ). Flooding p (valueAt p x) x l (set cells x 65534) x 1 false x []) (sym (before-start cells new))
-            (flood-start p (valueAt p x) x cells flat h d (f .fresh));
+            subst (λ (l : List ℕ). ZoneFlooding p (valueAt p x) x l (set cells x 65534) x 1 false x []) (sym (before-start cells new))
+            (zone-start p (valueAt p x) x cells flat h d (f .fresh));
       }
 
   module _ (k : ℕ) (before cells : List ℕ) (s : Stack) (f : Running p k x before cells s) where
     -- what lies on the stack is a place that is visited
     pub running-top : 1 ≤ s .height → (s .top < places p) × (getD cells (s .top) 0 ≢ 65535)
-    running-top h = let (c, m) = f .flooding .stack 0 (omega arith) in (conn-target c .within, m)
+    running-top h = let (c, m) = f .flooding .search .stack (s .top) (0, omega arith, refl) in (conn-target c .within, m)
 
     pub running-turn : (after : List ℕ) (r : Stack) → 1 ≤ s .height → Turn p k cells s after r → Running p k x before after r
     running-turn after r h t =
@@ -210,18 +207,17 @@ module _ (p : Picture) (x : ℕ) where
                 link = t .moved .link;
                 room = omega arith;
               };
-          flat = f .flat;
-          flooding = t .follows x before (f .flat) (f .flooding);
+          flooding = t .follows x before (f .flooding);
         }
 
   pub running-end :
       (cells after : List ℕ) (s : Stack) → Seed p x cells → x < places p → s .height ≡ 0 →
-      Running p (valueAt p x) x (set (set cells x 65534) x 65535) after s → Flooded p (valueAt p x) x cells after (s .low)
+      Running p (valueAt p x) x (set (set cells x 65534) x 65535) after s → ZoneFlooded p (valueAt p x) x cells after (s .low)
   running-end cells after s g b e f =
-      let new = g .fresh x (start (f .flat)) in
-      subst (λ (l : List ℕ). Flooded p (valueAt p x) x l after (s .low)) (before-start cells new)
-      (flood-end p (valueAt p x) x (set (set cells x 65534) x 65535) after (s .top) (s .low)
-      (subst (λ (t : ℕ). Flooding p (valueAt p x) x (set (set cells x 65534) x 65535) after (s .top) t (s .low) x []) e (f .flooding)))
+      let new = g .fresh x (f .flooding .search .seed .0) in
+      subst (λ (l : List ℕ). ZoneFlooded p (valueAt p x) x l after (s .low)) (before-start cells new)
+      (zone-end p (valueAt p x) x (set (set cells x 65534) x 65535) after (s .top) (s .low)
+      (subst (λ (t : ℕ). ZoneFlooding p (valueAt p x) x (set (set cells x 65534) x 65535) after (s .top) t (s .low) x []) e (f .flooding)))
 
 -- the steps of the count
 module _ (p : Picture) (x r : ℕ) (cells : List ℕ) (c : Counting p x r cells) (b : x < places p) where
@@ -259,7 +255,7 @@ module _ (p : Picture) (x r : ℕ) (cells : List ℕ) (c : Counting p x r cells)
   pub counting-seen : getD cells x 0 ≢ 65535 → Counting p (x + 1) r cells
   counting-seen m = counted r cells refl (scan-seen p x r cells b (c .scanned) m)
 
-  module _ (new : getD cells x 0 ≡ 65535) (after : List ℕ) (low : Bool) (f : Flooded p (valueAt p x) x cells after low) (e : length after ≡ length cells) where
+  module _ (new : getD cells x 0 ≡ 65535) (after : List ℕ) (low : Bool) (f : ZoneFlooded p (valueAt p x) x cells after low) (e : length after ≡ length cells) where
     pub counting-lower : low ≡ true → Counting p (x + 1) r after
     counting-lower l = counted r after e (scan-lower p x r cells b (c .scanned) new after low f l)
 

@@ -7,7 +7,7 @@ use Prim.Native.Nat.{ℕ, _+_, _-_, _≤_, _<_}
 use lib.ListN.{length, getD}
 use Rattle.picture.specs.Pictures.{Picture, places, valueAt, isPicture}
 use Rattle.topology.proofs.Adjacency.{Adj}
-use Rattle.labelling_laws.proofs.Zones.{Flat, Zone, Flooding}
+use Rattle.labelling_laws.proofs.Zones.{Zone, ZoneFlooding}
 use Rattle.labelling_laws.proofs.ZoneScan.{unvisited, Scanned}
 use Rattle.minima.specs.declared.Stack.{Stack}
 
@@ -35,7 +35,7 @@ popped cells x s = record { top = getD cells x 0; height = s .height - 1; low = 
 
 -- the flood of the zone of x with its stack, while the edges from q to the places zs are followed
 abbrev pub Floods : Picture → ℕ → ℕ → List ℕ → List ℕ → Stack → ℕ → List ℕ → Type 0
-Floods p k x before cells s q zs = Flooding p k x before cells (s .top) (s .height) (s .low) q zs
+Floods p k x before cells s q zs = ZoneFlooding p k x before cells (s .top) (s .height) (s .low) q zs
 
 -- the edge to y is followed in every flood that has it next
 pub record Visit (pixels : List ℕ) (k y : ℕ) (cells : List ℕ) (s : Stack) (after : List ℕ) (r : Stack) : Type 0 where
@@ -52,8 +52,7 @@ pub record Spread (p : Picture) (k q : ℕ) (zs us cells : List ℕ) (s : Stack)
 -- the top is taken off the stack and all its edges are followed
 pub record Turn (p : Picture) (k : ℕ) (cells : List ℕ) (s : Stack) (after : List ℕ) (r : Stack) : Type 0 where
   pub moved : Moved cells (popped cells (s .top) s) after r
-  pub follows :
-      (x : ℕ) (before : List ℕ) → Flat p k x → Floods p k x before cells s x [] → Floods p k x before after r x []
+  pub follows : (x : ℕ) (before : List ℕ) → Floods p k x before cells s x [] → Floods p k x before after r x []
 
 -- nothing of the zone of x is visited
 pub record Seed (p : Picture) (x : ℕ) (cells : List ℕ) : Type 0 where

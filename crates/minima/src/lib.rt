@@ -10,7 +10,7 @@ ghost use lib.ListN.{length, getD};
 ghost use Rattle.picture.specs.Pictures.{isPicture, pictureOf};
 ghost use Rattle.picture.specs.Geometry.{Placed};
 ghost use Rattle.picture.specs.Patches.{patches};
-ghost use Rattle.labelling_laws.proofs.Zones.{Flooded};
+ghost use Rattle.labelling_laws.proofs.Zones.{ZoneFlooded};
 ghost use Rattle.minima.specs.Minima.{Sizes, Room, Visit, Turn, Seed, Counting};
 
 // The cell of a place that no flood has visited.
@@ -76,7 +76,7 @@ fn spread(a: u32, w: u32, h: u32, pixels: &[u8], k: u8, cells: &mut [u16], stack
 // Visits the flat zone of the place x; answers whether it has a lower neighbour.
 fn flood(a: u32, w: u32, h: u32, pixels: &[u8], x: usize, cells: &mut [u16]) -> bool
     requires { ⌜ Placed w h x × Sizes (now pixels) (now cells) × (length (now pixels) ≡ w * h) × Seed (pictureOf a w h (now pixels)) x (now cells) ⌝ }
-    ensures { λ r. ⌜ Flooded (pictureOf a w h (now (pixels .entry))) (getD (now (pixels .entry)) x 0) x (now (cells .entry)) (now (cells .exit)) r ⌝ }
+    ensures { λ r. ⌜ ZoneFlooded (pictureOf a w h (now (pixels .entry))) (getD (now (pixels .entry)) x 0) x (now (cells .entry)) (now (cells .exit)) r ⌝ }
 {
     let k = pixels[x];
     cells[x] = BOTTOM;

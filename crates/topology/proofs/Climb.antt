@@ -31,6 +31,22 @@ pub data Meet (P : ℕ → ℕ) : ℕ → ℕ → ℕ → Type 0 where
   left : {a b r : ℕ} → a < b → Meet P (P a) b r → Meet P a b r
   right : {a b r : ℕ} → b < a → Meet P a (P b) r → Meet P a b r
 
+-- the same fathers of m nodes, the same climb; it ends at one of the nodes
+pub meet-same :
+    (m : ℕ) (P Q : ℕ → ℕ) → ((i : ℕ) → i < m → P i ≡ Q i) → ((i : ℕ) → suc i < m → Q i < m) →
+    {a b r : ℕ} → a < m → b < m → Meet P a b r → Meet Q a b r × (r < m)
+meet-same m P Q e f ha hb same = (same, ha)
+meet-same m P Q e f {a} {b} {r} ha hb (left l n) =
+    let q = e a ha in
+    let c = f a (omega arith) in
+    let (u, h) = meet-same m P Q e f (subst (λ (j : ℕ). j < m) (sym q) c) hb n in
+    (left l (subst (λ (j : ℕ). Meet Q j b r) q u), h)
+meet-same m P Q e f {a} {b} {r} ha hb (right l n) =
+    let q = e b hb in
+    let c = f b (omega arith) in
+    let (u, h) = meet-same m P Q e f ha (subst (λ (j : ℕ). j < m) (sym q) c) n in
+    (right l (subst (λ (j : ℕ). Meet Q a j r) q u), h)
+
 -- the father's number
 abbrev pub father : Picture → ℕ → ℕ
 father p i = fatherOf p (nodeAt p i)

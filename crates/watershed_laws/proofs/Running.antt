@@ -19,7 +19,7 @@ use Rattle.lists.proofs.Sums.{total-less}
 use Rattle.topology.proofs.Keeping.{Lowers, Fallen}
 use Rattle.topology.proofs.Adjacency.{Adj, adj-sym, adj-irreflexive}
 use Rattle.topology.proofs.Bridge.{lowerable-above, lowerable-lowers, lowers-lowerable}
-use Rattle.topology.proofs.Climb.{Meet, same, left, right}
+use Rattle.topology.proofs.Climb.{Meet, meet-same}
 use Rattle.topology.proofs.Water.{less, set-fallen}
 use Rattle.watershed_laws.proofs.Oracle.{Oracle, Stops, Drops, stops-drops, stops-there, drops-wakes, drops-oracle}
 use Rattle.watershed_laws.proofs.Falls.{First, fall-water}
@@ -105,22 +105,6 @@ pub record Turned (f : Picture) (g t g₁ tree₁ t₁ : List ℕ) (r : ℕ) : T
 decide-adj : (f : Picture) (y z : ℕ) → Adj f y z ⊎ (Adj f y z → ⊥)
 decide-adj f y z = on-test (touch f y z) (λ h. inl h) (λ h. inr (λ g. clash g h))
 
--- a climb in other cells that agree on the fathers of the nodes
-climb-same :
-    (m : ℕ) (P Q : ℕ → ℕ) → ((i : ℕ) → i < m → P i ≡ Q i) → ((i : ℕ) → suc i < m → Q i < m) →
-    {a b r : ℕ} → a < m → b < m → Meet P a b r → Meet Q a b r × (r < m)
-climb-same m P Q e f ha hb same = (same, ha)
-climb-same m P Q e f {a} {b} {r} ha hb (left l n) =
-    let q = e a ha in
-    let c = f a (omega arith) in
-    let (u, h) = climb-same m P Q e f (subst (λ (j : ℕ). j < m) (sym q) c) hb n in
-    (left l (subst (λ (j : ℕ). Meet Q j b r) q u), h)
-climb-same m P Q e f {a} {b} {r} ha hb (right l n) =
-    let q = e b hb in
-    let c = f b (omega arith) in
-    let (u, h) = climb-same m P Q e f ha (subst (λ (j : ℕ). j < m) (sym q) c) n in
-    (right l (subst (λ (j : ℕ). Meet Q a j r) q u), h)
-
 -- the map's entry of x becomes that of low
 module _ (n : ℕ) (tree : List ℕ) (c : Climbs n tree) (x low : ℕ) (hx : x < n) (hl : low < n) where
   abbrev mapped-as : List ℕ
@@ -178,7 +162,7 @@ module _ (n : ℕ) (tree : List ℕ) (c : Climbs n tree) (x low : ℕ) (hx : x <
       let m₁ = subst (λ (j : ℕ). Meet (λ i. getD mapped-as (n + i) 0) j (getD mapped-as (2 * n + z) 0) (q .node)) (map-entry y (q .first)) (q .meet) in
       let m₂ = subst (λ (j : ℕ). Meet (λ i. getD mapped-as (n + i) 0) (getD tree (2 * n + answers y) 0) j (q .node)) (map-entry z (q .second)) m₁ in
       let (m₃, r) =
-      climb-same (c .count) (λ i. getD mapped-as (n + i) 0) (λ i. getD tree (n + i) 0)
+      meet-same (c .count) (λ i. getD mapped-as (n + i) 0) (λ i. getD tree (n + i) 0)
       (λ i l. map-before (n + i) (omega arith))
       (λ i l. c .rises i l .1)
       (c .mapped (answers y) hy) (c .mapped (answers z) hz) m₂

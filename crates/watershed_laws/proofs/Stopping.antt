@@ -10,7 +10,7 @@ use Rattle.picture.specs.Pictures.{Picture, places, valueAt, withPixels}
 use Rattle.picture.specs.Geometry.{neighboursIn, Listed}
 use Rattle.picture.proofs.Neighbours.{neighbour-at, neighbour-index}
 use Rattle.topology.proofs.Adjacency.{Adj}
-use Rattle.topology.proofs.Climb.{Meet, same, left, right}
+use Rattle.topology.proofs.Climb.{Meet}
 use Rattle.watershed_laws.proofs.Oracle.{Stops}
 
 -- the cells hold heights, fathers and the map of a tree, n cells each, in which every climb meets
@@ -21,25 +21,6 @@ pub record Climbs (n : ℕ) (tree : List ℕ) : Type 0 where
   pub rises : (i : ℕ) → suc i < count → (i < getD tree (n + i) 0) × (getD tree (n + i) 0 < count)
   pub mapped : (x : ℕ) → x < n → getD tree (2 * n + x) 0 < count
 
--- two nodes from which a climb meets
-pub record Climbing (n : ℕ) (tree : List ℕ) (a b : ℕ) : Type 0 where
-  pub size : length tree ≡ 3 * n
-  pub count : ℕ
-  pub few : count ≤ n
-  pub rises : (i : ℕ) → suc i < count → (i < getD tree (n + i) 0) × (getD tree (n + i) 0 < count)
-  pub first : a < count
-  pub second : b < count
-
--- the climb from a and b meets at the node r
-pub record Met (n : ℕ) (tree : List ℕ) (a b r : ℕ) : Type 0 where
-  pub within : r < n
-  pub meet : Meet (λ i. getD tree (n + i) 0) a b r
-
--- on the way from a₀ and b₀ the climb is at a and b
-pub record Climbed (n : ℕ) (tree : List ℕ) (a₀ b₀ a b : ℕ) : Type 0 where
-  pub climbing : Climbing n tree a b
-  pub back : (r : ℕ) → Meet (λ i. getD tree (n + i) 0) a b r → Meet (λ i. getD tree (n + i) 0) a₀ b₀ r
-
 -- the climbs from the nodes of the places y and z meet at height h
 pub record Meets (n : ℕ) (tree : List ℕ) (y z h : ℕ) : Type 0 where
   pub first : y < n
@@ -47,56 +28,6 @@ pub record Meets (n : ℕ) (tree : List ℕ) (y z h : ℕ) : Type 0 where
   pub node : ℕ
   pub meet : Meet (λ i. getD tree (n + i) 0) (getD tree (2 * n + y) 0) (getD tree (2 * n + z) 0) node
   pub height : h ≡ getD tree node 0
-
-module _ (n : ℕ) (tree : List ℕ) where
-  pub climb-places : Climbs n tree → (y z : ℕ) → y < n → z < n → Climbing n tree (getD tree (2 * n + y) 0) (getD tree (2 * n + z) 0)
-  climb-places c y z hy hz =
-      record { size = c .size; count = c .count; few = c .few; rises = c .rises; first = c .mapped y hy; second = c .mapped z hz }
-
-  pub climb-start : (a b : ℕ) → Climbing n tree a b → Climbed n tree a b a b
-  climb-start a b c = record { climbing = c; back = λ r m. m }
-
-  module _ (a₀ b₀ a b : ℕ) (c : Climbed n tree a₀ b₀ a b) where
-    abbrev k : Climbing n tree a b
-    k = c .climbing
-
-    pub climb-left : a < b → Climbed n tree a₀ b₀ (getD tree (n + a) 0) b
-    climb-left h =
-        let e = k .second in
-        record {
-          climbing =
-              record { size = k .size; count = k .count; few = k .few; rises = k .rises; first = k .rises a (omega arith) .1; second = e };
-          back = λ r m. c .back r (left h m);
-        }
-
-    pub climb-right : b < a → Climbed n tree a₀ b₀ a (getD tree (n + b) 0)
-    climb-right h =
-        let e = k .first in
-        record {
-          climbing =
-              record { size = k .size; count = k .count; few = k .few; rises = k .rises; first = e; second = k .rises b (omega arith) .1 };
-          back = λ r m. c .back r (right h m);
-        }
-
-    pub climb-above : a < b → a < getD tree (n + a) 0
-    climb-above h = let e = k .second in k .rises a (omega arith) .0
-
-    pub climb-above-right : b < a → b < getD tree (n + b) 0
-    climb-above-right h = let e = k .first in k .rises b (omega arith) .0
-
-    -- both are below n
-    pub climb-within : (a < n) × (b < n)
-    climb-within = let e = k .first in let g = k .second in let f = k .few in (omega arith, omega arith)
-
-    pub climb-end : a ≡ b → Met n tree a₀ b₀ a
-    climb-end e =
-        record {
-          within = climb-within .0;
-          meet = c .back a (subst (λ (j : ℕ). Meet (λ i. getD tree (n + i) 0) a j a) e same);
-        }
-
-  pub met-height : (y z r : ℕ) → y < n → z < n → Met n tree (getD tree (2 * n + y) 0) (getD tree (2 * n + z) 0) r → Meets n tree y z (getD tree r 0)
-  met-height y z r hy hz m = record { first = hy; second = hz; node = r; meet = m .meet; height = refl }
 
 -- the first m cells of ys hold places
 pub record Places (n : ℕ) (ys : List ℕ) (m : ℕ) : Type 0 where

@@ -1,5 +1,5 @@
 -- The tree of a picture answers at which heights two places are joined.
-use mathlib.Core.Path.{_≡_, sym, subst}
+use mathlib.Core.Path.{_≡_, subst}
 use mathlib.Core.Logic.{_↔_}
 use Prim.Native.Nat.{ℕ, _≤_, _<_}
 use native.Mathlib.Omega.{arith}
@@ -9,7 +9,7 @@ use Rattle.picture.specs.Trees.{nodes, nodeAt, fatherOf, mapOf}
 use Rattle.topology.proofs.Adjacency.{Adj, At, Joined}
 use Rattle.topology.proofs.Accepted.{Accepted}
 use Rattle.topology.proofs.Fathers.{map-found}
-use Rattle.topology.proofs.Climb.{Meet, same, left, right, father, father-of, meet-joined}
+use Rattle.topology.proofs.Climb.{Meet, meet-same, father, father-of, meet-joined}
 use Rattle.watershed_laws.proofs.Oracle.{Oracle}
 
 -- the climbs from the nodes a and b by the fathers P meet at a node of height h
@@ -19,22 +19,6 @@ pub record MeetsAt (H P : ℕ → ℕ) (a b h : ℕ) : Type 0 where
   pub height : h ≡ H node
 
 module _ (p : Picture) (ok : Accepted p) where
-  -- the same fathers below the number of nodes, the same climb; it ends at a node
-  meet-same :
-      (P : ℕ → ℕ) → ((i : ℕ) → i < length (nodes p) → P i ≡ father p i) →
-      {a b r : ℕ} → a < length (nodes p) → b < length (nodes p) → Meet P a b r → Meet (father p) a b r × (r < length (nodes p))
-  meet-same P f ha hb same = (same, ha)
-  meet-same P f {a} {b} {r} ha hb (left l n) =
-      let e = f a ha in
-      let c = father-of p ok a (omega arith) in
-      let (m, h) = meet-same P f (subst (λ (j : ℕ). j < length (nodes p)) (sym e) c) hb n in
-      (left l (subst (λ (j : ℕ). Meet (father p) j b r) e m), h)
-  meet-same P f {a} {b} {r} ha hb (right l n) =
-      let e = f b hb in
-      let c = father-of p ok b (omega arith) in
-      let (m, h) = meet-same P f ha (subst (λ (j : ℕ). j < length (nodes p)) (sym e) c) n in
-      (right l (subst (λ (j : ℕ). Meet (father p) a j r) e m), h)
-
   pub tree-oracle :
       (H P M : ℕ → ℕ) →
       ((i : ℕ) → i < length (nodes p) → H i ≡ nodeAt p i .height) →
@@ -52,7 +36,7 @@ module _ (p : Picture) (ok : Accepted p) where
           subst (λ (j : ℕ). Meet P j (mapOf p z) (m .node)) ey
           (subst (λ (j : ℕ). Meet P (M y) j (m .node)) ez (m .meet))
           in
-          let (n, r) = meet-same P hp (map-found p ok y (s .within)) (map-found p ok z (t .within)) start in
+          let (n, r) = meet-same (length (nodes p)) P (father p) hp (father-of p ok) (map-found p ok y (s .within)) (map-found p ok z (t .within)) start in
           let i = meet-joined p ok y z (s .within) (t .within) n k b s t in
           let e = m .height in
           let g = hh (m .node) r in

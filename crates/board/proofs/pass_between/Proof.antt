@@ -71,7 +71,7 @@ is-pass c =
     let e = c .before in
     let b = placed e in
     let r = ready e in
-    c .pass .ensures .is (pictured (origin (e .before .before))) _ (r .0 .accepted refl) refl (tree-entries _ _ _ _ _ _ (r .1)) (b .1) (b .2)
+    c .pass .ensures .is (pictured (origin (e .before .before))) _ _ (r .0 .accepted refl) refl (tree-entries _ _ _ _ _ _ (r .1)) (b .1) (b .2)
 
 low : (c : tie.Else1) → let s = origin (c .before .before) in pass (pictured s) (s .args .x) (s .args .y) ≤ 255
 low c =

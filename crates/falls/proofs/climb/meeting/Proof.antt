@@ -1,17 +1,28 @@
 -- `falls::climb::meeting` meets its contract: the climb from the nodes of two places, and the height where it meets.
-use Rattle.watershed_laws.proofs.Stopping.{climb-places, met-height}
+use Prim.Native.Nat.{_<_}
+use native.Mathlib.Omega.{arith}
+use lib.ListN.{getD}
+use Rattle.watershed_laws.proofs.Stopping.{Meets}
+use Rattle.falls.proofs.Fathers.{climb-places, climb-meets}
 use borrow.Author.Needs.{needs}
 use Rattle.falls.proofs.climb.meeting.Statement.{statement}
 use Rattle.falls.proofs.climb.meeting.Tie as tie
 
-mul-wide : tie.Need-mul-wide
-mul-wide c = search needs
+-- the climb has met at a node
+met-at :
+    (c : tie.After-meet) →
+    (c .meet .result < c .before .before .before .before .before .before .before .args .n) × Meets (c .before .before .before .before .before .before .before .args .n) (c .before .before .before .before .before .before .before .args .tree .now) (c .before .before .before .before .before .before .before .args .y) (c .before .before .before .before .before .before .before .args .z) (getD (c .before .before .before .before .before .before .before .args .tree .now) (c .meet .result) 0)
+met-at c = let p = c .before .before .before .before .before .before .before .pre in
+    climb-meets _ _ (p .0) _ _ (p .2) (p .3) _ (rw (c .before .before .wide2 .ensures, c .before .before .before .before .wide .ensures) at (c .meet .ensures))
+
+mul-e : tie.Need-mul-e
+mul-e c = search needs
 
 add-wide : tie.Need-add-wide
 add-wide c = search needs
 
-mul-wide-2 : tie.Need-mul-wide-2
-mul-wide-2 c = search needs
+mul-wide : tie.Need-mul-wide
+mul-wide c = search needs
 
 shared-slice-read-wide : tie.Need-shared-slice-read-wide
 shared-slice-read-wide c = search needs
@@ -19,14 +30,11 @@ shared-slice-read-wide c = search needs
 wide-requires : tie.Need-wide-requires
 wide-requires c κs = search needs
 
-mul-wide-3 : tie.Need-mul-wide-3
-mul-wide-3 c = search needs
-
 add-wide-2 : tie.Need-add-wide-2
 add-wide-2 c = search needs
 
-mul-wide-4 : tie.Need-mul-wide-4
-mul-wide-4 c = search needs
+mul-wide-2 : tie.Need-mul-wide-2
+mul-wide-2 c = search needs
 
 shared-slice-read-wide-2 : tie.Need-shared-slice-read-wide-2
 shared-slice-read-wide-2 c = search needs
@@ -34,40 +42,53 @@ shared-slice-read-wide-2 c = search needs
 wide-requires-2 : tie.Need-wide-requires-2
 wide-requires-2 c κs = search needs
 
-meet-requires : tie.Need-meet-requires
-meet-requires c κs = let p = c .before .before .before .before .before .pre in
-    (rw (c .wide2 .ensures, c .before .before .wide .ensures) (climb-places _ _ (p .0) _ _ (p .2) (p .3)), p .1)
+mul-meet : tie.Need-mul-meet
+mul-meet c = search needs
 
-mul-wide-5 : tie.Need-mul-wide-5
-mul-wide-5 c = search needs
+sub-meet : tie.Need-sub-meet
+sub-meet c = search needs
+
+part-meet-start : tie.Need-part-meet-start
+part-meet-start c = search needs
+
+part-meet-end : tie.Need-part-meet-end
+part-meet-end c = search needs
+
+meet-requires : tie.Need-meet-requires
+meet-requires c κs = let p = c .before .before .before .before .before .before .pre in
+    rw (c .before .wide2 .ensures, c .before .before .before .wide .ensures) (climb-places _ _ (p .0) _ _ (p .2) (p .3))
+
+mul-wide-3 : tie.Need-mul-wide-3
+mul-wide-3 c = omega (arith, met-at c .0, c .before .before .before .before .before .before .before .pre .1)
 
 shared-slice-read-wide-3 : tie.Need-shared-slice-read-wide-3
-shared-slice-read-wide-3 c = search needs
+shared-slice-read-wide-3 c = omega (arith, met-at (c .before) .0, c .before .before .before .before .before .before .before .before .pre .0 .size)
 
 wide-requires-3 : tie.Need-wide-requires-3
 wide-requires-3 c κs = search needs
 
 returns : tie.Need-returns
-returns c = let p = c .before .before .before .before .before .before .before .before .pre in
-    rw (c .wide3 .ensures)
-    (met-height _ _ _ _ _ (p .2) (p .3) (rw (c .before .before .before .wide2 .ensures, c .before .before .before .before .before .wide .ensures) at (c .before .before .meet .ensures)))
+returns c = rw (c .wide3 .ensures) (met-at (c .before .before) .1)
 
 pub meeting-spec : {M : Type 1} → statement M
 meeting-spec =
     tie.close
     (tie.spec
-    mul-wide
+    mul-e
     add-wide
-    mul-wide-2
+    mul-wide
     shared-slice-read-wide
     wide-requires
-    mul-wide-3
     add-wide-2
-    mul-wide-4
+    mul-wide-2
     shared-slice-read-wide-2
     wide-requires-2
+    mul-meet
+    sub-meet
+    part-meet-start
+    part-meet-end
     meet-requires
-    mul-wide-5
+    mul-wide-3
     shared-slice-read-wide-3
     wide-requires-3
     returns)

@@ -1,0 +1,2 @@
+-- Laws of the climb.
+pub mod Ancestors

@@ -1,0 +1,2 @@
+-- What the climb asks.
+pub mod Ancestors

@@ -1,0 +1,2 @@
+-- Laws of the climb in the tree's cells.
+pub mod Fathers
