@@ -1,7 +1,7 @@
 //! Runs files through a given `holds` program and through this one.
 
-use crate::edges;
 use crate::damage;
+use crate::edges;
 use crate::file;
 use crate::generate;
 use crate::hexadecimal;
