@@ -106,8 +106,7 @@ fn read_line(file: &[u8], out_length: usize) -> String {
 
 /// A call that is not refused, for a generated picture.
 fn good_call(random: &mut Random, with_place: bool) -> Call {
-    let sides = generate::sides(random);
-    let picture = generate::picture(random, sides);
+    let picture = generate::any_picture(random);
     let count = picture.pixels.len();
     let spare = random.one_of(&[0, 0, 1, 7, 100]);
     Call {
@@ -313,8 +312,7 @@ fn reads_for_the_order() -> Vec<String> {
 /// Reading of a generated file, fit or damaged.
 fn generated_read(random: &mut Random) -> String {
     let file = if random.below(2) == 0 {
-        let sides = generate::sides(random);
-        let picture = generate::picture(random, sides);
+        let picture = generate::any_picture(random);
         damage::accepted_file(random, &picture)
     } else {
         damage::damaged_file(random)

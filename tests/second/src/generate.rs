@@ -48,6 +48,12 @@ pub fn sides(random: &mut Random) -> (usize, usize) {
     }
 }
 
+/// A generated picture with any sides.
+pub fn any_picture(random: &mut Random) -> Generated {
+    let sides = sides(random);
+    picture(random, sides)
+}
+
 /// A generated picture with these sides.
 pub fn picture(random: &mut Random, sides: (usize, usize)) -> Generated {
     let (width, height) = sides;
