@@ -31,7 +31,7 @@
 #define TREE BYTES(heights), ENTRIES(fathers), ENTRIES(firsts), ENTRIES(map)
 
 /* The arguments of a call, and the lists that are lent or expected. */
-static uint32_t adjacency, width, height, node_count, place, other_place;
+static uint32_t node_count, place, other_place;
 static uint8_t k;
 static size_t out_length, work_length;
 static size_t heights_length, fathers_length, firsts_length, map_length;
@@ -74,14 +74,6 @@ static void take_entries(struct given *given)
     }
 }
 
-static void take_picture(void)
-{
-    adjacency = take_word();
-    width = take_word();
-    height = take_word();
-    take_bytes(&pixels_given);
-}
-
 static void take_lent_tree(void)
 {
     node_count = take_word();
@@ -102,7 +94,7 @@ static void take_work_and_number(void)
 
 static void take_label(void)
 {
-    take_picture();
+    take_picture(&pixels_given);
     k = (uint8_t)take_number(255);
     out_length = take_length();
     take_work_and_number();
@@ -114,7 +106,7 @@ static void take_label(void)
 
 static void take_lowerable(void)
 {
-    take_picture();
+    take_picture(&pixels_given);
     place = take_word();
     take_work_and_number();
     if (number == 0)
@@ -123,7 +115,7 @@ static void take_lowerable(void)
 
 static void take_tree(void)
 {
-    take_picture();
+    take_picture(&pixels_given);
     heights_length = take_length();
     fathers_length = take_length();
     firsts_length = take_length();
@@ -137,14 +129,14 @@ static void take_tree(void)
 
 static void take_check(void)
 {
-    take_picture();
+    take_picture(&pixels_given);
     take_lent_tree();
     take_work_and_number();
 }
 
 static void take_pass(void)
 {
-    take_picture();
+    take_picture(&pixels_given);
     take_lent_tree();
     place = take_word();
     other_place = take_word();
@@ -155,7 +147,7 @@ static void take_pass(void)
 
 static void take_watershed(void)
 {
-    take_picture();
+    take_picture(&pixels_given);
     out_length = take_length();
     take_work_and_number();
     if (number == 0)
@@ -164,7 +156,7 @@ static void take_watershed(void)
 
 static void take_place(void)
 {
-    take_picture();
+    take_picture(&pixels_given);
     place = take_word();
     take_work_and_number();
     if (number != 0)

@@ -168,6 +168,17 @@ static void take_bytes(struct given *given)
         malformed = 1;
 }
 
+/* The arguments that every call on a picture has, but for its pixels. */
+static uint32_t adjacency, width, height;
+
+static void take_picture(struct given *pixels)
+{
+    adjacency = take_word();
+    width = take_word();
+    height = take_word();
+    take_bytes(pixels);
+}
+
 /* A kind of case: how its fields are taken, and one run of its call, which
  * answers whether all is as expected. */
 struct kind {

@@ -21,7 +21,7 @@
 #define SLICE(memory) lent(&memory), memory.length
 
 /* The arguments of a call, its number, and what its output begins with. */
-static uint32_t adjacency, width, height, place;
+static uint32_t place;
 static struct given input_given;
 static size_t out_length, work_length;
 static uint64_t number;
@@ -53,14 +53,6 @@ static void take_expected(uint64_t most)
         expected.bytes[expected.length++] = (uint8_t)(value >> (8 * index));
 }
 
-static void take_picture(void)
-{
-    adjacency = take_word();
-    width = take_word();
-    height = take_word();
-    take_bytes(&input_given);
-}
-
 static size_t take_length(void)
 {
     return (size_t)take_number(MEMORY_ROOM);
@@ -85,7 +77,7 @@ static void take_read(void)
 
 static void take_watershed(void)
 {
-    take_picture();
+    take_picture(&input_given);
     out_length = take_length();
     work_length = take_length();
     take_refusal();
@@ -98,7 +90,7 @@ static void take_watershed(void)
 
 static void take_place(void)
 {
-    take_picture();
+    take_picture(&input_given);
     place = take_word();
     out_length = take_length();
     work_length = take_length();
