@@ -76,12 +76,16 @@ static inline size_t lesser_length(size_t a, size_t b)
     return a < b ? a : b;
 }
 
-/* The length of the shortest of the four lists of a tree. */
-static inline size_t shortest(size_t heights_length, size_t fathers_length,
-                              size_t firsts_length, size_t map_length)
+/* The same for a call that is lent the four lists of a tree. */
+static inline unsigned fault_with_lists(uint32_t a, uint32_t w, uint32_t h,
+                                        size_t n, size_t heights_length,
+                                        size_t fathers_length,
+                                        size_t firsts_length,
+                                        size_t map_length, size_t work_length)
 {
-    return lesser_length(lesser_length(heights_length, fathers_length),
-                         lesser_length(firsts_length, map_length));
+    size_t shortest = lesser_length(lesser_length(heights_length, fathers_length),
+                                    lesser_length(firsts_length, map_length));
+    return fault_of(a, w, h, n, shortest, work_length);
 }
 
 static inline uint64_t refused(unsigned number)

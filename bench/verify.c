@@ -88,9 +88,8 @@ uint64_t peer_check_tree(uint32_t a, uint32_t w, uint32_t h,
     const uint16_t *map, size_t map_length,
     uint16_t *work, size_t work_length)
 {
-    size_t lists = shortest(heights_length, fathers_length, firsts_length,
-                            map_length);
-    unsigned fault = fault_of(a, w, h, n, lists, work_length);
+    unsigned fault = fault_with_lists(a, w, h, n, heights_length, fathers_length,
+                                      firsts_length, map_length, work_length);
     if (fault)
         return refused(fault);
     struct lent tree = { count, heights, fathers, firsts, map };
@@ -108,9 +107,8 @@ uint64_t peer_pass_between(uint32_t a, uint32_t w, uint32_t h,
     const uint16_t *map, size_t map_length, uint32_t x, uint32_t y,
     uint16_t *work, size_t work_length)
 {
-    size_t lists = shortest(heights_length, fathers_length, firsts_length,
-                            map_length);
-    unsigned fault = fault_of(a, w, h, n, lists, work_length);
+    unsigned fault = fault_with_lists(a, w, h, n, heights_length, fathers_length,
+                                      firsts_length, map_length, work_length);
     if (fault)
         return refused(fault);
     if (x >= n || y >= n)
