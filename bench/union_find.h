@@ -1,4 +1,8 @@
-/* Union-find in cells: below ROOT a parent, which is a smaller place; from ROOT on a root with its state. */
+/*
+ * Union-find in cells: below ROOT a parent, which is a smaller place; from
+ * ROOT on a root with its state. The builder and the check join the pixels of
+ * one height after the other by it.
+ */
 
 #ifndef UNION_FIND_H
 #define UNION_FIND_H
@@ -28,10 +32,10 @@ static inline unsigned find(uint16_t *cells, unsigned x)
     return x;
 }
 
-/* What happens to a tree where two roots with the states a and b, which both hold lower places, are joined at x; false ends the joining. */
+/* What happens to a tree where two roots with the states a and b, which both hold lower places, are joined at x; false if the tree is wrong there. */
 typedef bool meeting(void *tree, unsigned a, unsigned b, unsigned x);
 
-/* Hangs the root hi below the root lo. */
+/* Hangs the root hi below the root lo, unless the tree is wrong there. */
 static inline bool hang(uint16_t *cells, unsigned lo, unsigned hi, unsigned x,
                         meeting *meet, void *tree)
 {
@@ -50,7 +54,7 @@ static inline bool hang(uint16_t *cells, unsigned lo, unsigned hi, unsigned x,
     return true;
 }
 
-/* Joins x, of value k, with its neighbours that are lower, or of the same value and before it. */
+/* Joins x, of value k, with its neighbours that are lower, or of the same value and before it; false as soon as the tree is wrong. */
 static inline bool absorb(struct grid g, const uint8_t *restrict pixels,
                           uint16_t *restrict cells, unsigned k, unsigned x,
                           meeting *meet, void *tree)

@@ -14,9 +14,6 @@
 #include "board.h"
 #include "cases.h"
 
-/* Output bytes of reading. */
-#define READ_OUT 32
-
 /* A slice reaches C as pointer and length. */
 #define SLICE(memory) lent(&memory), memory.length
 
@@ -71,7 +68,9 @@ static void take_read(void)
     out_length = take_length();
     work_length = 0;
     take_refusal();
-    for (int index = 0; number == 0 && index < READ_OUT / 8; index++)
+    if (number != 0)
+        return;
+    for (int index = 0; index < 4; index++)
         take_expected(UINT32_MAX);
 }
 

@@ -1,4 +1,5 @@
-//! Arguments at the limits and wrong ones, for calls of both kinds.
+//! Arguments at the limits and wrong ones, for the calls for C and for the
+//! calls on 16-bit memory.
 
 use crate::random::Random;
 
