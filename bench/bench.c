@@ -15,6 +15,7 @@
 #include "calls.h"
 #include "geometry.h"
 #include "pictures.h"
+#include "tables.h"
 
 #include <stdio.h>
 #include <stdlib.h>
@@ -25,17 +26,6 @@
 #define ROUND_SECONDS 400e-6
 #define BESIDE_ROUNDS 500
 #define BESIDE_CALLS 10
-#define CALLS 8
-#define TREE 3
-#define QUERY 7
-#define SIDES 4
-
-static const unsigned sides[SIDES] = { 5, 10, 20, 40 };
-static const char *const call_names[CALLS] = {
-    "label_section, median", "label_section, 255", "is_lowerable",
-    "component_tree", "check_tree", "pass_between", "watershed_of",
-    "query_place",
-};
 
 /* All memory that a call may be lent. */
 struct memory {
@@ -72,26 +62,27 @@ static uint32_t largest_place(void)
 static uint64_t run(unsigned call, int is_ours, struct memory *m)
 {
     switch (call) {
-    case 0:
-    case 1:
+    case LABEL_MEDIAN:
+    case LABEL_255:
         return (is_ours ? bench_label_section : peer_label_section)(a, w, w,
-            pixels, n, call ? 255 : median, m->labels, n, m->work, 5 * n);
-    case 2:
+            pixels, n, call == LABEL_255 ? 255 : median, m->labels, n,
+            m->work, 5 * n);
+    case LOWERABLE:
         return (is_ours ? bench_is_lowerable : peer_is_lowerable)(a, w, w,
             pixels, n, place, m->work, 5 * n);
-    case 3:
+    case TREE:
         return (is_ours ? bench_component_tree : peer_component_tree)(a, w, w,
             pixels, n, m->heights, n, m->fathers, n, m->firsts, n, m->map, n,
             m->work, 5 * n);
-    case 4:
+    case CHECK:
         return (is_ours ? bench_check_tree : peer_check_tree)(a, w, w,
             pixels, n, count, m->heights, n, m->fathers, n, m->firsts, n,
             m->map, n, m->work, 5 * n);
-    case 5:
+    case PASS:
         return (is_ours ? bench_pass_between : peer_pass_between)(a, w, w,
             pixels, n, count, m->heights, n, m->fathers, n, m->firsts, n,
             m->map, n, 0, n - 1, m->work, 5 * n);
-    case 6:
+    case WATERSHED:
         return (is_ours ? bench_watershed_of : peer_watershed_of)(a, w, w,
             pixels, n, m->bytes, n, m->work, 5 * n);
     default:
@@ -123,8 +114,25 @@ static void take(unsigned picture, unsigned side, uint32_t adjacency)
     place = largest_place();
     memset(&ours, 171, sizeof ours);
     peer = ours;
-    count = (uint32_t)run(3, 1, &ours);
-    run(3, 0, &peer);
+    count = (uint32_t)run(TREE, 1, &ours);
+    run(TREE, 0, &peer);
+}
+
+/* Compares the check of trees with one entry of one list changed. */
+static void compare_damaged_trees(unsigned picture)
+{
+    uint16_t *const lists[3][2] = {
+        { ours.fathers, peer.fathers }, { ours.firsts, peer.firsts },
+        { ours.map, peer.map },
+    };
+    for (unsigned i = 0; i < n; i += 1 + n / 100)
+        for (unsigned list = 0; list < 3; list++) {
+            lists[list][0][i]++;
+            lists[list][1][i]++;
+            same(CHECK, picture);
+            lists[list][0][i]--;
+            lists[list][1][i]--;
+        }
 }
 
 /* Compares all calls, at all places where a call takes one; trees with one entry changed are compared too. */
@@ -134,25 +142,13 @@ static void compare(unsigned picture)
         same(call, picture);
     for (unsigned k = 0; k < 256; k += 5) {
         median = (uint8_t)k;
-        same(0, picture);
+        same(LABEL_MEDIAN, picture);
     }
     for (place = 0; place <= n; place++) {
-        same(2, picture);
-        same(7, picture);
+        same(LOWERABLE, picture);
+        same(QUERY, picture);
     }
-    for (unsigned i = 0; i < n; i += 1 + n / 100) {
-        uint16_t *lists[3][2] = {
-            { ours.fathers, peer.fathers }, { ours.firsts, peer.firsts },
-            { ours.map, peer.map },
-        };
-        for (unsigned list = 0; list < 3; list++) {
-            lists[list][0][i]++;
-            lists[list][1][i]++;
-            same(4, picture);
-            lists[list][0][i]--;
-            lists[list][1][i]--;
-        }
-    }
+    compare_damaged_trees(picture);
     median = median_pixel();
     place = largest_place();
 }
@@ -162,6 +158,11 @@ static double now(void)
     struct timespec t;
     clock_gettime(CLOCK_THREAD_CPUTIME_ID, &t);
     return (double)t.tv_sec + (double)t.tv_nsec * 1e-9;
+}
+
+static double lesser(double x, double y)
+{
+    return x < y ? x : y;
 }
 
 static volatile uint64_t sink;
@@ -174,10 +175,6 @@ static double round_of(unsigned call, int is_ours, unsigned repeats)
         sink = run(call, is_ours, m);
     return (now() - begin) / repeats;
 }
-
-struct times {
-    double ours, peer;
-};
 
 /* How many calls fill a round. */
 static unsigned repeats_of(unsigned call)
@@ -196,23 +193,11 @@ static void measure(struct times *least)
     }
     for (unsigned i = 0; i < ROUNDS; i++)
         for (unsigned call = 0; call < CALLS; call++) {
-            double first = round_of(call, 1, repeats[call]);
-            double second = round_of(call, 0, repeats[call]);
-            if (first < least[call].ours)
-                least[call].ours = first;
-            if (second < least[call].peer)
-                least[call].peer = second;
+            struct times *t = &least[call];
+            t->ours = lesser(t->ours, round_of(call, 1, repeats[call]));
+            t->peer = lesser(t->peer, round_of(call, 0, repeats[call]));
         }
 }
-
-static struct times table[2][SIDES][PICTURE_COUNT][CALLS];
-
-/* The least times in seconds of the tree, of the place query and of the figures of all patches. */
-struct beside {
-    double tree, query, figures;
-};
-
-static struct beside beside[2][PICTURE_COUNT];
 
 static double figures_round(void)
 {
@@ -220,11 +205,6 @@ static double figures_round(void)
     for (unsigned i = 0; i < BESIDE_CALLS; i++)
         sink = bench_figures(a, w, w, pixels, n, ours.work, 5 * n);
     return (now() - begin) / BESIDE_CALLS;
-}
-
-static double lesser(double x, double y)
-{
-    return x < y ? x : y;
 }
 
 /* The three in turn in every round, so that a slow phase of the machine is none of one alone. */
@@ -237,80 +217,6 @@ static struct beside measure_beside(void)
         least.figures = lesser(least.figures, figures_round());
     }
     return least;
-}
-
-static void print_head(const char *first)
-{
-    printf("\n| %s |", first);
-    for (unsigned call = 0; call < CALLS; call++)
-        printf(" %s |", call_names[call]);
-    printf("\n|---|");
-    for (unsigned call = 0; call < CALLS; call++)
-        printf("---|");
-    printf("\n");
-}
-
-static void print_ratios(unsigned adjacency)
-{
-    printf("\nTime of ours over time of the peer, 40 by 40, adjacency %u\n",
-           adjacency ? 8 : 4);
-    print_head("picture");
-    for (unsigned p = 0; p < PICTURE_COUNT; p++) {
-        printf("| %s |", picture_names[p]);
-        for (unsigned call = 0; call < CALLS; call++) {
-            struct times t = table[adjacency][SIDES - 1][p][call];
-            printf(" %.2f |", t.ours / t.peer);
-        }
-        printf("\n");
-    }
-}
-
-static void print_times(unsigned adjacency)
-{
-    printf("\nTime of ours in microseconds, 40 by 40, adjacency %u\n",
-           adjacency ? 8 : 4);
-    print_head("picture");
-    for (unsigned p = 0; p < PICTURE_COUNT; p++) {
-        printf("| %s |", picture_names[p]);
-        for (unsigned call = 0; call < CALLS; call++)
-            printf(" %.1f |", table[adjacency][SIDES - 1][p][call].ours * 1e6);
-        printf("\n");
-    }
-}
-
-/* The time of one picture at each side, or for PICTURE_COUNT the largest time of all pictures. */
-static void print_growth(unsigned adjacency, unsigned picture)
-{
-    printf("\nTime of ours in nanoseconds a pixel, %s, adjacency %u\n",
-           picture < PICTURE_COUNT ? picture_names[picture]
-           : "largest of all pictures", adjacency ? 8 : 4);
-    print_head("side");
-    for (unsigned s = 0; s < SIDES; s++) {
-        printf("| %u |", sides[s]);
-        for (unsigned call = 0; call < CALLS; call++) {
-            double most = 0;
-            for (unsigned p = 0; p < PICTURE_COUNT; p++)
-                if ((picture == p || picture == PICTURE_COUNT)
-                    && table[adjacency][s][p][call].ours > most)
-                    most = table[adjacency][s][p][call].ours;
-            printf(" %.1f |", most * 1e9 / (sides[s] * sides[s]));
-        }
-        printf("\n");
-    }
-}
-
-static void print_against_tree(void)
-{
-    printf("\nTime of query_place and of the figures of all patches over time of component_tree, ours, 40 by 40\n");
-    printf("\n| picture | query_place, 4 | query_place, 8 | figures, 4 | figures, 8 |\n|---|---|---|---|---|\n");
-    for (unsigned p = 0; p < PICTURE_COUNT; p++) {
-        printf("| %s |", picture_names[p]);
-        for (unsigned adjacency = 0; adjacency < 2; adjacency++)
-            printf(" %.2f |", beside[adjacency][p].query / beside[adjacency][p].tree);
-        for (unsigned adjacency = 0; adjacency < 2; adjacency++)
-            printf(" %.2f |", beside[adjacency][p].figures / beside[adjacency][p].tree);
-        printf("\n");
-    }
 }
 
 /* The call CALLS is that of the figures of all patches, with our tree in the peer's place. */
@@ -351,39 +257,44 @@ static void run_growth(void)
         }
 }
 
+/* Does the same with every picture at every side with both adjacencies. */
+static void for_all(void (*visit)(unsigned adjacency, unsigned s, unsigned p))
+{
+    for (unsigned adjacency = 0; adjacency < 2; adjacency++)
+        for (unsigned s = 0; s < SIDES; s++)
+            for (unsigned p = 0; p < PICTURE_COUNT; p++) {
+                take(p, sides[s], adjacencies[adjacency]);
+                visit(adjacency, s, p);
+            }
+}
+
+static void compare_one(unsigned adjacency, unsigned s, unsigned p)
+{
+    (void)adjacency, (void)s;
+    compare(p);
+}
+
+static void measure_one(unsigned adjacency, unsigned s, unsigned p)
+{
+    measure(table[adjacency][s][p]);
+    if (s == SIDES - 1)
+        beside[adjacency][p] = measure_beside();
+}
+
 int main(int arguments, char **argument)
 {
-    if (arguments > 1 && strcmp(argument[1], "growth") == 0) {
+    const char *mode = arguments > 1 ? argument[1] : "";
+    if (strcmp(mode, "growth") == 0) {
         run_growth();
-        return 0;
-    }
-    if (arguments > 1 && strcmp(argument[1], "once") == 0) {
+    } else if (strcmp(mode, "once") == 0) {
         run_once();
-        return 0;
+    } else {
+        for_all(compare_one);
+        printf("results: the same on %u pictures with both adjacencies\n",
+               SIDES * PICTURE_COUNT);
+        fflush(stdout);
+        for_all(measure_one);
+        print_tables();
     }
-    for (unsigned adjacency = 0; adjacency < 2; adjacency++)
-        for (unsigned s = 0; s < SIDES; s++)
-            for (unsigned p = 0; p < PICTURE_COUNT; p++) {
-                take(p, sides[s], adjacency ? 8 : 4);
-                compare(p);
-            }
-    printf("results: the same on %u pictures with both adjacencies\n",
-           SIDES * PICTURE_COUNT);
-    fflush(stdout);
-    for (unsigned adjacency = 0; adjacency < 2; adjacency++)
-        for (unsigned s = 0; s < SIDES; s++)
-            for (unsigned p = 0; p < PICTURE_COUNT; p++) {
-                take(p, sides[s], adjacency ? 8 : 4);
-                measure(table[adjacency][s][p]);
-                if (s == SIDES - 1)
-                    beside[adjacency][p] = measure_beside();
-            }
-    for (unsigned adjacency = 0; adjacency < 2; adjacency++) {
-        print_ratios(adjacency);
-        print_times(adjacency);
-        print_growth(adjacency, NOISE);
-        print_growth(adjacency, PICTURE_COUNT);
-    }
-    print_against_tree();
     return 0;
 }

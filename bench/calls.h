@@ -63,7 +63,7 @@ extern pass_between_call bench_pass_between, peer_pass_between;
 extern watershed_of_call bench_watershed_of, peer_watershed_of;
 extern query_place_call bench_query_place, peer_query_place;
 
-/* How many pixels fell in the peer's last watershed; 0 unless compiled with COUNT_FALLS. */
+/* How many pixels fell and were tested in the peer's watersheds since these were set to 0; counted only if compiled with COUNT_FALLS. */
 extern unsigned long peer_falls, peer_tests;
 
 #endif

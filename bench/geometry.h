@@ -62,6 +62,32 @@ static inline unsigned fault_of(uint32_t a, uint32_t w, uint32_t h, size_t n,
     return 0;
 }
 
+/* The same for a call that takes a place and is lent no output; 10 comes last. */
+static inline unsigned fault_with_place(uint32_t a, uint32_t w, uint32_t h,
+                                        size_t n, uint32_t place,
+                                        size_t work_length)
+{
+    unsigned fault = fault_of(a, w, h, n, n, work_length);
+    return fault == 0 && place >= n ? 10 : fault;
+}
+
+static inline size_t lesser_length(size_t a, size_t b)
+{
+    return a < b ? a : b;
+}
+
+/* The same for a call that is lent the four lists of a tree. */
+static inline unsigned fault_with_lists(uint32_t a, uint32_t w, uint32_t h,
+                                        size_t n, size_t heights_length,
+                                        size_t fathers_length,
+                                        size_t firsts_length,
+                                        size_t map_length, size_t work_length)
+{
+    size_t shortest = lesser_length(lesser_length(heights_length, fathers_length),
+                                    lesser_length(firsts_length, map_length));
+    return fault_of(a, w, h, n, shortest, work_length);
+}
+
 static inline uint64_t refused(unsigned number)
 {
     return (uint64_t)number << 32;

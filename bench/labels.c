@@ -69,11 +69,9 @@ uint64_t peer_is_lowerable(uint32_t a, uint32_t w, uint32_t h,
     const uint8_t *pixels, size_t n, uint32_t place,
     uint16_t *work, size_t work_length)
 {
-    unsigned fault = fault_of(a, w, h, n, n, work_length);
+    unsigned fault = fault_with_place(a, w, h, n, place, work_length);
     if (fault)
         return refused(fault);
-    if (place >= n)
-        return refused(10);
     struct grid g = grid_of(a, w, h);
     bool yes = false;
     if (pixels[place] > 0) {

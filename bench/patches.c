@@ -5,23 +5,15 @@
 
 #include <string.h>
 
-uint64_t peer_query_place(uint32_t a, uint32_t w, uint32_t h,
-    const uint8_t *pixels, size_t n, uint32_t place,
-    uint16_t *work, size_t work_length)
+/* Numbers the leaves by first place. The cells mark the nodes that are somebody's father. */
+static inline void number_leaves(unsigned n, unsigned count,
+                                 const uint16_t *restrict work,
+                                 uint16_t *restrict cells,
+                                 uint16_t *restrict numbers)
 {
-    unsigned fault = fault_of(a, w, h, n, n, work_length);
-    if (fault)
-        return refused(fault);
-    if (place >= n)
-        return refused(10);
-    uint16_t cells[LARGEST_N];
-    unsigned count = build_tree(grid_of(a, w, h), pixels, work, cells);
     const uint16_t *fathers = work + n, *map = work + 2 * n;
     const uint16_t *firsts = work + 3 * n;
-    uint16_t *numbers = work + 4 * n;
     unsigned number = 0;
-
-    /* The cells mark the nodes that are somebody's father. */
     memset(cells, 0, n * sizeof *cells);
     memset(numbers, 0, n * sizeof *numbers);
     for (unsigned i = 0; i < count; i++)
@@ -32,7 +24,19 @@ uint64_t peer_query_place(uint32_t a, uint32_t w, uint32_t h,
         if (firsts[m] == x && cells[m] == 0)
             numbers[m] = (uint16_t)++number;
     }
-    unsigned node = map[place];
+}
+
+uint64_t peer_query_place(uint32_t a, uint32_t w, uint32_t h,
+    const uint8_t *pixels, size_t n, uint32_t place,
+    uint16_t *work, size_t work_length)
+{
+    unsigned fault = fault_with_place(a, w, h, n, place, work_length);
+    if (fault)
+        return refused(fault);
+    uint16_t cells[LARGEST_N], *numbers = work + 4 * n;
+    unsigned count = build_tree(grid_of(a, w, h), pixels, work, cells);
+    number_leaves((unsigned)n, count, work, cells, numbers);
+    unsigned node = work[2 * n + place];
     unsigned patch = pixels[place] == work[node] ? numbers[node] : 0;
     memset(work, 0, 5 * n * sizeof *work);
     return (uint64_t)pixels[place] << 16 | patch;

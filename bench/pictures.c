@@ -25,26 +25,28 @@ static void noise(unsigned side, uint8_t *pixels, unsigned bound)
         pixels[x] = (uint8_t)draw(bound);
 }
 
-/*
- * A pale panel, lit from above, with dark round holds on a grid of five
- * pixels, moved and sized by chance: 64 at 40 by 40.
- */
+/* A dark round hold in a cell of five pixels, moved and sized by chance. */
+static void put_hold(unsigned side, uint8_t *pixels, unsigned top, unsigned left)
+{
+    int row = (int)(top + 1 + draw(3)), column = (int)(left + 1 + draw(3));
+    int radius = 2 + (int)draw(4), depth = 60 + (int)draw(80);
+    for (int r = row - 1; r <= row + 1; r++)
+        for (int c = column - 1; c <= column + 1; c++) {
+            int away = (r - row) * (r - row) + (c - column) * (c - column);
+            if (away <= radius)
+                pixels[(unsigned)r * side + (unsigned)c] =
+                    (uint8_t)(170 - depth + 15 * away + (int)draw(6));
+        }
+}
+
+/* A pale panel, lit from above, with a hold in every cell: 64 at 40 by 40. */
 static void wall(unsigned side, uint8_t *pixels)
 {
     for (unsigned x = 0; x < side * side; x++)
         pixels[x] = (uint8_t)(200 + (side - 1 - x / side) / 2);
     for (unsigned top = 0; top + 5 <= side; top += 5)
-        for (unsigned left = 0; left + 5 <= side; left += 5) {
-            int row = (int)(top + 1 + draw(3)), column = (int)(left + 1 + draw(3));
-            int radius = 2 + (int)draw(4), depth = 60 + (int)draw(80);
-            for (int r = row - 1; r <= row + 1; r++)
-                for (int c = column - 1; c <= column + 1; c++) {
-                    int away = (r - row) * (r - row) + (c - column) * (c - column);
-                    if (away <= radius)
-                        pixels[(unsigned)r * side + (unsigned)c] =
-                            (uint8_t)(170 - depth + 15 * away + (int)draw(6));
-                }
-        }
+        for (unsigned left = 0; left + 5 <= side; left += 5)
+            put_hold(side, pixels, top, left);
 }
 
 /* Dark teeth on a common back, each darker by one value a row. */

@@ -178,28 +178,40 @@ static unsigned at_edge(unsigned side, unsigned edge, unsigned along, unsigned d
     }
 }
 
+/* How far a place is from the nearest edge. */
+static unsigned depth_of(unsigned side, unsigned x)
+{
+    unsigned last = side - 1, column = x % side, row = x / side, depth = row;
+    depth = column < depth ? column : depth;
+    depth = last - column < depth ? last - column : depth;
+    return last - row < depth ? last - row : depth;
+}
+
+/* Puts the minima, saddles and gates of one edge; answers the number of the next saddle. */
+static unsigned put_edge(unsigned side, uint8_t *pixels, unsigned edge, unsigned number)
+{
+    pixels[at_edge(side, edge, 2, 2)] = 0;
+    for (unsigned along = 5; along + 2 < side; along += 4)
+        pixels[at_edge(side, edge, along, 2)] = 0;
+    for (unsigned along = 7; along + 3 < side; along += 4, number++) {
+        uint8_t value = (uint8_t)(FLOOR_8 - 1 - number);
+        pixels[at_edge(side, edge, along, 0)] = value;
+        pixels[at_edge(side, edge, along, 1)] = value;
+        pixels[at_edge(side, edge, along, 2)] =
+            (uint8_t)(number ? GATE_8 + number : FLOOR_8);
+        pixels[at_edge(side, edge, along, 3)] = FLOOR_8;
+    }
+    return number;
+}
+
 void saddles_for_8(unsigned side, uint8_t *pixels)
 {
-    unsigned last = side - 1, number = 0;
+    unsigned number = 0;
     for (unsigned x = 0; x < side * side; x++) {
-        unsigned column = x % side, row = x / side, depth = row;
-        depth = column < depth ? column : depth;
-        depth = last - column < depth ? last - column : depth;
-        depth = last - row < depth ? last - row : depth;
+        unsigned depth = depth_of(side, x);
         pixels[x] = depth == 0 ? 0 : depth <= 3 ? WALL : FLOOR_8;
     }
-    for (unsigned edge = 0; edge < 4 && side > 12; edge++) {
-        pixels[at_edge(side, edge, 2, 2)] = 0;
-        for (unsigned along = 5; along + 2 < side; along += 4)
-            pixels[at_edge(side, edge, along, 2)] = 0;
-        for (unsigned along = 7; along + 3 < side; along += 4, number++) {
-            uint8_t value = (uint8_t)(FLOOR_8 - 1 - number);
-            pixels[at_edge(side, edge, along, 0)] = value;
-            pixels[at_edge(side, edge, along, 1)] = value;
-            pixels[at_edge(side, edge, along, 2)] =
-                (uint8_t)(number ? GATE_8 + number : FLOOR_8);
-            pixels[at_edge(side, edge, along, 3)] = FLOOR_8;
-        }
-    }
+    for (unsigned edge = 0; edge < 4 && side > 12; edge++)
+        number = put_edge(side, pixels, edge, number);
     pixels[0] = WALL;
 }

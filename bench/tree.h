@@ -9,4 +9,16 @@
 unsigned build_tree(struct grid g, const uint8_t *restrict pixels,
                     uint16_t *restrict work, uint16_t *restrict cells);
 
+/* The node at which the climbs from two nodes meet. */
+static inline unsigned meeting_node(const uint16_t *fathers, unsigned i, unsigned j)
+{
+    while (i != j) {
+        if (i < j)
+            i = fathers[i];
+        else
+            j = fathers[j];
+    }
+    return i;
+}
+
 #endif

@@ -1,8 +1,15 @@
-/* Union-find in cells: below ROOT a parent, which is a smaller place; from ROOT on a root with its state. */
+/*
+ * Union-find in cells: below ROOT a parent, which is a smaller place; from
+ * ROOT on a root with its state. The builder and the check join the pixels of
+ * one height after the other by it.
+ */
 
 #ifndef UNION_FIND_H
 #define UNION_FIND_H
 
+#include "geometry.h"
+
+#include <stdbool.h>
 #include <stdint.h>
 
 enum {
@@ -23,6 +30,51 @@ static inline unsigned find(uint16_t *cells, unsigned x)
         x = parent;
     }
     return x;
+}
+
+/* What happens to a tree where two roots with the states a and b, which both hold lower places, are joined at x; false if the tree is wrong there. */
+typedef bool meeting(void *tree, unsigned a, unsigned b, unsigned x);
+
+/* Hangs the root hi below the root lo, unless the tree is wrong there. */
+static inline bool hang(uint16_t *cells, unsigned lo, unsigned hi, unsigned x,
+                        meeting *meet, void *tree)
+{
+    unsigned a = cells[lo], b = cells[hi], state;
+    if (a == NONE) {
+        state = b;
+    } else if (b == NONE) {
+        state = a;
+    } else {
+        if (!meet(tree, a, b, x))
+            return false;
+        state = MANY;
+    }
+    cells[hi] = (uint16_t)lo;
+    cells[lo] = (uint16_t)state;
+    return true;
+}
+
+/* Joins x, of value k, with its neighbours that are lower, or of the same value and before it; false as soon as the tree is wrong. */
+static inline bool absorb(struct grid g, const uint8_t *restrict pixels,
+                          uint16_t *restrict cells, unsigned k, unsigned x,
+                          meeting *meet, void *tree)
+{
+    uint16_t near[8];
+    unsigned count = neighbours(g, x, near);
+    unsigned root = find(cells, x);
+    for (unsigned i = 0; i < count; i++) {
+        unsigned y = near[i];
+        if (pixels[y] > k || (pixels[y] == k && y > x))
+            continue;
+        unsigned other = find(cells, y);
+        if (other == root)
+            continue;
+        unsigned lo = other < root ? other : root;
+        if (!hang(cells, lo, other < root ? root : other, x, meet, tree))
+            return false;
+        root = lo;
+    }
+    return true;
 }
 
 #endif

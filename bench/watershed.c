@@ -35,18 +35,40 @@ static void assign(const uint8_t *restrict pixels, uint16_t *restrict winners,
 }
 
 /* The height at which the climbs from the nodes of y and z meet. */
-static inline unsigned meeting(const uint16_t *tree, unsigned n,
-                               unsigned y, unsigned z)
+static inline unsigned meeting_height(const uint16_t *tree, unsigned n,
+                                      unsigned y, unsigned z)
 {
-    const uint16_t *fathers = tree + n, *map = tree + 2 * n;
-    unsigned i = map[y], j = map[z];
-    while (i != j) {
-        if (i < j)
-            i = fathers[i];
-        else
-            j = fathers[j];
+    const uint16_t *map = tree + 2 * n;
+    return tree[meeting_node(tree + n, map[y], map[z])];
+}
+
+/* The lowest of x and its neighbours. */
+static inline unsigned lowest(const uint8_t *restrict out, unsigned x,
+                              const uint16_t *near, unsigned count)
+{
+    unsigned low = x;
+    for (unsigned i = 0; i < count; i++)
+        if (out[near[i]] < out[low])
+            low = near[i];
+    return low;
+}
+
+/* The value to which a pixel of value k falls, or k or more if it is not lowerable. */
+static inline unsigned stop_of(const uint8_t *restrict out,
+                               const uint16_t *restrict tree, unsigned n,
+                               unsigned k, unsigned low,
+                               const uint16_t *near, unsigned count)
+{
+    unsigned stop = out[low];
+    for (unsigned i = 0; i < count; i++) {
+        unsigned y = near[i];
+        if (out[y] >= k)
+            continue;
+        unsigned height = meeting_height(tree, n, y, low);
+        if (height > out[y] && height > stop)
+            stop = height;
     }
-    return tree[i];
+    return stop;
 }
 
 /* Lowers x as far as it falls, if it is lowerable, and makes candidates of the neighbours that may now be lowerable. */
@@ -54,19 +76,9 @@ static inline void settle(struct grid g, unsigned x, uint8_t *restrict out,
                           uint16_t *restrict tree, uint16_t *restrict winners)
 {
     uint16_t near[8];
-    unsigned n = g.n, count = neighbours(g, x, near), k = out[x], low = x;
-    for (unsigned i = 0; i < count; i++)
-        if (out[near[i]] < out[low])
-            low = near[i];
-    unsigned stop = out[low];
-    for (unsigned i = 0; i < count; i++) {
-        unsigned y = near[i];
-        if (out[y] >= k)
-            continue;
-        unsigned height = meeting(tree, n, y, low);
-        if (height > out[y] && height > stop)
-            stop = height;
-    }
+    unsigned n = g.n, count = neighbours(g, x, near), k = out[x];
+    unsigned low = lowest(out, x, near, count);
+    unsigned stop = stop_of(out, tree, n, k, low, near, count);
 #ifdef COUNT_FALLS
     peer_tests++;
     peer_falls += stop < k;
@@ -82,6 +94,16 @@ static inline void settle(struct grid g, unsigned x, uint8_t *restrict out,
     }
 }
 
+/* Makes every place a candidate. */
+static inline void fill_winners(const uint8_t *restrict out,
+                                uint16_t *restrict winners, unsigned n)
+{
+    for (unsigned x = 0; x < n; x++)
+        winners[n + x] = (uint16_t)x;
+    for (unsigned i = n; i-- > 1;)
+        winners[i] = (uint16_t)better(out, winners[2 * i], winners[2 * i + 1]);
+}
+
 uint64_t peer_watershed_of(uint32_t a, uint32_t w, uint32_t h,
     const uint8_t *pixels, size_t n, uint8_t *out, size_t out_length,
     uint16_t *work, size_t work_length)
@@ -94,10 +116,7 @@ uint64_t peer_watershed_of(uint32_t a, uint32_t w, uint32_t h,
     /* The last block is free while the tree is built. */
     build_tree(g, pixels, work, work + 4 * n);
     memcpy(out, pixels, n);
-    for (unsigned x = 0; x < n; x++)
-        winners[n + x] = (uint16_t)x;
-    for (unsigned i = (unsigned)n; i-- > 1;)
-        winners[i] = (uint16_t)better(out, winners[2 * i], winners[2 * i + 1]);
+    fill_winners(out, winners, g.n);
     for (unsigned x; (x = winners[1]) != ABSENT;) {
         assign(out, winners, g.n, x, ABSENT);
         settle(g, x, out, work, winners);

@@ -24,16 +24,22 @@
 
 #define MOST_ENTRIES (MEMORY_ROOM / 2)
 
-/* Bytes of a field, in the order in which memory has them. */
-struct given {
-    uint8_t bytes[MEMORY_ROOM];
-    size_t length;
-};
+/* A slice reaches C as pointer and length. */
+#define BYTES(memory) lent(&memory), memory.length
+#define ENTRIES(memory) lent_entries(&memory), memory.length / 2
+#define PICTURE adjacency, width, height, BYTES(pixels)
+#define TREE BYTES(heights), ENTRIES(fathers), ENTRIES(firsts), ENTRIES(map)
 
 /* The arguments of a call, and the lists that are lent or expected. */
-static uint32_t adjacency, width, height;
+static uint32_t node_count, place, other_place;
+static uint8_t k;
+static size_t out_length, work_length;
+static size_t heights_length, fathers_length, firsts_length, map_length;
 static struct given pixels_given, heights_given, fathers_given, firsts_given;
 static struct given map_given, out_given;
+
+/* The number and the value that a call returns. */
+static uint64_t number, value;
 
 static struct memory pixels, heights, fathers, firsts, map, out, work;
 
@@ -45,38 +51,15 @@ static const struct {
                 {"map", &map}, {"output", &out}, {"work", &work}};
 #define MEMORIES (sizeof memories / sizeof *memories)
 
-/* The fields that are not read yet; malformed if one did not fit. */
-static char **next_field;
-static int fields_left;
-static int malformed;
-
-static const char *take_field(void)
+static int malformed_case(void)
 {
-    if (fields_left == 0) {
-        malformed = 1;
-        return "0";
-    }
-    fields_left--;
-    return *next_field++;
-}
-
-static uint64_t take_number(uint64_t most)
-{
-    uint64_t number = 0;
-    if (!parse_number(take_field(), most, &number))
-        malformed = 1;
-    return number;
+    printf("case malformed\n");
+    return 0;
 }
 
 static size_t take_length(void)
 {
     return (size_t)take_number(MOST_ENTRIES);
-}
-
-static void take_bytes(struct given *given)
-{
-    if (!parse_bytes(take_field(), given->bytes, &given->length))
-        malformed = 1;
 }
 
 static void take_entries(struct given *given)
@@ -91,31 +74,95 @@ static void take_entries(struct given *given)
     }
 }
 
-static void take_picture(void)
+static void take_lent_tree(void)
 {
-    adjacency = (uint32_t)take_number(UINT32_MAX);
-    width = (uint32_t)take_number(UINT32_MAX);
-    height = (uint32_t)take_number(UINT32_MAX);
-    take_bytes(&pixels_given);
-}
-
-/* Answers the node count. */
-static uint32_t take_tree(void)
-{
-    uint32_t count = (uint32_t)take_number(UINT32_MAX);
+    node_count = take_word();
     take_bytes(&heights_given);
     take_entries(&fathers_given);
     take_entries(&firsts_given);
     take_entries(&map_given);
-    return count;
 }
 
-/* Whether all fields were read and none was malformed. */
-static int well_formed(void)
+/* Takes the work length and the number. The value is 0 on a refusal, after a
+ * check and after a watershed. */
+static void take_work_and_number(void)
 {
-    if (malformed || fields_left != 0)
-        printf("case malformed\n");
-    return !malformed && fields_left == 0;
+    work_length = take_length();
+    number = take_number(12);
+    value = 0;
+}
+
+static void take_label(void)
+{
+    take_picture(&pixels_given);
+    k = (uint8_t)take_number(255);
+    out_length = take_length();
+    take_work_and_number();
+    if (number != 0)
+        return;
+    value = take_number(1600);
+    take_entries(&out_given);
+}
+
+static void take_lowerable(void)
+{
+    take_picture(&pixels_given);
+    place = take_word();
+    take_work_and_number();
+    if (number == 0)
+        value = take_number(1);
+}
+
+static void take_tree(void)
+{
+    take_picture(&pixels_given);
+    heights_length = take_length();
+    fathers_length = take_length();
+    firsts_length = take_length();
+    map_length = take_length();
+    take_work_and_number();
+    if (number != 0)
+        return;
+    take_lent_tree();
+    value = node_count;
+}
+
+static void take_check(void)
+{
+    take_picture(&pixels_given);
+    take_lent_tree();
+    take_work_and_number();
+}
+
+static void take_pass(void)
+{
+    take_picture(&pixels_given);
+    take_lent_tree();
+    place = take_word();
+    other_place = take_word();
+    take_work_and_number();
+    if (number == 0)
+        value = take_number(255);
+}
+
+static void take_watershed(void)
+{
+    take_picture(&pixels_given);
+    out_length = take_length();
+    take_work_and_number();
+    if (number == 0)
+        take_bytes(&out_given);
+}
+
+static void take_place(void)
+{
+    take_picture(&pixels_given);
+    place = take_word();
+    take_work_and_number();
+    if (number != 0)
+        return;
+    value = take_number(255) * 65536;
+    value += take_number(1600);
 }
 
 static uint16_t *lent_entries(struct memory *memory)
@@ -123,32 +170,42 @@ static uint16_t *lent_entries(struct memory *memory)
     return (uint16_t *)(void *)lent(memory);
 }
 
-/* The number of 16-bit entries that are lent. */
-static size_t entries(const struct memory *memory)
+/* Prepares what every call is lent. */
+static void prepare_picture_and_work(unsigned turn)
 {
-    return memory->length / 2;
-}
-
-static void prepare_picture_and_work(size_t work_length, unsigned turn)
-{
-    prepare_input(&pixels, pixels_given.bytes, pixels_given.length, 1, 3, turn);
+    /* What an earlier case left in memory is no fault of this one. */
+    for (size_t index = 0; index < MEMORIES; index++)
+        remember(memories[index].memory);
+    prepare_input(&pixels, &pixels_given, 1, 3, turn);
     prepare(&work, 2 * work_length, 2, 7, turn);
 }
 
 static void prepare_lent_tree(unsigned turn)
 {
-    prepare_input(&heights, heights_given.bytes, heights_given.length, 1, 9,
-                  turn);
-    prepare_input(&fathers, fathers_given.bytes, fathers_given.length, 2, 11,
-                  turn);
-    prepare_input(&firsts, firsts_given.bytes, firsts_given.length, 2, 13,
-                  turn);
-    prepare_input(&map, map_given.bytes, map_given.length, 2, 15, turn);
+    prepare_input(&heights, &heights_given, 1, 9, turn);
+    prepare_input(&fathers, &fathers_given, 2, 11, turn);
+    prepare_input(&firsts, &firsts_given, 2, 13, turn);
+    prepare_input(&map, &map_given, 2, 15, turn);
+}
+
+static void prepare_tree_output(unsigned turn)
+{
+    prepare(&heights, heights_length, 1, 9, turn);
+    prepare(&fathers, 2 * fathers_length, 2, 11, turn);
+    prepare(&firsts, 2 * firsts_length, 2, 13, turn);
+    prepare(&map, 2 * map_length, 2, 15, turn);
+}
+
+/* Says that after success the memory begins with the bytes of a field. */
+static void expect_given(struct memory *memory, const struct given *given)
+{
+    if (number == 0)
+        expect(memory, given->bytes, given->length);
 }
 
 /* Checks the result and all memory; work is zero over 5 n entries after
- * success. The value is 0 on a refusal, after a check and after a watershed. */
-static int check(uint64_t result, uint64_t number, uint64_t value)
+ * success. */
+static int check(uint64_t result)
 {
     static const uint8_t zeros[MEMORY_ROOM];
     if (number == 0)
@@ -168,209 +225,74 @@ static int check(uint64_t result, uint64_t number, uint64_t value)
     return 1;
 }
 
-static int run_label(void)
+static int run_label(unsigned turn)
 {
-    take_picture();
-    uint8_t k = (uint8_t)take_number(255);
-    size_t out_length = take_length();
-    size_t work_length = take_length();
-    uint64_t number = take_number(12);
-    uint64_t count = 0;
-    if (number == 0) {
-        count = take_number(1600);
-        take_entries(&out_given);
-    }
-    if (!well_formed())
-        return 0;
-    for (unsigned turn = 0; turn < 2; turn++) {
-        prepare_picture_and_work(work_length, turn);
-        prepare(&out, 2 * out_length, 2, 5, turn);
-        uint64_t result = bench_label_section(
-            adjacency, width, height, lent(&pixels), pixels.length, k,
-            lent_entries(&out), entries(&out), lent_entries(&work),
-            entries(&work));
-        if (number == 0)
-            expect(&out, out_given.bytes, out_given.length);
-        if (!check(result, number, count))
-            return 0;
-    }
-    return 1;
+    prepare_picture_and_work(turn);
+    prepare(&out, 2 * out_length, 2, 5, turn);
+    uint64_t result = bench_label_section(PICTURE, k, ENTRIES(out),
+                                          ENTRIES(work));
+    expect_given(&out, &out_given);
+    return check(result);
 }
 
-static int run_lowerable(void)
+static int run_lowerable(unsigned turn)
 {
-    take_picture();
-    uint32_t place = (uint32_t)take_number(UINT32_MAX);
-    size_t work_length = take_length();
-    uint64_t number = take_number(12);
-    uint64_t answer = number == 0 ? take_number(1) : 0;
-    if (!well_formed())
-        return 0;
-    for (unsigned turn = 0; turn < 2; turn++) {
-        prepare_picture_and_work(work_length, turn);
-        uint64_t result = bench_is_lowerable(
-            adjacency, width, height, lent(&pixels), pixels.length, place,
-            lent_entries(&work), entries(&work));
-        if (!check(result, number, answer))
-            return 0;
-    }
-    return 1;
+    prepare_picture_and_work(turn);
+    return check(bench_is_lowerable(PICTURE, place, ENTRIES(work)));
 }
 
-static int run_tree(void)
+static int run_tree(unsigned turn)
 {
-    take_picture();
-    size_t heights_length = take_length();
-    size_t fathers_length = take_length();
-    size_t firsts_length = take_length();
-    size_t map_length = take_length();
-    size_t work_length = take_length();
-    uint64_t number = take_number(12);
-    uint32_t count = number == 0 ? take_tree() : 0;
-    if (!well_formed())
-        return 0;
-    for (unsigned turn = 0; turn < 2; turn++) {
-        prepare_picture_and_work(work_length, turn);
-        prepare(&heights, heights_length, 1, 9, turn);
-        prepare(&fathers, 2 * fathers_length, 2, 11, turn);
-        prepare(&firsts, 2 * firsts_length, 2, 13, turn);
-        prepare(&map, 2 * map_length, 2, 15, turn);
-        uint64_t result = bench_component_tree(
-            adjacency, width, height, lent(&pixels), pixels.length,
-            lent(&heights), heights.length, lent_entries(&fathers),
-            entries(&fathers), lent_entries(&firsts), entries(&firsts),
-            lent_entries(&map), entries(&map), lent_entries(&work),
-            entries(&work));
-        if (number == 0) {
-            expect(&heights, heights_given.bytes, heights_given.length);
-            expect(&fathers, fathers_given.bytes, fathers_given.length);
-            expect(&firsts, firsts_given.bytes, firsts_given.length);
-            expect(&map, map_given.bytes, map_given.length);
-        }
-        if (!check(result, number, count))
-            return 0;
-    }
-    return 1;
+    prepare_picture_and_work(turn);
+    prepare_tree_output(turn);
+    uint64_t result = bench_component_tree(PICTURE, TREE, ENTRIES(work));
+    expect_given(&heights, &heights_given);
+    expect_given(&fathers, &fathers_given);
+    expect_given(&firsts, &firsts_given);
+    expect_given(&map, &map_given);
+    return check(result);
 }
 
-static int run_check(void)
+static int run_check(unsigned turn)
 {
-    take_picture();
-    uint32_t count = take_tree();
-    size_t work_length = take_length();
-    uint64_t number = take_number(12);
-    if (!well_formed())
-        return 0;
-    for (unsigned turn = 0; turn < 2; turn++) {
-        prepare_picture_and_work(work_length, turn);
-        prepare_lent_tree(turn);
-        uint64_t result = bench_check_tree(
-            adjacency, width, height, lent(&pixels), pixels.length, count,
-            lent(&heights), heights.length, lent_entries(&fathers),
-            entries(&fathers), lent_entries(&firsts), entries(&firsts),
-            lent_entries(&map), entries(&map), lent_entries(&work),
-            entries(&work));
-        if (!check(result, number, 0))
-            return 0;
-    }
-    return 1;
+    prepare_picture_and_work(turn);
+    prepare_lent_tree(turn);
+    return check(bench_check_tree(PICTURE, node_count, TREE, ENTRIES(work)));
 }
 
-static int run_pass(void)
+static int run_pass(unsigned turn)
 {
-    take_picture();
-    uint32_t count = take_tree();
-    uint32_t one = (uint32_t)take_number(UINT32_MAX);
-    uint32_t other = (uint32_t)take_number(UINT32_MAX);
-    size_t work_length = take_length();
-    uint64_t number = take_number(12);
-    uint64_t pass = number == 0 ? take_number(255) : 0;
-    if (!well_formed())
-        return 0;
-    for (unsigned turn = 0; turn < 2; turn++) {
-        prepare_picture_and_work(work_length, turn);
-        prepare_lent_tree(turn);
-        uint64_t result = bench_pass_between(
-            adjacency, width, height, lent(&pixels), pixels.length, count,
-            lent(&heights), heights.length, lent_entries(&fathers),
-            entries(&fathers), lent_entries(&firsts), entries(&firsts),
-            lent_entries(&map), entries(&map), one, other,
-            lent_entries(&work), entries(&work));
-        if (!check(result, number, pass))
-            return 0;
-    }
-    return 1;
+    prepare_picture_and_work(turn);
+    prepare_lent_tree(turn);
+    return check(bench_pass_between(PICTURE, node_count, TREE, place,
+                                    other_place, ENTRIES(work)));
 }
 
-static int run_watershed(void)
+static int run_watershed(unsigned turn)
 {
-    take_picture();
-    size_t out_length = take_length();
-    size_t work_length = take_length();
-    uint64_t number = take_number(12);
-    if (number == 0)
-        take_bytes(&out_given);
-    if (!well_formed())
-        return 0;
-    for (unsigned turn = 0; turn < 2; turn++) {
-        prepare_picture_and_work(work_length, turn);
-        prepare(&out, out_length, 1, 5, turn);
-        uint64_t result = bench_watershed_of(
-            adjacency, width, height, lent(&pixels), pixels.length,
-            lent(&out), out.length, lent_entries(&work), entries(&work));
-        if (number == 0)
-            expect(&out, out_given.bytes, out_given.length);
-        if (!check(result, number, 0))
-            return 0;
-    }
-    return 1;
+    prepare_picture_and_work(turn);
+    prepare(&out, out_length, 1, 5, turn);
+    uint64_t result = bench_watershed_of(PICTURE, BYTES(out), ENTRIES(work));
+    expect_given(&out, &out_given);
+    return check(result);
 }
 
-static int run_place(void)
+static int run_place(unsigned turn)
 {
-    take_picture();
-    uint32_t place = (uint32_t)take_number(UINT32_MAX);
-    size_t work_length = take_length();
-    uint64_t number = take_number(12);
-    uint64_t value = number == 0 ? take_number(255) : 0;
-    uint64_t patch = number == 0 ? take_number(1600) : 0;
-    if (!well_formed())
-        return 0;
-    for (unsigned turn = 0; turn < 2; turn++) {
-        prepare_picture_and_work(work_length, turn);
-        uint64_t result = bench_query_place(
-            adjacency, width, height, lent(&pixels), pixels.length, place,
-            lent_entries(&work), entries(&work));
-        if (!check(result, number, value * 65536 + patch))
-            return 0;
-    }
-    return 1;
-}
-
-static int run_case(char **fields, int count)
-{
-    static const struct {
-        const char *name;
-        int (*run)(void);
-    } kinds[] = {{"label", run_label}, {"lowerable", run_lowerable},
-                 {"tree", run_tree},   {"check", run_check},
-                 {"pass", run_pass},   {"watershed", run_watershed},
-                 {"place", run_place}};
-    next_field = fields;
-    fields_left = count;
-    malformed = 0;
-    /* What an earlier case left in memory is no fault of this one. */
-    for (size_t index = 0; index < MEMORIES; index++)
-        remember(memories[index].memory);
-    const char *name = take_field();
-    for (size_t index = 0; index < sizeof kinds / sizeof *kinds; index++)
-        if (strcmp(name, kinds[index].name) == 0)
-            return kinds[index].run();
-    printf("case malformed\n");
-    return 0;
+    prepare_picture_and_work(turn);
+    return check(bench_query_place(PICTURE, place, ENTRIES(work)));
 }
 
 int main(void)
 {
-    return run_cases(run_case);
+    static const struct kind kinds[] = {
+        {"label", take_label, run_label},
+        {"lowerable", take_lowerable, run_lowerable},
+        {"tree", take_tree, run_tree},
+        {"check", take_check, run_check},
+        {"pass", take_pass, run_pass},
+        {"watershed", take_watershed, run_watershed},
+        {"place", take_place, run_place},
+    };
+    return run_cases(kinds, sizeof kinds / sizeof *kinds);
 }

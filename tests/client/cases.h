@@ -28,6 +28,12 @@ struct memory {
     size_t length;
 };
 
+/* Bytes of a field, in the order in which memory has them. */
+struct given {
+    uint8_t bytes[MEMORY_ROOM];
+    size_t length;
+};
+
 /* Takes the memory as it is for what it holds before a call. */
 static void remember(struct memory *memory)
 {
@@ -48,13 +54,12 @@ static void prepare(struct memory *memory, size_t length, size_t entry_size,
     remember(memory);
 }
 
-/* Memory that holds these bytes. */
-static void prepare_input(struct memory *memory, const uint8_t *bytes,
-                          size_t length, size_t entry_size, unsigned seed,
-                          unsigned turn)
+/* Memory that holds the bytes of a field. */
+static void prepare_input(struct memory *memory, const struct given *given,
+                          size_t entry_size, unsigned seed, unsigned turn)
 {
-    prepare(memory, length, entry_size, seed, turn);
-    memcpy(memory->bytes + memory->start, bytes, length);
+    prepare(memory, given->length, entry_size, seed, turn);
+    memcpy(memory->bytes + memory->start, given->bytes, given->length);
     remember(memory);
 }
 
@@ -129,9 +134,80 @@ static int split(char *line, char **fields)
     return count;
 }
 
+/* The fields that are not taken yet; malformed if one did not fit. */
+static char **next_field;
+static int fields_left;
+static int malformed;
+
+static const char *take_field(void)
+{
+    if (fields_left == 0) {
+        malformed = 1;
+        return "0";
+    }
+    fields_left--;
+    return *next_field++;
+}
+
+static uint64_t take_number(uint64_t most)
+{
+    uint64_t number = 0;
+    if (!parse_number(take_field(), most, &number))
+        malformed = 1;
+    return number;
+}
+
+static uint32_t take_word(void)
+{
+    return (uint32_t)take_number(UINT32_MAX);
+}
+
+static void take_bytes(struct given *given)
+{
+    if (!parse_bytes(take_field(), given->bytes, &given->length))
+        malformed = 1;
+}
+
+/* The arguments that every call on a picture has, but for its pixels. */
+static uint32_t adjacency, width, height;
+
+static void take_picture(struct given *pixels)
+{
+    adjacency = take_word();
+    width = take_word();
+    height = take_word();
+    take_bytes(pixels);
+}
+
+/* A kind of case: how its fields are taken, and one run of its call, which
+ * answers whether all is as expected. */
+struct kind {
+    const char *name;
+    void (*take)(void);
+    int (*run)(unsigned turn);
+};
+
+/* Says that a case is malformed and answers 0; each client has its own. */
+static int malformed_case(void);
+
+/* Takes the fields of a case and runs it twice. */
+static int run_case(const struct kind *kinds, size_t kind_count)
+{
+    const char *name = take_field();
+    size_t index = 0;
+    while (index < kind_count && strcmp(name, kinds[index].name) != 0)
+        index++;
+    if (index == kind_count)
+        return malformed_case();
+    kinds[index].take();
+    if (malformed || fields_left != 0)
+        return malformed_case();
+    return kinds[index].run(0) && kinds[index].run(1);
+}
+
 /* Runs the cases of standard input and prints the wrong ones. Answers the
  * status of the program: 0 if there are cases and none is wrong. */
-static int run_cases(int (*run_case)(char **fields, int count))
+static int run_cases(const struct kind *kinds, size_t kind_count)
 {
     static char line[LINE_ROOM];
     static char copy[LINE_ROOM];
@@ -140,8 +216,11 @@ static int run_cases(int (*run_case)(char **fields, int count))
     while (fgets(line, sizeof line, stdin) != NULL) {
         char *fields[MAXIMUM_FIELDS];
         strcpy(copy, line);
+        next_field = fields;
+        fields_left = split(copy, fields);
+        malformed = 0;
         cases++;
-        if (!run_case(fields, split(copy, fields))) {
+        if (!run_case(kinds, kind_count)) {
             wrong_cases++;
             printf("case %lu: %s", cases, line);
         }

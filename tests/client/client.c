@@ -14,35 +14,108 @@
 #include "board.h"
 #include "cases.h"
 
+/* A slice reaches C as pointer and length. */
+#define SLICE(memory) lent(&memory), memory.length
+
+/* The arguments of a call, its number, and what its output begins with. */
+static uint32_t place;
+static struct given input_given;
+static size_t out_length, work_length;
+static uint64_t number;
+static struct given expected;
+
 static struct memory input;
 static struct memory out;
 static struct memory work;
-static uint8_t expected[MEMORY_ROOM];
-
-/* Writes a number as eight bytes, lowest first. */
-static void eight_bytes(uint8_t *bytes, uint64_t number)
-{
-    for (int index = 0; index < 8; index++)
-        bytes[index] = (uint8_t)(number >> (8 * index));
-}
 
 /* Prints what differs and answers 0. */
-static int wrong(const char *what, uint32_t result, uint64_t number)
+static int wrong(const char *what, uint32_t result, uint64_t wanted)
 {
     printf("%s; returned %lu, expected %lu\n", what, (unsigned long)result,
-           (unsigned long)number);
+           (unsigned long)wanted);
     return 0;
 }
 
-/* Checks memory after a call: after success `count` bytes of `expected` are
- * the output and `zeroed` bytes of work are zero. */
-static int check(uint32_t result, uint64_t number, size_t count, size_t zeroed)
+static int malformed_case(void)
+{
+    return wrong("case malformed", 0, 0);
+}
+
+/* Takes a number and expects it as eight bytes, lowest first, behind what is
+ * expected already. */
+static void take_expected(uint64_t most)
+{
+    uint64_t value = take_number(most);
+    for (int index = 0; index < 8; index++)
+        expected.bytes[expected.length++] = (uint8_t)(value >> (8 * index));
+}
+
+static size_t take_length(void)
+{
+    return (size_t)take_number(MEMORY_ROOM);
+}
+
+/* Takes the number; nothing is expected of the output yet. */
+static void take_refusal(void)
+{
+    number = take_number(12);
+    expected.length = 0;
+}
+
+static void take_read(void)
+{
+    take_bytes(&input_given);
+    out_length = take_length();
+    work_length = 0;
+    take_refusal();
+    if (number != 0)
+        return;
+    for (int index = 0; index < 4; index++)
+        take_expected(UINT32_MAX);
+}
+
+static void take_watershed(void)
+{
+    take_picture(&input_given);
+    out_length = take_length();
+    work_length = take_length();
+    take_refusal();
+    if (number != 0)
+        return;
+    take_bytes(&expected);
+    if (expected.length != input_given.length)
+        malformed = 1;
+}
+
+static void take_place(void)
+{
+    take_picture(&input_given);
+    place = take_word();
+    out_length = take_length();
+    work_length = take_length();
+    take_refusal();
+    if (number != 0)
+        return;
+    take_expected(255);
+    take_expected(1600);
+}
+
+static void prepare_memory(unsigned turn)
+{
+    prepare_input(&input, &input_given, 1, 3, turn);
+    prepare(&out, out_length, 1, 5, turn);
+    prepare(&work, work_length, 1, 7, turn);
+}
+
+/* Checks memory after a call: after success the output begins with what is
+ * expected, and `zeroed` bytes of work are zero. */
+static int check(uint32_t result, size_t zeroed)
 {
     static const uint8_t zeros[MEMORY_ROOM];
     if (result != number)
         return wrong("wrong number", result, number);
     if (number == 0) {
-        expect(&out, expected, count);
+        expect(&out, expected.bytes, expected.length);
         expect(&work, zeros, zeroed);
     }
     if (!as_expected(&input))
@@ -54,116 +127,34 @@ static int check(uint32_t result, uint64_t number, size_t count, size_t zeroed)
     return 1;
 }
 
-static int run_read(char **fields, int count)
+static int run_read(unsigned turn)
 {
-    static uint8_t file[MEMORY_ROOM];
-    size_t file_length;
-    uint64_t out_length, number;
-    if (count < 4 || !parse_bytes(fields[1], file, &file_length) ||
-        !parse_number(fields[2], MEMORY_ROOM, &out_length) ||
-        !parse_number(fields[3], 12, &number) ||
-        count != (number == 0 ? 8 : 4))
-        return wrong("case malformed", 0, 0);
-    if (number == 0) {
-        for (int index = 0; index < 4; index++) {
-            uint64_t value;
-            if (!parse_number(fields[4 + index], UINT32_MAX, &value))
-                return wrong("case malformed", 0, 0);
-            eight_bytes(expected + 8 * index, value);
-        }
-    }
-    for (unsigned turn = 0; turn < 2; turn++) {
-        prepare_input(&input, file, file_length, 1, 3, turn);
-        prepare(&out, out_length, 1, 5, turn);
-        prepare(&work, 0, 1, 7, turn);
-        uint32_t result = board_read(lent(&input), input.length, lent(&out),
-                                     out.length);
-        if (!check(result, number, 32, 0))
-            return 0;
-    }
-    return 1;
+    prepare_memory(turn);
+    return check(board_read(SLICE(input), SLICE(out)), 0);
 }
 
-static int run_watershed(char **fields, int count)
+static int run_watershed(unsigned turn)
 {
-    static uint8_t pixels[MEMORY_ROOM];
-    size_t pixels_length, expected_length = 0;
-    uint64_t adjacency, width, height, out_length, work_length, number;
-    if (count < 8 || !parse_number(fields[1], UINT32_MAX, &adjacency) ||
-        !parse_number(fields[2], UINT32_MAX, &width) ||
-        !parse_number(fields[3], UINT32_MAX, &height) ||
-        !parse_bytes(fields[4], pixels, &pixels_length) ||
-        !parse_number(fields[5], MEMORY_ROOM, &out_length) ||
-        !parse_number(fields[6], MEMORY_ROOM, &work_length) ||
-        !parse_number(fields[7], 12, &number) ||
-        count != (number == 0 ? 9 : 8))
-        return wrong("case malformed", 0, 0);
-    if (number == 0 && (!parse_bytes(fields[8], expected, &expected_length) ||
-                        expected_length != pixels_length))
-        return wrong("case malformed", 0, 0);
-    for (unsigned turn = 0; turn < 2; turn++) {
-        prepare_input(&input, pixels, pixels_length, 1, 3, turn);
-        prepare(&out, out_length, 1, 5, turn);
-        prepare(&work, work_length, 1, 7, turn);
-        uint32_t result = board_watershed(
-            (uint32_t)adjacency, (uint32_t)width, (uint32_t)height,
-            lent(&input), input.length, lent(&out), out.length, lent(&work),
-            work.length);
-        if (!check(result, number, pixels_length, 10 * pixels_length))
-            return 0;
-    }
-    return 1;
+    prepare_memory(turn);
+    uint32_t result = board_watershed(adjacency, width, height, SLICE(input),
+                                      SLICE(out), SLICE(work));
+    return check(result, 10 * input_given.length);
 }
 
-static int run_place(char **fields, int count)
+static int run_place(unsigned turn)
 {
-    static uint8_t pixels[MEMORY_ROOM];
-    size_t pixels_length;
-    uint64_t adjacency, width, height, place, out_length, work_length, number;
-    if (count < 9 || !parse_number(fields[1], UINT32_MAX, &adjacency) ||
-        !parse_number(fields[2], UINT32_MAX, &width) ||
-        !parse_number(fields[3], UINT32_MAX, &height) ||
-        !parse_bytes(fields[4], pixels, &pixels_length) ||
-        !parse_number(fields[5], UINT32_MAX, &place) ||
-        !parse_number(fields[6], MEMORY_ROOM, &out_length) ||
-        !parse_number(fields[7], MEMORY_ROOM, &work_length) ||
-        !parse_number(fields[8], 12, &number) ||
-        count != (number == 0 ? 11 : 9))
-        return wrong("case malformed", 0, 0);
-    if (number == 0) {
-        uint64_t value, patch;
-        if (!parse_number(fields[9], 255, &value) ||
-            !parse_number(fields[10], 1600, &patch))
-            return wrong("case malformed", 0, 0);
-        eight_bytes(expected, value);
-        eight_bytes(expected + 8, patch);
-    }
-    for (unsigned turn = 0; turn < 2; turn++) {
-        prepare_input(&input, pixels, pixels_length, 1, 3, turn);
-        prepare(&out, out_length, 1, 5, turn);
-        prepare(&work, work_length, 1, 7, turn);
-        uint32_t result = board_place(
-            (uint32_t)adjacency, (uint32_t)width, (uint32_t)height,
-            lent(&input), input.length, (uint32_t)place, lent(&out),
-            out.length, lent(&work), work.length);
-        if (!check(result, number, 16, 10 * pixels_length))
-            return 0;
-    }
-    return 1;
-}
-
-static int run_case(char **fields, int count)
-{
-    if (count > 0 && strcmp(fields[0], "read") == 0)
-        return run_read(fields, count);
-    if (count > 0 && strcmp(fields[0], "watershed") == 0)
-        return run_watershed(fields, count);
-    if (count > 0 && strcmp(fields[0], "place") == 0)
-        return run_place(fields, count);
-    return wrong("case malformed", 0, 0);
+    prepare_memory(turn);
+    uint32_t result = board_place(adjacency, width, height, SLICE(input),
+                                  place, SLICE(out), SLICE(work));
+    return check(result, 10 * input_given.length);
 }
 
 int main(void)
 {
-    return run_cases(run_case);
+    static const struct kind kinds[] = {
+        {"read", take_read, run_read},
+        {"watershed", take_watershed, run_watershed},
+        {"place", take_place, run_place},
+    };
+    return run_cases(kinds, sizeof kinds / sizeof *kinds);
 }

@@ -14,44 +14,63 @@
 
 use crate::generate;
 use crate::lent::LentTree;
+use crate::limits::{self, Change};
 use crate::literal::{Adjacency, Picture};
-use crate::question::{exact_call, other_adjacency, tree_of, Call, Question, KINDS};
+use crate::question::{exact_call, exact_calls, other_adjacency, tree_of, Call, Question, KINDS};
 use crate::quick;
 use crate::random::Random;
 use crate::worked;
 
+/// The pictures worked by hand, each also under the other adjacency and
+/// lowered.
+fn worked_pictures() -> Vec<Picture> {
+    worked::table()
+        .into_iter()
+        .flat_map(|(_, given, lowered)| [other_adjacency(&given), given, lowered])
+        .collect()
+}
+
+/// The questions about one place, and about it and each other one.
+fn questions_of_place(lent: &LentTree, count: u32, one: u32) -> Vec<Question> {
+    let mut questions = vec![
+        Question::Lowerable { place: one },
+        Question::Place { place: one },
+    ];
+    questions.extend((0..count).map(|other| Question::Pass {
+        lent: lent.clone(),
+        places: [one, other],
+    }));
+    questions
+}
+
+/// Every question about a picture, its tree lent right.
+fn questions_of_picture(picture: &Picture, lent: LentTree) -> Vec<Question> {
+    let out_length = picture.count();
+    let count = out_length as u32;
+    let mut questions: Vec<Question> = (0..=10)
+        .chain([254, 255])
+        .map(|height| Question::Label { height, out_length })
+        .collect();
+    questions.push(Question::Tree {
+        lengths: [out_length; 4],
+    });
+    questions.push(Question::Check { lent: lent.clone() });
+    questions.push(Question::Watershed { out_length });
+    questions.extend((0..count).flat_map(|place| questions_of_place(&lent, count, place)));
+    questions
+}
+
 /// Every question about a picture worked by hand, under both adjacencies.
 fn calls_of_worked_pictures() -> Vec<Call> {
     let mut random = Random::new(40_001);
-    let mut questions: Vec<(Picture, Question)> = Vec::new();
-    for (_, given, lowered) in worked::table() {
-        for picture in [other_adjacency(&given), given, lowered] {
-            let count = picture.count();
-            let out_length = count;
-            let lent = LentTree::new(&tree_of(&picture)).lengthen(&mut random, [count; 4]);
-            let mut ask = |question| questions.push((picture.clone(), question));
-            for height in (0..=10).chain([254, 255]) {
-                ask(Question::Label { height, out_length });
-            }
-            ask(Question::Tree {
-                lengths: [count; 4],
-            });
-            ask(Question::Check { lent: lent.clone() });
-            ask(Question::Watershed { out_length });
-            for one in 0..count as u32 {
-                ask(Question::Lowerable { place: one });
-                ask(Question::Place { place: one });
-                for other in 0..count as u32 {
-                    let (lent, places) = (lent.clone(), [one, other]);
-                    ask(Question::Pass { lent, places });
-                }
-            }
-        }
+    let mut calls = Vec::new();
+    for picture in worked_pictures() {
+        let lengths = [picture.count(); 4];
+        let lent = LentTree::new(&tree_of(&picture)).lengthen(&mut random, lengths);
+        let questions = questions_of_picture(&picture, lent);
+        calls.extend(exact_calls(&picture, questions));
     }
-    questions
-        .into_iter()
-        .map(|(picture, question)| exact_call(&picture, question))
-        .collect()
+    calls
 }
 
 /// Checks of the trees of the pictures worked by hand, with the count or one
@@ -59,37 +78,36 @@ fn calls_of_worked_pictures() -> Vec<Call> {
 fn checks_of_damaged_trees() -> Vec<Call> {
     let mut random = Random::new(40_004);
     let mut calls = Vec::new();
-    for (_, given, lowered) in worked::table() {
-        for picture in [other_adjacency(&given), given, lowered] {
-            let count = picture.count();
-            let lengths = [count + 1; 4];
-            let right = LentTree::new(&tree_of(&picture)).lengthen(&mut random, lengths);
-            for lent in right.changes() {
-                calls.push(exact_call(&picture, Question::Check { lent }));
-            }
-        }
+    for picture in worked_pictures() {
+        let lengths = [picture.count() + 1; 4];
+        let right = LentTree::new(&tree_of(&picture)).lengthen(&mut random, lengths);
+        let changes = right.changes().into_iter();
+        let questions = changes.map(|lent| Question::Check { lent }).collect();
+        calls.extend(exact_calls(&picture, questions));
     }
     calls
 }
 
-/// Pictures of 40 by 40 with many nodes: dark and pale pixels by turns.
+/// A picture of 40 by 40 with many nodes: dark and pale pixels by turns.
+fn picture_of_many_nodes(random: &mut Random, pale_values: usize, adjacency: Adjacency) -> Picture {
+    Picture {
+        width: 40,
+        height: 40,
+        pixels: (0..1600)
+            .map(|place| match (place / 40 + place) % 2 {
+                0 => random.below(10) as u8,
+                _ => 10 + random.below(pale_values) as u8,
+            })
+            .collect(),
+        adjacency,
+    }
+}
+
 fn pictures_of_many_nodes(random: &mut Random) -> Vec<Picture> {
     let mut pictures = Vec::new();
     for pale_values in [1, 4, 246] {
-        for adjacency in [Adjacency::Four, Adjacency::Eight] {
-            let pixels = (0..1600)
-                .map(|place| match (place / 40 + place) % 2 {
-                    0 => random.below(10) as u8,
-                    _ => 10 + random.below(pale_values) as u8,
-                })
-                .collect();
-            pictures.push(Picture {
-                width: 40,
-                height: 40,
-                pixels,
-                adjacency,
-            });
-        }
+        pictures.push(picture_of_many_nodes(random, pale_values, Adjacency::Four));
+        pictures.push(picture_of_many_nodes(random, pale_values, Adjacency::Eight));
     }
     pictures
 }
@@ -113,99 +131,98 @@ fn calls_of_h10() -> Vec<Call> {
         Question::Watershed { out_length: 6 },
         Question::Place { place: 5 },
     ];
-    questions
-        .into_iter()
-        .map(|question| exact_call(&picture, question))
-        .collect()
+    exact_calls(&picture, questions)
 }
 
-/// Sets the length of one of the lists that only this call lends.
-fn set_length(question: &mut Question, which: usize, length: usize) {
-    match question {
-        Question::Label { out_length, .. } | Question::Watershed { out_length } => {
-            *out_length = length
-        }
-        Question::Tree { lengths } => lengths[which] = length,
-        Question::Check { lent } | Question::Pass { lent, .. } => lent.set_length(which, length),
-        _ => {}
+/// Gives a call a set of the causes 7, 3, 8, 9 by a list, 9 by the work
+/// memory, 10 and 11.
+fn give_causes(call: &mut Call, set: usize) {
+    let has = |cause: usize| set >> cause & 1 == 1;
+    if has(0) {
+        call.adjacency = 5;
+    }
+    if has(1) {
+        call.sides.1 = 41;
+    }
+    if has(2) {
+        call.pixels.push(4);
+    }
+    // The damage first: a shortened list loses its last entry only.
+    if let (true, Some(lent)) = (has(6), call.question.lent_mut()) {
+        lent.map[0] ^= 1;
+    }
+    if has(3) {
+        call.question.set_length(set % 4, 5);
+    }
+    if has(4) {
+        call.work_length = 29;
+    }
+    if has(5) {
+        call.question.set_place(set % 2, 6);
     }
 }
 
-fn set_place(question: &mut Question, which: usize, new: u32) {
-    match question {
-        Question::Lowerable { place } | Question::Place { place } => *place = new,
-        Question::Pass { places, .. } => places[which] = new,
-        _ => {}
-    }
-}
-
-/// Calls for the order of refusals: one for each kind of call and each set
-/// of the causes 7, 3, 8, 9 by a list, 9 by the work memory, 10 and 11.
+/// Calls for the order of refusals: one for each set of causes and each kind
+/// of call.
 fn calls_for_the_order() -> Vec<Call> {
     let mut calls = Vec::new();
     for set in 0..128 {
-        let has = |cause: usize| set >> cause & 1 == 1;
-        for mut call in calls_of_h10() {
-            if has(0) {
-                call.adjacency = 5;
-            }
-            if has(1) {
-                call.sides.1 = 41;
-            }
-            if has(2) {
-                call.pixels.push(4);
-            }
-            // The damage first: a shortened list loses its last entry only.
-            if let (true, Some(lent)) = (has(6), call.question.lent_mut()) {
-                lent.map[0] ^= 1;
-            }
-            if has(3) {
-                set_length(&mut call.question, set % 4, 5);
-            }
-            if has(4) {
-                call.work_length = 29;
-            }
-            if has(5) {
-                set_place(&mut call.question, set % 2, 6);
-            }
-            calls.push(call);
-        }
+        let mut of_set = calls_of_h10();
+        of_set.iter_mut().for_each(|call| give_causes(call, set));
+        calls.extend(of_set);
     }
     calls
 }
+
+/// The numbers that an argument takes in turn, and how it takes one.
+const LIMITS: [(&[u32], &[Change<Call>]); 6] = [
+    (
+        &[0, 3, 4, 5, 7, 8, 9, 260, 264, 65_540, u32::MAX],
+        &[|call, adjacency| call.adjacency = adjacency],
+    ),
+    (
+        &limits::SIDES,
+        &[
+            |call, side| call.sides.0 = side,
+            |call, side| call.sides.1 = side,
+            |call, side| call.sides = (side, side),
+        ],
+    ),
+    (
+        &limits::LENGTHS,
+        &[|call, length| call.pixels.resize(length as usize, 1)],
+    ),
+    (
+        &limits::LENGTHS,
+        &[
+            |call, length| call.question.set_length(0, length as usize),
+            |call, length| call.question.set_length(1, length as usize),
+            |call, length| call.question.set_length(2, length as usize),
+            |call, length| call.question.set_length(3, length as usize),
+        ],
+    ),
+    (
+        &[0, 1, 6, 24, 29, 30, 31, 60],
+        &[|call, length| call.work_length = length as usize],
+    ),
+    (
+        &[0, 1, 5, 6, 7, 256, 65_536, 65_541, u32::MAX],
+        &[
+            |call, place| call.question.set_place(0, place),
+            |call, place| call.question.set_place(1, place),
+        ],
+    ),
+];
 
 /// Calls with one argument at a limit each.
 fn calls_at_the_limits() -> Vec<Call> {
     let mut calls = Vec::new();
     for good in calls_of_h10() {
-        let mut with = |change: &dyn Fn(&mut Call)| {
-            let mut call = good.clone();
-            change(&mut call);
-            calls.push(call);
-        };
-        for adjacency in [0, 3, 4, 5, 7, 8, 9, 260, 264, 65_540, u32::MAX] {
-            with(&|call| call.adjacency = adjacency);
-        }
-        for side in [0, 1, 40, 41, 256, 259, 65_536, 65_539, u32::MAX] {
-            with(&|call| call.sides.0 = side);
-            with(&|call| call.sides.1 = side);
-            with(&|call| call.sides = (side, side));
-        }
-        for length in [0, 1, 5, 7, 12] {
-            with(&|call| call.pixels.resize(length, 1));
-        }
-        for length in [0, 1, 5, 7, 12] {
-            for which in 0..4 {
-                with(&|call| set_length(&mut call.question, which, length));
-            }
-        }
-        for length in [0, 1, 6, 24, 29, 30, 31, 60] {
-            with(&|call| call.work_length = length);
-        }
-        for place in [0, 1, 5, 6, 7, 256, 65_536, 65_541, u32::MAX] {
-            with(&|call| set_place(&mut call.question, 0, place));
-            with(&|call| set_place(&mut call.question, 1, place));
-        }
+        calls.extend(
+            LIMITS
+                .iter()
+                .flat_map(|(numbers, changes)| limits::changed(&good, numbers, changes)),
+        );
     }
     calls
 }
@@ -287,27 +304,50 @@ fn question(random: &mut Random, kind: &str, picture: &Picture) -> Question {
 fn break_call(random: &mut Random, call: &mut Call) {
     let count = call.pixels.len();
     match random.below(5) {
-        0 => call.adjacency = random.one_of(&[0, 3, 5, 6, 7, 9, 16, 48]),
+        0 => call.adjacency = limits::wrong_adjacency(random),
         1 => {
-            let side = random.one_of(&[0, 41, 42, 1000, u32::MAX]);
+            let side = limits::wrong_side(random);
             call.sides = random.one_of(&[(side, call.sides.1), (call.sides.0, side)]);
         }
-        2 => {
-            let length = random.one_of(&[0, count.saturating_sub(1), count + 1, 2 * count]);
-            call.pixels.resize(length, 3);
-        }
+        2 => limits::break_length(random, &mut call.pixels),
         3 => {
             if random.below(2) == 0 {
-                set_length(&mut call.question, random.below(4), random.below(count + 1));
+                call.question
+                    .set_length(random.below(4), random.below(count + 1));
             } else {
                 call.work_length = random.below(5 * count + 1);
             }
         }
         _ => {
-            let place = count as u32 + random.one_of(&[0, 1, 7, 100_000]);
-            set_place(&mut call.question, random.below(2), place);
+            let place = limits::wrong_place(random, count);
+            call.question.set_place(random.below(2), place);
         }
     }
+}
+
+/// Three calls of each kind for a picture, their memory as long as needed.
+fn three_calls_of_each_kind(random: &mut Random, picture: &Picture) -> Vec<Call> {
+    let kinds = KINDS.repeat(3);
+    let questions = kinds.iter().map(|kind| question(random, kind, picture));
+    exact_calls(picture, questions.collect())
+}
+
+/// A call for a generated picture, sometimes with broken arguments.
+fn generated_call(random: &mut Random, kind: &str) -> Call {
+    let sides = sides(random);
+    let picture = Picture {
+        width: sides.0,
+        height: sides.1,
+        pixels: generate::picture(random, sides).pixels,
+        adjacency: random.one_of(&[Adjacency::Four, Adjacency::Eight]),
+    };
+    let question = question(random, kind, &picture);
+    let mut call = exact_call(&picture, question);
+    call.work_length += random.one_of(&[0, 0, 1, 9, 100]);
+    for _ in 0..random.one_of(&[0, 0, 0, 0, 1, 2]) {
+        break_call(random, &mut call);
+    }
+    call
 }
 
 /// All cases, as lines; `count` of each kind are of generated pictures.
@@ -318,28 +358,10 @@ pub fn text(count: usize) -> String {
     calls.extend(checks_of_damaged_trees());
     let mut random = Random::new(40_003);
     for picture in pictures_of_many_nodes(&mut random) {
-        for kind in KINDS.repeat(3) {
-            let question = question(&mut random, kind, &picture);
-            calls.push(exact_call(&picture, question));
-        }
+        calls.extend(three_calls_of_each_kind(&mut random, &picture));
     }
     for _ in 0..count {
-        for kind in KINDS {
-            let sides = sides(&mut random);
-            let picture = Picture {
-                width: sides.0,
-                height: sides.1,
-                pixels: generate::picture(&mut random, sides).pixels,
-                adjacency: random.one_of(&[Adjacency::Four, Adjacency::Eight]),
-            };
-            let question = question(&mut random, kind, &picture);
-            let mut call = exact_call(&picture, question);
-            call.work_length += random.one_of(&[0, 0, 1, 9, 100]);
-            for _ in 0..random.one_of(&[0, 0, 0, 0, 1, 2]) {
-                break_call(&mut random, &mut call);
-            }
-            calls.push(call);
-        }
+        calls.extend(KINDS.map(|kind| generated_call(&mut random, kind)));
     }
     calls.iter().map(|call| call.line() + "\n").collect()
 }
@@ -347,9 +369,7 @@ pub fn text(count: usize) -> String {
 #[cfg(test)]
 mod tests {
     use super::*;
-    use std::collections::BTreeMap;
 
-    /// The field of the number, counted from 0.
     fn number_field(kind: &str) -> usize {
         match kind {
             "label" => 8,
@@ -362,26 +382,15 @@ mod tests {
 
     #[test]
     fn every_number_occurs() {
-        let mut counts: BTreeMap<(String, u32), usize> = BTreeMap::new();
-        for line in text(100).lines() {
-            let fields: Vec<&str> = line.split(' ').collect();
-            let number = fields[number_field(fields[0])].parse().unwrap();
-            *counts.entry((fields[0].to_string(), number)).or_insert(0) += 1;
-        }
-        for (name, numbers) in [
-            ("label", vec![0, 3, 7, 8, 9]),
-            ("lowerable", vec![0, 3, 7, 8, 9, 10]),
-            ("tree", vec![0, 3, 7, 8, 9]),
-            ("check", vec![0, 3, 7, 8, 9, 11]),
-            ("pass", vec![0, 3, 7, 8, 9, 10, 11]),
-            ("watershed", vec![0, 3, 7, 8, 9]),
-            ("place", vec![0, 3, 7, 8, 9, 10]),
-        ] {
-            let occurring: usize = counts.keys().filter(|key| key.0 == name).count();
-            assert_eq!(occurring, numbers.len(), "{:?}", counts);
-            for number in numbers {
-                assert!(counts[&(name.to_string(), number)] >= 2, "{:?}", counts);
-            }
-        }
+        let expected: [(&str, &[u32]); 7] = [
+            ("label", &[0, 3, 7, 8, 9]),
+            ("lowerable", &[0, 3, 7, 8, 9, 10]),
+            ("tree", &[0, 3, 7, 8, 9]),
+            ("check", &[0, 3, 7, 8, 9, 11]),
+            ("pass", &[0, 3, 7, 8, 9, 10, 11]),
+            ("watershed", &[0, 3, 7, 8, 9]),
+            ("place", &[0, 3, 7, 8, 9, 10]),
+        ];
+        limits::assert_numbers(&text(100), number_field, &expected, 2);
     }
 }

@@ -1,7 +1,7 @@
 //! Runs files through a given `holds` program and through this one.
 
-use crate::edges;
 use crate::damage;
+use crate::edges;
 use crate::file;
 use crate::generate;
 use crate::hexadecimal;
@@ -37,19 +37,19 @@ fn files(count: usize) -> Vec<(String, Vec<u8>)> {
         files.push((format!("order {}", set), file));
     }
     let mut random = Random::new(20_001);
-    for index in 0..count {
-        if index % 3 == 2 {
-            let file = damage::damaged_file(&mut random);
-            files.push((format!("{} damaged", index), file));
-        } else {
-            let sides = generate::sides(&mut random);
-            let picture = generate::picture(&mut random, sides);
-            let file = damage::accepted_file(&mut random, &picture);
-            assert!(file::read_input(&file).is_ok());
-            files.push((format!("{} {}", index, picture.kind), file));
-        }
-    }
+    files.extend((0..count).map(|index| generated_file(&mut random, index)));
     files
+}
+
+/// Every third generated file is damaged.
+fn generated_file(random: &mut Random, index: usize) -> (String, Vec<u8>) {
+    if index % 3 == 2 {
+        return (format!("{} damaged", index), damage::damaged_file(random));
+    }
+    let picture = generate::any_picture(random);
+    let file = damage::accepted_file(random, &picture);
+    assert!(file::read_input(&file).is_ok());
+    (format!("{} {}", index, picture.kind), file)
 }
 
 fn print_file(name: &str, file: &[u8]) {

@@ -10,6 +10,8 @@ struct Parts {
     numbers: [Vec<u8>; 3],
     end: Vec<u8>,
     pixels: Vec<u8>,
+    /// The largest sample of the picture.
+    largest: usize,
 }
 
 impl Parts {
@@ -23,6 +25,18 @@ impl Parts {
         file.extend(&self.pixels);
         file
     }
+
+    /// Puts zeros before a number until it has so many digits.
+    fn lengthen_number(&mut self, which: usize, digits: usize) {
+        let missing = digits.saturating_sub(self.numbers[which].len());
+        self.numbers[which].splice(0..0, vec![b'0'; missing]);
+    }
+
+    /// How many bytes the file lacks of a length near 4,096.
+    fn missing_bytes(&self, random: &mut Random) -> usize {
+        let wanted: usize = random.one_of(&[4096, 4097, 4097, 5000]);
+        wanted.saturating_sub(self.file().len())
+    }
 }
 
 fn plain_parts(picture: &Generated) -> Parts {
@@ -33,11 +47,20 @@ fn plain_parts(picture: &Generated) -> Parts {
             .map(|number| number.to_string().into_bytes()),
         end: b"\n".to_vec(),
         pixels: picture.pixels.clone(),
+        largest: picture.largest,
     }
 }
 
 fn white_space(random: &mut Random) -> u8 {
     random.one_of(&[9, 10, 13, 32])
+}
+
+fn one_text(random: &mut Random, choices: &[&str]) -> Vec<u8> {
+    random.one_of(choices).as_bytes().to_vec()
+}
+
+fn byte_that_is_not_white_space(random: &mut Random) -> u8 {
+    random.one_of(&[11, 12, 0, 8, 14, 31, 33, 160])
 }
 
 /// A file that reading accepts, with the picture in it.
@@ -47,10 +70,7 @@ pub fn accepted_file(random: &mut Random, picture: &Generated) -> Vec<u8> {
         for index in 0..3 {
             let count = random.between(1, 4);
             parts.gaps[index] = (0..count).map(|_| white_space(random)).collect();
-            let digits = random.between(1, 5);
-            while parts.numbers[index].len() < digits {
-                parts.numbers[index].insert(0, b'0');
-            }
+            parts.lengthen_number(index, random.between(1, 5));
         }
         parts.end = vec![white_space(random)];
     }
@@ -60,24 +80,23 @@ pub fn accepted_file(random: &mut Random, picture: &Generated) -> Vec<u8> {
 /// A damaged file, though some damage leaves it fit: tabs, for example.
 pub fn damaged_file(random: &mut Random) -> Vec<u8> {
     let sides = (random.between(1, 9), random.between(1, 9));
-    let picture = picture(random, sides);
-    let mut parts = plain_parts(&picture);
+    let mut parts = plain_parts(&picture(random, sides));
     // Often two or three kinds of damage at once, for the order of refusals.
     for _ in 0..random.one_of(&[1, 1, 2, 3]) {
-        damage(random, &picture, &mut parts);
+        let which = random.below(3);
+        let damage = random.one_of(&DAMAGES);
+        damage(random, &mut parts, which);
     }
-    let mut file = parts.file();
+    damage_whole(random, parts.file())
+}
+
+/// Sometimes damages a file that is already put together, or takes another.
+fn damage_whole(random: &mut Random, mut file: Vec<u8>) -> Vec<u8> {
     match random.below(24) {
-        0 | 1 => {
-            // Truncated anywhere.
-            let length = random.below(file.len() + 1);
-            file.truncate(length);
-        }
-        2 => {
-            // Truncated near the header.
-            let length = random.between(0, 14.min(file.len()));
-            file.truncate(length);
-        }
+        // Truncated anywhere.
+        0 | 1 => file.truncate(random.below(file.len() + 1)),
+        // Truncated near the header.
+        2 => file.truncate(random.between(0, 14.min(file.len()))),
         3 => {
             // One byte of the header replaced.
             let place = random.below(14.min(file.len()));
@@ -99,138 +118,127 @@ pub fn damaged_file(random: &mut Random) -> Vec<u8> {
     file
 }
 
-fn damage(random: &mut Random, picture: &Generated, parts: &mut Parts) {
-    let which = random.below(3);
-    match random.below(21) {
-        0 => {
-            // Too few pixels.
-            let fewer = random.one_of(&[1, 1, 2, 9]).min(parts.pixels.len());
-            parts.pixels.truncate(parts.pixels.len() - fewer);
-        }
-        1 => {
-            // Extra bytes.
-            for _ in 0..random.one_of(&[1, 1, 2, 9]) {
-                parts.pixels.push(random.below(256) as u8);
-            }
-        }
-        2 => {
-            // A bad digit.
-            let place = random.below(parts.numbers[which].len());
-            parts.numbers[which][place] = random.one_of(b"/:-+.,aAxOP#\x00\x0b\xb2\xff");
-        }
-        3 => {
-            // Five, six or seven digits.
-            let digits = random.between(5, 7);
-            while parts.numbers[which].len() < digits {
-                parts.numbers[which].insert(0, b'0');
-            }
-        }
-        4 => {
-            // Large numbers.
-            parts.numbers[which] = random
-                .one_of(&["99999", "100000", "65536", "65541", "00256", "4294967297"])
-                .as_bytes()
-                .to_vec();
-        }
-        5 => parts.gaps[which] = vec![9; random.between(1, 3)],
-        6 => parts.gaps[which] = b"\r\n".to_vec(),
-        7 => parts.end = random.one_of(&[b"\r".to_vec(), b"\r\n".to_vec(), b"\t".to_vec()]),
-        8 => {
-            // Bytes that are not white space here.
-            parts.gaps[which] = vec![random.one_of(&[11, 12, 0, 8, 14, 31, 33, 160])];
-        }
-        9 => parts.gaps[which].push(random.one_of(&[11, 12, 0, 8, 14, 31, 33, 160])),
-        10 => {
-            // A comment.
-            parts.gaps[which].extend(b"# a comment\n");
-        }
-        11 => parts.gaps[which].clear(),
-        12 => {
-            // No byte, two bytes or a wrong byte behind the third number.
-            parts.end = random.one_of(&[vec![], b"  ".to_vec(), vec![11], b"#".to_vec()]);
-        }
-        13 => {
-            parts.numbers[2] = random
-                .one_of(&["0", "256", "257", "65535", "00000"])
-                .as_bytes()
-                .to_vec();
-        }
-        14 => {
-            // A side out of range.
-            parts.numbers[random.below(2)] = random
-                .one_of(&["0", "41", "42", "296", "00000"])
-                .as_bytes()
-                .to_vec();
-        }
-        15 | 16 => {
-            // A pixel above the largest sample.
-            if picture.largest < 255 && !parts.pixels.is_empty() {
-                for _ in 0..random.between(1, 2) {
-                    let place = random.below(parts.pixels.len());
-                    parts.pixels[place] = random.between(picture.largest + 1, 255) as u8;
-                }
-            }
-        }
-        17 | 18 => {
-            // Lengths near 4,096, by a long gap.
-            let wanted = random.one_of(&[4096, 4097, 4097, 5000]);
-            let length = parts.file().len();
-            if length < wanted {
-                parts.gaps[which].extend(vec![32; wanted - length]);
-            }
-        }
-        19 => {
-            // Lengths near 4,096, by extra bytes.
-            let wanted = random.one_of(&[4096, 4097, 4097, 5000]);
-            let length = parts.file().len();
-            if length < wanted {
-                parts.pixels.extend(vec![0; wanted - length]);
-            }
-        }
-        _ => {
-            parts.magic = random
-                .one_of(&["", "P", "5", "P4", "P6", "P2", "p5", " P5", "PP5", "5P"])
-                .as_bytes()
-                .to_vec();
-        }
+/// Damages the parts; `which` is the gap or the number that is damaged.
+type Damage = fn(&mut Random, &mut Parts, usize);
+
+/// The kinds of damage; some stand here twice, to be taken more often.
+const DAMAGES: [Damage; 21] = [
+    too_few_pixels,
+    extra_bytes,
+    bad_digit,
+    // Five, six or seven digits.
+    |random, parts, which| parts.lengthen_number(which, random.between(5, 7)),
+    large_number,
+    |random, parts, which| parts.gaps[which] = vec![9; random.between(1, 3)],
+    |_, parts, which| parts.gaps[which] = b"\r\n".to_vec(),
+    |random, parts, _| parts.end = one_text(random, &["\r", "\r\n", "\t"]),
+    |random, parts, which| parts.gaps[which] = vec![byte_that_is_not_white_space(random)],
+    |random, parts, which| parts.gaps[which].push(byte_that_is_not_white_space(random)),
+    |_, parts, which| parts.gaps[which].extend(b"# a comment\n"),
+    |_, parts, which| parts.gaps[which].clear(),
+    // No byte, two bytes or a wrong byte behind the third number.
+    |random, parts, _| parts.end = one_text(random, &["", "  ", "\x0b", "#"]),
+    largest_out_of_range,
+    side_out_of_range,
+    pixels_too_large,
+    pixels_too_large,
+    long_gap,
+    long_gap,
+    many_extra_bytes,
+    wrong_magic,
+];
+
+fn too_few_pixels(random: &mut Random, parts: &mut Parts, _: usize) {
+    let fewer = random.one_of(&[1, 1, 2, 9]).min(parts.pixels.len());
+    parts.pixels.truncate(parts.pixels.len() - fewer);
+}
+
+fn extra_bytes(random: &mut Random, parts: &mut Parts, _: usize) {
+    for _ in 0..random.one_of(&[1, 1, 2, 9]) {
+        parts.pixels.push(random.below(256) as u8);
     }
 }
 
-/// Files for the order of refusals: one for each set of the causes
-/// 1, 2, 3, 4, 5, 6 and 12.
-pub fn files_for_the_order() -> Vec<Vec<u8>> {
-    let mut files = Vec::new();
-    for set in 0..128 {
-        let has = |cause: usize| set >> cause & 1 == 1;
-        let mut parts = Parts {
-            magic: b"P5".to_vec(),
-            gaps: [b"\n".to_vec(), b" ".to_vec(), b"\n".to_vec()],
-            numbers: [b"3".to_vec(), b"2".to_vec(), b"9".to_vec()],
-            end: b"\n".to_vec(),
-            pixels: vec![0, 5, 2, 3, 3, 9],
-        };
-        if has(0) {
-            parts.magic = b"P6".to_vec();
-        }
-        if has(1) {
-            parts.end = b"#".to_vec();
-        }
-        if has(2) {
-            parts.numbers[set % 2] = b"41".to_vec();
-        }
-        if has(3) {
-            parts.numbers[2] = b"0".to_vec();
-        }
-        if has(4) {
-            parts.pixels.push(0);
-        }
-        if has(5) {
-            parts.pixels[4] = 10;
-        }
-        if has(6) {
-            parts.gaps[1] = vec![32; 4096];
-        }
-        files.push(parts.file());
+fn bad_digit(random: &mut Random, parts: &mut Parts, which: usize) {
+    let place = random.below(parts.numbers[which].len());
+    parts.numbers[which][place] = random.one_of(b"/:-+.,aAxOP#\x00\x0b\xb2\xff");
+}
+
+fn large_number(random: &mut Random, parts: &mut Parts, which: usize) {
+    let choices = ["99999", "100000", "65536", "65541", "00256", "4294967297"];
+    parts.numbers[which] = one_text(random, &choices);
+}
+
+fn largest_out_of_range(random: &mut Random, parts: &mut Parts, _: usize) {
+    parts.numbers[2] = one_text(random, &["0", "256", "257", "65535", "00000"]);
+}
+
+fn side_out_of_range(random: &mut Random, parts: &mut Parts, _: usize) {
+    let text = one_text(random, &["0", "41", "42", "296", "00000"]);
+    parts.numbers[random.below(2)] = text;
+}
+
+fn pixels_too_large(random: &mut Random, parts: &mut Parts, _: usize) {
+    if parts.largest == 255 || parts.pixels.is_empty() {
+        return;
     }
-    files
+    for _ in 0..random.between(1, 2) {
+        let place = random.below(parts.pixels.len());
+        parts.pixels[place] = random.between(parts.largest + 1, 255) as u8;
+    }
+}
+
+fn long_gap(random: &mut Random, parts: &mut Parts, which: usize) {
+    let missing = parts.missing_bytes(random);
+    parts.gaps[which].extend(vec![32; missing]);
+}
+
+fn many_extra_bytes(random: &mut Random, parts: &mut Parts, _: usize) {
+    let missing = parts.missing_bytes(random);
+    parts.pixels.extend(vec![0; missing]);
+}
+
+fn wrong_magic(random: &mut Random, parts: &mut Parts, _: usize) {
+    let choices = ["", "P", "5", "P4", "P6", "P2", "p5", " P5", "PP5", "5P"];
+    parts.magic = one_text(random, &choices);
+}
+
+/// The file of a fit picture with a set of the causes 1, 2, 3, 4, 5, 6
+/// and 12.
+fn file_for_the_order(set: usize) -> Vec<u8> {
+    let has = |cause: usize| set >> cause & 1 == 1;
+    let mut parts = plain_parts(&Generated {
+        kind: "fit",
+        width: 3,
+        height: 2,
+        largest: 9,
+        pixels: vec![0, 5, 2, 3, 3, 9],
+    });
+    if has(0) {
+        parts.magic = b"P6".to_vec();
+    }
+    if has(1) {
+        parts.end = b"#".to_vec();
+    }
+    if has(2) {
+        parts.numbers[set % 2] = b"41".to_vec();
+    }
+    if has(3) {
+        parts.numbers[2] = b"0".to_vec();
+    }
+    if has(4) {
+        parts.pixels.push(0);
+    }
+    if has(5) {
+        parts.pixels[4] = 10;
+    }
+    if has(6) {
+        parts.gaps[1] = vec![32; 4096];
+    }
+    parts.file()
+}
+
+/// Files for the order of refusals: one for each set of causes.
+pub fn files_for_the_order() -> Vec<Vec<u8>> {
+    (0..128).map(file_for_the_order).collect()
 }

@@ -57,33 +57,42 @@ pub fn text() -> String {
 mod tests {
     use super::*;
 
+    /// The number that `holds` prints for an edge case, 0 if it is accepted.
+    fn number_of(wanted: &str) -> u32 {
+        let cases = edge_cases();
+        let (_, file) = cases.iter().find(|(name, _)| name == wanted).unwrap();
+        match holds::text(file).strip_prefix("refused ") {
+            Some(number) => number.trim_end().parse().unwrap(),
+            None => 0,
+        }
+    }
+
     #[test]
-    fn refusals_of_the_edges() {
-        let refusal = |wanted: &str| {
-            let cases = edge_cases();
-            let (_, file) = cases.iter().find(|(name, _)| name == wanted).unwrap();
-            let text = holds::text(file);
-            match text.strip_prefix("refused ") {
-                Some(number) => number.trim_end().parse().unwrap(),
-                None => 0,
-            }
-        };
+    fn sides_at_the_edges() {
         for width in [0, 1, 40, 41] {
             for height in [0, 1, 40, 41] {
                 let outside = [0, 41].contains(&width) || [0, 41].contains(&height);
                 let expected = if outside { 3 } else { 0 };
-                assert_eq!(refusal(&format!("sides {} {}", width, height)), expected);
+                assert_eq!(number_of(&format!("sides {} {}", width, height)), expected);
             }
         }
-        assert_eq!(refusal("largest 0"), 4);
-        assert_eq!(refusal("largest 1"), 0);
-        assert_eq!(refusal("largest 255"), 0);
-        assert_eq!(refusal("largest 256"), 4);
-        assert_eq!(refusal("pixels 5"), 5);
-        assert_eq!(refusal("pixels 6"), 0);
-        assert_eq!(refusal("pixels 7"), 5);
-        assert_eq!(refusal("empty"), 1);
-        assert_eq!(refusal("bytes 4096"), 0);
-        assert_eq!(refusal("bytes 4097"), 12);
+    }
+
+    #[test]
+    fn other_edges() {
+        for (name, number) in [
+            ("largest 0", 4),
+            ("largest 1", 0),
+            ("largest 255", 0),
+            ("largest 256", 4),
+            ("pixels 5", 5),
+            ("pixels 6", 0),
+            ("pixels 7", 5),
+            ("empty", 1),
+            ("bytes 4096", 0),
+            ("bytes 4097", 12),
+        ] {
+            assert_eq!(number_of(name), number, "{}", name);
+        }
     }
 }

@@ -43,30 +43,36 @@ fn is_digit(byte: u8) -> bool {
     (48..=57).contains(&byte)
 }
 
-/// Walks white space, at least one byte, and then 1 to 5 digits.
-/// Answers the number and the position behind its last digit.
-fn walk_number(file: &[u8], start: usize) -> Result<(usize, usize), Refusal> {
-    let mut position = start;
-    if position == file.len() || !is_white_space(file[position]) {
-        return Err(refuse_at(2, position));
+/// The position behind the white space from `start` on; at least one byte.
+fn walk_white_space(file: &[u8], start: usize) -> Result<usize, Refusal> {
+    let bytes = file[start..].iter();
+    match bytes.take_while(|byte| is_white_space(**byte)).count() {
+        0 => Err(refuse_at(2, start)),
+        count => Ok(start + count),
     }
-    while position < file.len() && is_white_space(file[position]) {
-        position += 1;
-    }
-    if position == file.len() || !is_digit(file[position]) {
-        return Err(refuse_at(2, position));
-    }
+}
+
+/// Walks 1 to 5 digits. Answers the number and the position behind its last
+/// digit.
+fn walk_digits(file: &[u8], start: usize) -> Result<(usize, usize), Refusal> {
     let mut value = 0;
-    let mut digits = 0;
+    let mut position = start;
     while position < file.len() && is_digit(file[position]) {
-        if digits == 5 {
+        if position == start + 5 {
             return Err(refuse_at(2, position));
         }
         value = 10 * value + usize::from(file[position] - 48);
-        digits += 1;
         position += 1;
     }
+    if position == start {
+        return Err(refuse_at(2, position));
+    }
     Ok((value, position))
+}
+
+/// Walks white space and then a number, as `walk_digits`.
+fn walk_number(file: &[u8], start: usize) -> Result<(usize, usize), Refusal> {
+    walk_digits(file, walk_white_space(file, start)?)
 }
 
 /// Reads a P5 file: the answer, or one of the refusals 1 to 6.
@@ -146,45 +152,64 @@ mod tests {
         assert_eq!(number_and_detail(b" P5\n1 1\n9\n\x00"), (1, None));
     }
 
+    /// Files whose header is not well-formed, and the offset of the first
+    /// unfit byte.
+    const UNFIT_HEADERS: [(&[u8], usize); 12] = [
+        // White space is missing.
+        (b"P51 1\n9\n\x00", 2),
+        (b"P5\n1,1\n9\n\x00", 4),
+        (b"P5\n1 1\n9#\x00", 8),
+        // Byte 11 and byte 12 are not white space.
+        (b"P5\x0b1 1\n9\n\x00", 2),
+        (b"P5\n1\x0c1\n9\n\x00", 4),
+        // The number is missing.
+        (b"P5\n-1 1\n9\n\x00", 3),
+        (b"P5\n# no\n1 1\n9\n\x00", 3),
+        (b"P5\n1 /\n9\n\x00", 5),
+        (b"P5\n1 :\n9\n\x00", 5),
+        // The sixth digit is unfit.
+        (b"P5\n000001 1\n9\n\x00", 8),
+        (b"P5\n1 1\n000009\n\x00", 12),
+        // The header comes before the ranges.
+        (b"P5\n0 41\n0", 9),
+    ];
+
     #[test]
     fn header_not_well_formed() {
-        // The file ends too soon: the offset is the file's length.
+        for (file, offset) in UNFIT_HEADERS {
+            assert_eq!(number_and_detail(file), (2, Some(offset)));
+        }
+    }
+
+    #[test]
+    fn header_that_ends_too_soon() {
+        // The offset is the file's length.
         let whole = b"P5\n12 34\n255\n";
         for length in 2..whole.len() {
             assert_eq!(number_and_detail(&whole[..length]), (2, Some(length)));
         }
         assert_eq!(number_and_detail(whole), (5, None));
-        // White space is missing.
-        assert_eq!(number_and_detail(b"P51 1\n9\n\x00"), (2, Some(2)));
-        assert_eq!(number_and_detail(b"P5\n1,1\n9\n\x00"), (2, Some(4)));
-        assert_eq!(number_and_detail(b"P5\n1 1\n9#\x00"), (2, Some(8)));
-        // Byte 11 and byte 12 are not white space.
-        assert_eq!(number_and_detail(b"P5\x0b1 1\n9\n\x00"), (2, Some(2)));
-        assert_eq!(number_and_detail(b"P5\n1\x0c1\n9\n\x00"), (2, Some(4)));
-        // The number is missing.
-        assert_eq!(number_and_detail(b"P5\n-1 1\n9\n\x00"), (2, Some(3)));
-        assert_eq!(number_and_detail(b"P5\n# no\n1 1\n9\n\x00"), (2, Some(3)));
-        assert_eq!(number_and_detail(b"P5\n1 /\n9\n\x00"), (2, Some(5)));
-        assert_eq!(number_and_detail(b"P5\n1 :\n9\n\x00"), (2, Some(5)));
-        // The sixth digit is unfit.
-        assert_eq!(number_and_detail(b"P5\n000001 1\n9\n\x00"), (2, Some(8)));
-        assert_eq!(number_and_detail(b"P5\n1 1\n000009\n\x00"), (2, Some(12)));
-        // The header comes before the ranges.
-        assert_eq!(number_and_detail(b"P5\n0 41\n0"), (2, Some(9)));
     }
+
+    /// Files with a whole header, their number and its detail.
+    const WHOLE_HEADERS: [(&[u8], u32, Option<usize>); 10] = [
+        (b"P5\n0 1\n0\n", 3, None),
+        (b"P5\n1 41\n9\n", 3, None),
+        (b"P5\n99999 99999\n9\n", 3, None),
+        (b"P5\n1 1\n0\n", 4, None),
+        (b"P5\n1 1\n256\n", 4, None),
+        (b"P5\n2 1\n9\n\xff", 5, None),
+        (b"P5\n2 1\n9\n\xff\xff\xff", 5, None),
+        (b"P5\n2 1\n9\n\x09\x0a", 6, Some(1)),
+        (b"P5\n2 1\n9\n\xff\xff", 6, Some(0)),
+        (b"P5\n2 1\n9\n\x09\x09", 0, None),
+    ];
 
     #[test]
     fn ranges_in_order() {
-        assert_eq!(number_and_detail(b"P5\n0 1\n0\n"), (3, None));
-        assert_eq!(number_and_detail(b"P5\n1 41\n9\n"), (3, None));
-        assert_eq!(number_and_detail(b"P5\n99999 99999\n9\n"), (3, None));
-        assert_eq!(number_and_detail(b"P5\n1 1\n0\n"), (4, None));
-        assert_eq!(number_and_detail(b"P5\n1 1\n256\n"), (4, None));
-        assert_eq!(number_and_detail(b"P5\n2 1\n9\n\xff"), (5, None));
-        assert_eq!(number_and_detail(b"P5\n2 1\n9\n\xff\xff\xff"), (5, None));
-        assert_eq!(number_and_detail(b"P5\n2 1\n9\n\x09\x0a"), (6, Some(1)));
-        assert_eq!(number_and_detail(b"P5\n2 1\n9\n\xff\xff"), (6, Some(0)));
-        assert_eq!(number_and_detail(b"P5\n2 1\n9\n\x09\x09"), (0, None));
+        for (file, number, detail) in WHOLE_HEADERS {
+            assert_eq!(number_and_detail(file), (number, detail));
+        }
     }
 
     #[test]

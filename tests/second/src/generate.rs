@@ -12,16 +12,26 @@ pub struct Generated {
     pub pixels: Vec<u8>,
 }
 
-const KINDS: [&str; 9] = [
-    "noise",
-    "few values",
-    "plateaus",
-    "wall",
-    "comb",
-    "ladder",
-    "checkerboard",
-    "slopes",
-    "flat",
+/// What the values of a picture are made for.
+struct Frame {
+    width: usize,
+    height: usize,
+    largest: usize,
+}
+
+/// Makes values row by row; those above the largest sample are cut to it later.
+type Maker = fn(&mut Random, &Frame) -> Vec<usize>;
+
+const KINDS: [(&str, Maker); 9] = [
+    ("noise", noise),
+    ("few values", few_values),
+    ("plateaus", plateaus),
+    ("wall", wall),
+    ("comb", comb),
+    ("ladder", ladder),
+    ("checkerboard", checkerboard),
+    ("slopes", slopes),
+    ("flat", flat),
 ];
 
 /// Sides, most often small.
@@ -38,154 +48,78 @@ pub fn sides(random: &mut Random) -> (usize, usize) {
     }
 }
 
+/// A generated picture with any sides.
+pub fn any_picture(random: &mut Random) -> Generated {
+    let sides = sides(random);
+    picture(random, sides)
+}
+
 /// A generated picture with these sides.
 pub fn picture(random: &mut Random, sides: (usize, usize)) -> Generated {
     let (width, height) = sides;
     let largest = random.one_of(&[1, 2, 5, 9, 40, 200, 254, 255, 255, 255]);
-    let kind = random.one_of(&KINDS);
-    let mut values = vec![0; width * height];
-    match kind {
-        "noise" => {
-            for value in values.iter_mut() {
-                *value = random.below(largest + 1);
-            }
-        }
-        "few values" => {
-            let count = random.between(2, 4);
-            let choices: Vec<usize> = (0..count).map(|_| random.below(largest + 1)).collect();
-            for value in values.iter_mut() {
-                *value = random.one_of(&choices);
-            }
-        }
-        "plateaus" => {
-            values.fill(random.below(largest + 1));
-            for _ in 0..random.between(1, 12) {
-                let plateau = random.below(largest + 1);
-                let (left, right) = range(random, width);
-                let (top, bottom) = range(random, height);
-                for row in top..=bottom {
-                    for column in left..=right {
-                        values[row * width + column] = plateau;
-                    }
-                }
-            }
-        }
-        "wall" => {
-            // A pale ground with a little grain, and dark blobs.
-            let grain = random.below(3);
-            for value in values.iter_mut() {
-                *value = largest.saturating_sub(random.below(grain + 1));
-            }
-            for _ in 0..random.between(1, 2 + width * height / 40) {
-                let centre_column = random.below(width);
-                let centre_row = random.below(height);
-                let dark = random.below(largest / 2 + 1);
-                let slope = random.between(1, 30);
-                let reach = random.between(0, 9);
-                for row in 0..height {
-                    for column in 0..width {
-                        let column_distance = column.abs_diff(centre_column);
-                        let row_distance = row.abs_diff(centre_row);
-                        let square =
-                            column_distance * column_distance + row_distance * row_distance;
-                        let value = &mut values[row * width + column];
-                        if square <= reach {
-                            *value = (*value).min(dark + slope * square);
-                        }
-                    }
-                }
-            }
-        }
-        "comb" => {
-            // Dark teeth between pale ones, some joined by a dark back.
-            let dark = random.below(largest + 1);
-            let pale = random.between(dark, largest);
-            let back = random.between(dark, largest);
-            let period = random.between(2, 4);
-            let upright = random.below(2) == 0;
-            for row in 0..height {
-                for column in 0..width {
-                    let (along, across) = if upright {
-                        (row, column)
-                    } else {
-                        (column, row)
-                    };
-                    values[row * width + column] = if along == 0 {
-                        back
-                    } else if across % period == 0 {
-                        dark + random.below((pale - dark) / 4 + 1)
-                    } else {
-                        pale
-                    };
-                }
-            }
-        }
-        "ladder" => {
-            // Two dark rails, with rungs that differ in height.
-            let dark = random.below(largest + 1);
-            let period = random.between(2, 4);
-            let rungs: Vec<usize> = (0..height).map(|_| random.between(dark, largest)).collect();
-            for row in 0..height {
-                for column in 0..width {
-                    let rail = column == 0 || column + 1 == width;
-                    values[row * width + column] = if rail {
-                        dark
-                    } else if row % period == 0 {
-                        rungs[row]
-                    } else {
-                        largest
-                    };
-                }
-            }
-        }
-        "checkerboard" => {
-            let even = random.below(largest + 1);
-            let odd = random.below(largest + 1);
-            let grain = random.below(4);
-            for row in 0..height {
-                for column in 0..width {
-                    let value = if (row + column) % 2 == 0 { even } else { odd };
-                    values[row * width + column] = value + random.below(grain + 1);
-                }
-            }
-        }
-        "slopes" => {
-            // Values that rise with the distance from some places.
-            let count = random.between(1, 6);
-            let places: Vec<(usize, usize)> = (0..count)
-                .map(|_| (random.below(width), random.below(height)))
-                .collect();
-            let slope = random.between(1, 8);
-            let start = random.below(largest + 1);
-            for row in 0..height {
-                for column in 0..width {
-                    let nearest = places
-                        .iter()
-                        .map(|place| column.abs_diff(place.0) + row.abs_diff(place.1))
-                        .min()
-                        .unwrap();
-                    values[row * width + column] = start + slope * nearest;
-                }
-            }
-        }
-        _ => {
-            // One value, but for a few pixels.
-            values.fill(random.below(largest + 1));
-            for _ in 0..random.below(4) {
-                let place = random.below(width * height);
-                values[place] = random.below(largest + 1);
-            }
-        }
-    }
+    let (kind, make) = random.one_of(&KINDS);
+    let frame = Frame {
+        width,
+        height,
+        largest,
+    };
     Generated {
         kind,
         width,
         height,
         largest,
-        pixels: values
+        pixels: make(random, &frame)
             .iter()
             .map(|value| (*value).min(largest) as u8)
             .collect(),
+    }
+}
+
+impl Frame {
+    fn count(&self) -> usize {
+        self.width * self.height
+    }
+
+    /// One value from 0 to the largest.
+    fn any_value(&self, random: &mut Random) -> usize {
+        random.below(self.largest + 1)
+    }
+
+    /// The values that a function of row and column gives, row by row.
+    fn values(&self, mut value: impl FnMut(usize, usize) -> usize) -> Vec<usize> {
+        (0..self.count())
+            .map(|place| value(place / self.width, place % self.width))
+            .collect()
+    }
+}
+
+fn noise(random: &mut Random, frame: &Frame) -> Vec<usize> {
+    frame.values(|_, _| frame.any_value(random))
+}
+
+fn few_values(random: &mut Random, frame: &Frame) -> Vec<usize> {
+    let count = random.between(2, 4);
+    let choices: Vec<usize> = (0..count).map(|_| frame.any_value(random)).collect();
+    frame.values(|_, _| random.one_of(&choices))
+}
+
+fn plateaus(random: &mut Random, frame: &Frame) -> Vec<usize> {
+    let mut values = vec![frame.any_value(random); frame.count()];
+    for _ in 0..random.between(1, 12) {
+        put_plateau(random, frame, &mut values);
+    }
+    values
+}
+
+/// Gives the places of a rectangle one value.
+fn put_plateau(random: &mut Random, frame: &Frame, values: &mut [usize]) {
+    let plateau = frame.any_value(random);
+    let (left, right) = range(random, frame.width);
+    let (top, bottom) = range(random, frame.height);
+    for row in top..=bottom {
+        let start = row * frame.width;
+        values[start + left..=start + right].fill(plateau);
     }
 }
 
@@ -194,4 +128,125 @@ fn range(random: &mut Random, limit: usize) -> (usize, usize) {
     let one = random.below(limit);
     let other = random.below(limit);
     (one.min(other), one.max(other))
+}
+
+/// A pale ground with a little grain, and dark blobs.
+fn wall(random: &mut Random, frame: &Frame) -> Vec<usize> {
+    let grain = random.below(3);
+    let mut values = frame.values(|_, _| frame.largest.saturating_sub(random.below(grain + 1)));
+    for _ in 0..random.between(1, 2 + frame.count() / 40) {
+        let blob = Blob {
+            column: random.below(frame.width),
+            row: random.below(frame.height),
+            dark: random.below(frame.largest / 2 + 1),
+            slope: random.between(1, 30),
+            reach: random.between(0, 9),
+        };
+        blob.darken(&mut values, frame.width);
+    }
+    values
+}
+
+/// A dark round spot: its centre, the value there, how much paler it grows
+/// with the square of the distance, and the largest such square.
+pub struct Blob {
+    pub column: usize,
+    pub row: usize,
+    pub dark: usize,
+    pub slope: usize,
+    pub reach: usize,
+}
+
+impl Blob {
+    /// Lowers the values within reach to those of the blob.
+    pub fn darken(&self, values: &mut [usize], width: usize) {
+        for (place, value) in values.iter_mut().enumerate() {
+            let column_distance = (place % width).abs_diff(self.column);
+            let row_distance = (place / width).abs_diff(self.row);
+            let square = column_distance * column_distance + row_distance * row_distance;
+            if square <= self.reach {
+                *value = (*value).min(self.dark + self.slope * square);
+            }
+        }
+    }
+}
+
+/// Dark teeth between pale ones, some joined by a dark back.
+fn comb(random: &mut Random, frame: &Frame) -> Vec<usize> {
+    let dark = frame.any_value(random);
+    let pale = random.between(dark, frame.largest);
+    let back = random.between(dark, frame.largest);
+    let period = random.between(2, 4);
+    let upright = random.below(2) == 0;
+    frame.values(|row, column| {
+        let (along, across) = if upright {
+            (row, column)
+        } else {
+            (column, row)
+        };
+        if along == 0 {
+            back
+        } else if across % period == 0 {
+            dark + random.below((pale - dark) / 4 + 1)
+        } else {
+            pale
+        }
+    })
+}
+
+/// Two dark rails, with rungs that differ in height.
+fn ladder(random: &mut Random, frame: &Frame) -> Vec<usize> {
+    let dark = frame.any_value(random);
+    let period = random.between(2, 4);
+    let rungs: Vec<usize> = (0..frame.height)
+        .map(|_| random.between(dark, frame.largest))
+        .collect();
+    frame.values(|row, column| {
+        let rail = column == 0 || column + 1 == frame.width;
+        if rail {
+            dark
+        } else if row % period == 0 {
+            rungs[row]
+        } else {
+            frame.largest
+        }
+    })
+}
+
+fn checkerboard(random: &mut Random, frame: &Frame) -> Vec<usize> {
+    let even = frame.any_value(random);
+    let odd = frame.any_value(random);
+    let grain = random.below(4);
+    frame.values(|row, column| {
+        let value = if (row + column) % 2 == 0 { even } else { odd };
+        value + random.below(grain + 1)
+    })
+}
+
+/// Values that rise with the distance from some places.
+fn slopes(random: &mut Random, frame: &Frame) -> Vec<usize> {
+    let count = random.between(1, 6);
+    let places: Vec<(usize, usize)> = (0..count)
+        .map(|_| (random.below(frame.width), random.below(frame.height)))
+        .collect();
+    let slope = random.between(1, 8);
+    let start = frame.any_value(random);
+    frame.values(|row, column| {
+        let nearest = places
+            .iter()
+            .map(|place| column.abs_diff(place.0) + row.abs_diff(place.1))
+            .min()
+            .unwrap();
+        start + slope * nearest
+    })
+}
+
+/// One value, but for a few pixels.
+fn flat(random: &mut Random, frame: &Frame) -> Vec<usize> {
+    let mut values = vec![frame.any_value(random); frame.count()];
+    for _ in 0..random.below(4) {
+        let place = random.below(frame.count());
+        values[place] = frame.any_value(random);
+    }
+    values
 }

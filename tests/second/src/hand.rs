@@ -2,7 +2,7 @@
 //! literal and the quick module.
 
 use crate::holds;
-use crate::literal::{self, Adjacency, Patch, Picture, PlaceAnswer, Tree, NO_FATHER};
+use crate::literal::{self, Adjacency, Component, Patch, Picture, PlaceAnswer, Tree, NO_FATHER};
 use crate::quick;
 use crate::random::Random;
 use crate::worked::{four, table};
@@ -123,53 +123,92 @@ fn holds_of_a_refused_file() {
     assert_eq!(holds::text(b"P5\n41 1\n9\n"), "refused 3\n");
 }
 
+/// A picture with values from `base` to `base` + `largest`.
+fn small_picture(
+    random: &mut Random,
+    (width, height): (usize, usize),
+    base: usize,
+    largest: usize,
+) -> Picture {
+    Picture {
+        width,
+        height,
+        pixels: (0..width * height)
+            .map(|_| (base + random.below(largest + 1)) as u8)
+            .collect(),
+        adjacency: random.one_of(&[Adjacency::Four, Adjacency::Eight]),
+    }
+}
+
+/// Asserts that the literal and the quick module answer the same for a
+/// picture.
+fn assert_agreement(random: &mut Random, picture: &Picture) {
+    let patches = literal::patches(picture);
+    assert_eq!(quick::patches(picture), patches, "{:?}", picture);
+    let tree = literal::tree(picture);
+    assert_eq!(quick::tree(picture), tree, "{:?}", picture);
+    for place in 0..picture.count() {
+        let other = random.below(picture.count());
+        let pass = literal::pass(picture, place, other);
+        assert_eq!(quick::pass(picture, place, other), pass, "{:?}", picture);
+        let answer = literal::place_query(picture, place);
+        assert_eq!(quick::place_query(picture, place), answer, "{:?}", picture);
+    }
+}
+
 #[test]
 fn literal_and_quick_agree_on_small_pictures() {
     let mut random = Random::new(1);
     for _ in 0..250 {
-        let width = random.between(1, 5);
-        let height = random.between(1, 4);
+        let sides = (random.between(1, 5), random.between(1, 4));
         let largest = random.between(1, 6);
         let base = random.one_of(&[0, 0, 0, 7, 249]);
-        let given = Picture {
-            width,
-            height,
-            pixels: (0..width * height)
-                .map(|_| (base + random.below(largest + 1)) as u8)
-                .collect(),
-            adjacency: random.one_of(&[Adjacency::Four, Adjacency::Eight]),
-        };
+        let given = small_picture(&mut random, sides, base, largest);
         let lowered = literal::watershed(&given);
         assert_eq!(quick::watershed(&given), lowered, "{:?}", given);
         assert!((0..given.count()).all(|place| !literal::lowerable(&lowered, place)));
-        for picture in [&given, &lowered] {
-            assert_eq!(
-                quick::patches(picture),
-                literal::patches(picture),
-                "{:?}",
-                picture
-            );
-            assert_eq!(
-                quick::tree(picture),
-                literal::tree(picture),
-                "{:?}",
-                picture
-            );
-            for place in 0..picture.count() {
-                let other = random.below(picture.count());
-                assert_eq!(
-                    quick::pass(picture, place, other),
-                    literal::pass(picture, place, other),
-                    "{:?}",
-                    picture
-                );
-                assert_eq!(
-                    quick::place_query(picture, place),
-                    literal::place_query(picture, place),
-                    "{:?}",
-                    picture
-                );
-            }
+        assert_agreement(&mut random, &given);
+        assert_agreement(&mut random, &lowered);
+    }
+}
+
+/// The partner of a node: the only one of its height whose component
+/// contains the node's.
+fn partner(node: &Component, lowered_nodes: &[Component]) -> usize {
+    let found: Vec<usize> = (0..lowered_nodes.len())
+        .filter(|other| {
+            node.height == lowered_nodes[*other].height && node.lies_in(&lowered_nodes[*other])
+        })
+        .collect();
+    assert_eq!(found.len(), 1, "{:?}", node);
+    found[0]
+}
+
+/// Asserts that the father of a node's partner is the partner of its father.
+fn assert_kept_fathers(given: &Picture, lowered: &Picture) {
+    let nodes = literal::nodes(given);
+    let lowered_nodes = literal::nodes(lowered);
+    assert_eq!(nodes.len(), lowered_nodes.len(), "{:?}", given);
+    let fathers = literal::tree(given).fathers;
+    let lowered_fathers = literal::tree(lowered).fathers;
+    for (number, node) in nodes.iter().enumerate() {
+        let expected = match fathers[number] {
+            NO_FATHER => NO_FATHER,
+            father => partner(&nodes[father], &lowered_nodes),
+        };
+        let father_of_partner = lowered_fathers[partner(node, &lowered_nodes)];
+        assert_eq!(father_of_partner, expected, "{:?}", given);
+    }
+}
+
+/// Asserts that the passes between two different minima are kept.
+fn assert_kept_passes(given: &Picture, lowered: &Picture) {
+    let minima = literal::minima(given);
+    let firsts: Vec<usize> = minima.iter().map(Component::first_place).collect();
+    for one in &firsts {
+        for other in firsts.iter().filter(|other| *other != one) {
+            let pass = literal::pass(given, *one, *other);
+            assert_eq!(literal::pass(lowered, *one, *other), pass, "{:?}", given);
         }
     }
 }
@@ -178,61 +217,11 @@ fn literal_and_quick_agree_on_small_pictures() {
 fn watershed_keeps_parts_heights_fathers_and_passes() {
     let mut random = Random::new(2);
     for _ in 0..100 {
-        let width = random.between(1, 4);
-        let height = random.between(1, 4);
-        let given = Picture {
-            width,
-            height,
-            pixels: (0..width * height).map(|_| random.below(6) as u8).collect(),
-            adjacency: random.one_of(&[Adjacency::Four, Adjacency::Eight]),
-        };
+        let sides = (random.between(1, 4), random.between(1, 4));
+        let given = small_picture(&mut random, sides, 0, 5);
         let lowered = quick::watershed(&given);
         assert!(literal::keeps_parts(&given, &lowered), "{:?}", given);
-
-        // Nodes are partners when their heights are equal and the first
-        // one's component lies in the second one's.
-        let nodes = literal::nodes(&given);
-        let lowered_nodes = literal::nodes(&lowered);
-        let tree = literal::tree(&given);
-        let lowered_tree = literal::tree(&lowered);
-        assert_eq!(nodes.len(), lowered_nodes.len(), "{:?}", given);
-        let partner = |number: usize| {
-            if number == NO_FATHER {
-                return NO_FATHER;
-            }
-            let found: Vec<usize> = (0..lowered_nodes.len())
-                .filter(|other| {
-                    nodes[number].height == lowered_nodes[*other].height
-                        && nodes[number].lies_in(&lowered_nodes[*other])
-                })
-                .collect();
-            assert_eq!(found.len(), 1, "{:?}", given);
-            found[0]
-        };
-        for number in 0..nodes.len() {
-            let father_of_partner = lowered_tree.fathers[partner(number)];
-            assert_eq!(
-                partner(tree.fathers[number]),
-                father_of_partner,
-                "{:?}",
-                given
-            );
-        }
-
-        // The passes between two different minima are kept.
-        let minima = literal::minima(&given);
-        for one in &minima {
-            for other in &minima {
-                let (one, other) = (one.first_place(), other.first_place());
-                if one != other {
-                    assert_eq!(
-                        literal::pass(&given, one, other),
-                        literal::pass(&lowered, one, other),
-                        "{:?}",
-                        given
-                    );
-                }
-            }
-        }
+        assert_kept_fathers(&given, &lowered);
+        assert_kept_passes(&given, &lowered);
     }
 }

@@ -329,23 +329,19 @@ pub fn place_query(picture: &Picture, place: usize) -> PlaceAnswer {
     }
 }
 
-/// Whether `other` keeps the parts of `picture`.
+/// Whether `other` keeps the parts of `picture`: at each height every
+/// component of `picture` lies in exactly one of `other`, and every one of
+/// `other` contains exactly one of `picture`.
 pub fn keeps_parts(picture: &Picture, other: &Picture) -> bool {
     (0..=255).all(|height| {
         let of_picture = components(picture, height);
         let of_other = components(other, height);
         of_picture.iter().all(|component| {
-            of_other
-                .iter()
-                .filter(|part| component.lies_in(part))
-                .count()
-                == 1
+            let containing = of_other.iter().filter(|part| component.lies_in(part));
+            containing.count() == 1
         }) && of_other.iter().all(|part| {
-            of_picture
-                .iter()
-                .filter(|component| component.lies_in(part))
-                .count()
-                == 1
+            let contained = of_picture.iter().filter(|one| one.lies_in(part));
+            contained.count() == 1
         })
     })
 }

@@ -20,6 +20,7 @@ mod generate;
 mod hand;
 mod holds;
 mod lent;
+mod limits;
 mod literal;
 mod question;
 mod quick;

@@ -120,6 +120,29 @@ impl Question {
         }
     }
 
+    /// Sets the length of one of the lists that only this call lends.
+    pub fn set_length(&mut self, which: usize, length: usize) {
+        match self {
+            Question::Label { out_length, .. } | Question::Watershed { out_length } => {
+                *out_length = length
+            }
+            Question::Tree { lengths } => lengths[which] = length,
+            Question::Check { lent } | Question::Pass { lent, .. } => {
+                lent.set_length(which, length)
+            }
+            _ => {}
+        }
+    }
+
+    /// Sets one of the places, if the call has places.
+    pub fn set_place(&mut self, which: usize, new: u32) {
+        match self {
+            Question::Lowerable { place } | Question::Place { place } => *place = new,
+            Question::Pass { places, .. } => places[which] = new,
+            _ => {}
+        }
+    }
+
     /// The call's name and its fields between the pixels and the work length.
     fn fields(&self) -> (&'static str, String) {
         match self {
@@ -226,6 +249,14 @@ pub fn exact_call(picture: &Picture, question: Question) -> Call {
         question,
         work_length: 5 * picture.count(),
     }
+}
+
+/// Such a call for each question.
+pub fn exact_calls(picture: &Picture, questions: Vec<Question>) -> Vec<Call> {
+    questions
+        .into_iter()
+        .map(|question| exact_call(picture, question))
+        .collect()
 }
 
 pub fn other_adjacency(picture: &Picture) -> Picture {

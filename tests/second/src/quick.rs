@@ -10,24 +10,36 @@ fn all_neighbours(picture: &Picture) -> Vec<Vec<usize>> {
         .collect()
 }
 
+/// Gives a label to the component of the section at a height that has this
+/// place in it.
+fn flood(
+    picture: &Picture,
+    neighbours: &[Vec<usize>],
+    height: i32,
+    first: usize,
+    label: usize,
+    labels: &mut [usize],
+) {
+    labels[first] = label;
+    let mut waiting = vec![first];
+    while let Some(place) = waiting.pop() {
+        for neighbour in &neighbours[place] {
+            if picture.value(*neighbour) <= height && labels[*neighbour] == 0 {
+                labels[*neighbour] = label;
+                waiting.push(*neighbour);
+            }
+        }
+    }
+}
+
 /// The labels of the section at a height, by flooding.
 fn labels_of_section(picture: &Picture, neighbours: &[Vec<usize>], height: i32) -> Vec<usize> {
     let mut labels = vec![0; picture.count()];
     let mut last_label = 0;
     for first in 0..picture.count() {
-        if picture.value(first) > height || labels[first] != 0 {
-            continue;
-        }
-        last_label += 1;
-        labels[first] = last_label;
-        let mut waiting = vec![first];
-        while let Some(place) = waiting.pop() {
-            for neighbour in &neighbours[place] {
-                if picture.value(*neighbour) <= height && labels[*neighbour] == 0 {
-                    labels[*neighbour] = last_label;
-                    waiting.push(*neighbour);
-                }
-            }
+        if picture.value(first) <= height && labels[first] == 0 {
+            last_label += 1;
+            flood(picture, neighbours, height, first, last_label, &mut labels);
         }
     }
     labels
@@ -47,6 +59,55 @@ fn labels_of_all_sections(picture: &Picture, neighbours: &[Vec<usize>]) -> Vec<V
     all
 }
 
+/// A picture that is being lowered.
+struct Lowering {
+    picture: Picture,
+    neighbours: Vec<Vec<usize>>,
+    labels: Vec<Vec<usize>>,
+    /// The lowerable pixels as (value, place): the first one is taken next.
+    lowerable: BTreeSet<(usize, usize)>,
+}
+
+impl Lowering {
+    /// The label of the component of the height below that a pixel touches,
+    /// if it touches exactly one.
+    fn one_component(&self, place: usize) -> Option<usize> {
+        let below = self.picture.pixels[place].checked_sub(1)?;
+        let mut found = None;
+        for neighbour in &self.neighbours[place] {
+            let label = self.labels[usize::from(below)][*neighbour];
+            if label == 0 {
+                continue;
+            }
+            if found.is_some() && found != Some(label) {
+                return None;
+            }
+            found = Some(label);
+        }
+        found
+    }
+
+    /// Takes a place in or out of the lowerable ones.
+    fn test(&mut self, place: usize) {
+        let entry = (usize::from(self.picture.pixels[place]), place);
+        if self.one_component(place).is_some() {
+            self.lowerable.insert(entry);
+        } else {
+            self.lowerable.remove(&entry);
+        }
+    }
+
+    /// Lowers a lowerable pixel by 1.
+    fn lower(&mut self, value: usize, place: usize) {
+        self.labels[value - 1][place] = self.one_component(place).unwrap();
+        self.picture.pixels[place] -= 1;
+        for index in 0..self.neighbours[place].len() {
+            self.test(self.neighbours[place][index]);
+        }
+        self.test(place);
+    }
+}
+
 /// The watershed, one grey step at a time in the stated order.
 ///
 /// Lowering a pixel x from k to k - 1 changes one section only, that of
@@ -57,60 +118,46 @@ fn labels_of_all_sections(picture: &Picture, neighbours: &[Vec<usize>]) -> Vec<V
 /// a pixel of another value is tested against another section.
 pub fn watershed(picture: &Picture) -> Picture {
     let neighbours = all_neighbours(picture);
-    let mut labels = labels_of_all_sections(picture, &neighbours);
-    let mut result = picture.clone();
-
-    // The lowerable pixels as (value, place): the first one is taken next.
-    let mut lowerable: BTreeSet<(usize, usize)> = BTreeSet::new();
-    for place in 0..result.count() {
-        if one_component(&result, &neighbours, &labels, place).is_some() {
-            lowerable.insert((usize::from(result.pixels[place]), place));
-        }
+    let mut lowering = Lowering {
+        picture: picture.clone(),
+        labels: labels_of_all_sections(picture, &neighbours),
+        neighbours,
+        lowerable: BTreeSet::new(),
+    };
+    for place in 0..picture.count() {
+        lowering.test(place);
     }
-
-    while let Some((value, place)) = lowerable.pop_first() {
-        let label = one_component(&result, &neighbours, &labels, place).unwrap();
-        labels[value - 1][place] = label;
-        result.pixels[place] -= 1;
-
-        let mut changed = neighbours[place].clone();
-        changed.push(place);
-        for other in changed {
-            let entry = (usize::from(result.pixels[other]), other);
-            if one_component(&result, &neighbours, &labels, other).is_some() {
-                lowerable.insert(entry);
-            } else {
-                lowerable.remove(&entry);
-            }
-        }
+    while let Some((value, place)) = lowering.lowerable.pop_first() {
+        lowering.lower(value, place);
     }
-    result
+    lowering.picture
 }
 
-/// The label of the component of the height below that a pixel touches,
-/// if it touches exactly one.
-fn one_component(
+/// The connected part of equal pixels that has this place in it, if it
+/// touches no lower pixel.
+fn minimum(
     picture: &Picture,
     neighbours: &[Vec<usize>],
-    labels: &[Vec<usize>],
-    place: usize,
-) -> Option<usize> {
-    let value = usize::from(picture.pixels[place]);
-    if value == 0 {
-        return None;
-    }
-    let mut found = None;
-    for neighbour in &neighbours[place] {
-        let label = labels[value - 1][*neighbour];
-        if label == 0 {
-            continue;
+    first: usize,
+    seen: &mut [bool],
+) -> Option<Vec<usize>> {
+    seen[first] = true;
+    let mut places = vec![first];
+    let mut touches_lower = false;
+    let mut next = 0;
+    while next < places.len() {
+        for neighbour in &neighbours[places[next]] {
+            if picture.value(*neighbour) < picture.value(first) {
+                touches_lower = true;
+            }
+            if picture.value(*neighbour) == picture.value(first) && !seen[*neighbour] {
+                seen[*neighbour] = true;
+                places.push(*neighbour);
+            }
         }
-        if found.is_some() && found != Some(label) {
-            return None;
-        }
-        found = Some(label);
+        next += 1;
     }
-    found
+    (!touches_lower).then_some(places)
 }
 
 /// The minima by first place: connected parts of equal pixels that touch
@@ -119,104 +166,110 @@ fn minima(picture: &Picture, neighbours: &[Vec<usize>]) -> Vec<Vec<usize>> {
     let mut seen = vec![false; picture.count()];
     let mut minima = Vec::new();
     for first in 0..picture.count() {
-        if seen[first] {
-            continue;
-        }
-        seen[first] = true;
-        let mut places = vec![first];
-        let mut touches_lower = false;
-        let mut next = 0;
-        while next < places.len() {
-            for neighbour in &neighbours[places[next]] {
-                if picture.value(*neighbour) < picture.value(first) {
-                    touches_lower = true;
-                }
-                if picture.value(*neighbour) == picture.value(first) && !seen[*neighbour] {
-                    seen[*neighbour] = true;
-                    places.push(*neighbour);
-                }
-            }
-            next += 1;
-        }
-        if !touches_lower {
-            minima.push(places);
+        if !seen[first] {
+            minima.extend(minimum(picture, neighbours, first, &mut seen));
         }
     }
     minima
 }
 
-/// For each height and label the number of components of the height below
+/// For each label of a section the number of components of the height below
 /// that the component contains.
-fn contained_counts(labels: &[Vec<usize>]) -> Vec<Vec<usize>> {
-    let mut counts = Vec::new();
-    for height in 0..=255 {
-        let components = labels[height].iter().copied().max().unwrap();
-        let mut of_height = vec![0; components + 1];
-        if height > 0 {
-            let mut seen = BTreeSet::new();
-            for (place, lower_label) in labels[height - 1].iter().enumerate() {
-                if *lower_label != 0 && seen.insert(*lower_label) {
-                    of_height[labels[height][place]] += 1;
-                }
-            }
+fn contained_counts(labels: &[usize], labels_below: &[usize]) -> Vec<usize> {
+    let components = labels.iter().copied().max().unwrap();
+    let mut counts = vec![0; components + 1];
+    let mut seen = BTreeSet::from([0]);
+    for (place, label_below) in labels_below.iter().enumerate() {
+        if seen.insert(*label_below) {
+            counts[labels[place]] += 1;
         }
-        counts.push(of_height);
     }
     counts
 }
 
-/// The least node above a place and a height is the first fork above.
-fn fork_above(
-    labels: &[Vec<usize>],
-    counts: &[Vec<usize>],
-    place: usize,
-    height: i32,
-) -> Option<usize> {
-    (height as usize + 1..=255).find(|above| counts[*above][labels[*above][place]] >= 2)
+/// All sections; the first index is the height, 0 to 255.
+struct Sections {
+    labels: Vec<Vec<usize>>,
+    /// For each label the number of contained components.
+    counts: Vec<Vec<usize>>,
+}
+
+impl Sections {
+    fn new(picture: &Picture, neighbours: &[Vec<usize>]) -> Sections {
+        let labels = labels_of_all_sections(picture, neighbours);
+        let counts = (0..=255)
+            .map(|height: usize| match height.checked_sub(1) {
+                Some(below) => contained_counts(&labels[height], &labels[below]),
+                None => contained_counts(&labels[0], &[]),
+            })
+            .collect();
+        Sections { labels, counts }
+    }
+
+    /// The least node above a place and a height is the first fork above.
+    fn fork_above(&self, place: usize, height: i32) -> Option<usize> {
+        (height as usize + 1..=255)
+            .find(|above| self.counts[*above][self.labels[*above][place]] >= 2)
+    }
+}
+
+/// The nodes of the heights that are numbered already.
+struct Nodes {
+    heights: Vec<i32>,
+    first_places: Vec<usize>,
+    /// For each height and label the node that the component goes down to.
+    numbers: Vec<Vec<usize>>,
+}
+
+impl Nodes {
+    /// Numbers the nodes of the next height, by first place.
+    fn number(&mut self, sections: &Sections, height: usize) {
+        let counts = &sections.counts[height];
+        let mut numbers = vec![0; counts.len()];
+        let mut last_label = 0;
+        for (place, label) in sections.labels[height].iter().copied().enumerate() {
+            let first = label > last_label;
+            last_label = last_label.max(label);
+            if first && counts[label] != 1 {
+                numbers[label] = self.heights.len();
+                self.heights.push(height as i32);
+                self.first_places.push(place);
+            } else if counts[label] == 1 && sections.labels[height - 1][place] != 0 {
+                numbers[label] = self.numbers[height - 1][sections.labels[height - 1][place]];
+            }
+        }
+        self.numbers.push(numbers);
+    }
 }
 
 /// The tree, from the labels of all sections.
 pub fn tree(picture: &Picture) -> Tree {
-    let labels = labels_of_all_sections(picture, &all_neighbours(picture));
-    let counts = contained_counts(&labels);
-    let mut heights = Vec::new();
-    let mut first_places = Vec::new();
-    // For each height and label the node that the component goes down to.
-    let mut nodes: Vec<Vec<usize>> = Vec::new();
+    let sections = Sections::new(picture, &all_neighbours(picture));
+    let mut nodes = Nodes {
+        heights: Vec::new(),
+        first_places: Vec::new(),
+        numbers: Vec::new(),
+    };
     for height in 0..=255 {
-        let mut of_height = vec![0; counts[height].len()];
-        let mut last_label = 0;
-        for (place, label) in labels[height].iter().copied().enumerate() {
-            let first = label > last_label;
-            if first {
-                last_label = label;
-            }
-            if first && counts[height][label] != 1 {
-                of_height[label] = heights.len();
-                heights.push(height as i32);
-                first_places.push(place);
-            } else if counts[height][label] == 1 && labels[height - 1][place] != 0 {
-                of_height[label] = nodes[height - 1][labels[height - 1][place]];
-            }
-        }
-        nodes.push(of_height);
+        nodes.number(&sections, height);
     }
-    let node = |height: usize, place: usize| nodes[height][labels[height][place]];
-    let fathers = (0..heights.len())
-        .map(|number| {
-            let first = first_places[number];
-            fork_above(&labels, &counts, first, heights[number])
-                .map_or(NO_FATHER, |above| node(above, first))
-        })
-        .collect();
-    let map = (0..picture.count())
-        .map(|place| node(usize::from(picture.pixels[place]), place))
-        .collect();
+    let node = |height: usize, place: usize| nodes.numbers[height][sections.labels[height][place]];
+    let father = |(first, height): (&usize, &i32)| match sections.fork_above(*first, *height) {
+        Some(above) => node(above, *first),
+        None => NO_FATHER,
+    };
     Tree {
-        heights,
-        first_places,
-        fathers,
-        map,
+        fathers: nodes
+            .first_places
+            .iter()
+            .zip(&nodes.heights)
+            .map(father)
+            .collect(),
+        map: (0..picture.count())
+            .map(|place| node(usize::from(picture.pixels[place]), place))
+            .collect(),
+        heights: nodes.heights,
+        first_places: nodes.first_places,
     }
 }
 
@@ -233,13 +286,12 @@ pub fn pass(picture: &Picture, one: usize, other: usize) -> i32 {
 
 pub fn patches(picture: &Picture) -> Vec<Patch> {
     let neighbours = all_neighbours(picture);
-    let labels = labels_of_all_sections(picture, &neighbours);
-    let counts = contained_counts(&labels);
+    let sections = Sections::new(picture, &neighbours);
     let mut patches = Vec::new();
     for (index, places) in minima(picture, &neighbours).iter().enumerate() {
         let first = places[0];
         let height = picture.value(first);
-        let depth = match fork_above(&labels, &counts, first, height) {
+        let depth = match sections.fork_above(first, height) {
             Some(father_height) => father_height as i32 - height,
             None => picture.largest_value() - height,
         };

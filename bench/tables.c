@@ -1,0 +1,104 @@
+/* The tables of times. */
+
+#include "tables.h"
+
+#include <stdio.h>
+
+const uint32_t adjacencies[2] = { 4, 8 };
+const unsigned sides[SIDES] = { 5, 10, 20, 40 };
+const char *const call_names[CALLS] = {
+    "label_section, median", "label_section, 255", "is_lowerable",
+    "component_tree", "check_tree", "pass_between", "watershed_of",
+    "query_place",
+};
+
+struct times table[2][SIDES][PICTURE_COUNT][CALLS];
+struct beside beside[2][PICTURE_COUNT];
+
+static void print_head(const char *first)
+{
+    printf("\n| %s |", first);
+    for (unsigned call = 0; call < CALLS; call++)
+        printf(" %s |", call_names[call]);
+    printf("\n|---|");
+    for (unsigned call = 0; call < CALLS; call++)
+        printf("---|");
+    printf("\n");
+}
+
+static double ratio(struct times t)
+{
+    return t.ours / t.peer;
+}
+
+static double microseconds(struct times t)
+{
+    return t.ours * 1e6;
+}
+
+/* For each picture and call at 40 by 40 a value with this many decimals. */
+static void print_table(const char *title, unsigned adjacency,
+                        double (*value)(struct times), int decimals)
+{
+    printf("\n%s, 40 by 40, adjacency %u\n", title, adjacencies[adjacency]);
+    print_head("picture");
+    for (unsigned p = 0; p < PICTURE_COUNT; p++) {
+        printf("| %s |", picture_names[p]);
+        for (unsigned call = 0; call < CALLS; call++)
+            printf(" %.*f |", decimals,
+                   value(table[adjacency][SIDES - 1][p][call]));
+        printf("\n");
+    }
+}
+
+/* Our time for one picture, or for PICTURE_COUNT the largest of all pictures. */
+static double time_of(unsigned adjacency, unsigned s, unsigned picture, unsigned call)
+{
+    double most = 0;
+    for (unsigned p = 0; p < PICTURE_COUNT; p++)
+        if ((picture == p || picture == PICTURE_COUNT)
+            && table[adjacency][s][p][call].ours > most)
+            most = table[adjacency][s][p][call].ours;
+    return most;
+}
+
+/* The time of one picture at each side, or for PICTURE_COUNT the largest time of all pictures. */
+static void print_growth(unsigned adjacency, unsigned picture)
+{
+    printf("\nTime of ours in nanoseconds a pixel, %s, adjacency %u\n",
+           picture < PICTURE_COUNT ? picture_names[picture]
+           : "largest of all pictures", adjacencies[adjacency]);
+    print_head("side");
+    for (unsigned s = 0; s < SIDES; s++) {
+        printf("| %u |", sides[s]);
+        for (unsigned call = 0; call < CALLS; call++)
+            printf(" %.1f |", time_of(adjacency, s, picture, call) * 1e9
+                   / (sides[s] * sides[s]));
+        printf("\n");
+    }
+}
+
+static void print_against_tree(void)
+{
+    printf("\nTime of query_place and of the figures of all patches over time of component_tree, ours, 40 by 40\n");
+    printf("\n| picture | query_place, 4 | query_place, 8 | figures, 4 | figures, 8 |\n|---|---|---|---|---|\n");
+    for (unsigned p = 0; p < PICTURE_COUNT; p++) {
+        printf("| %s |", picture_names[p]);
+        for (unsigned adjacency = 0; adjacency < 2; adjacency++)
+            printf(" %.2f |", beside[adjacency][p].query / beside[adjacency][p].tree);
+        for (unsigned adjacency = 0; adjacency < 2; adjacency++)
+            printf(" %.2f |", beside[adjacency][p].figures / beside[adjacency][p].tree);
+        printf("\n");
+    }
+}
+
+void print_tables(void)
+{
+    for (unsigned adjacency = 0; adjacency < 2; adjacency++) {
+        print_table("Time of ours over time of the peer", adjacency, ratio, 2);
+        print_table("Time of ours in microseconds", adjacency, microseconds, 1);
+        print_growth(adjacency, NOISE);
+        print_growth(adjacency, PICTURE_COUNT);
+    }
+    print_against_tree();
+}

@@ -1,0 +1,39 @@
+/* The times that are measured, and the tables in which they are printed. */
+
+#ifndef TABLES_H
+#define TABLES_H
+
+#include "pictures.h"
+
+#include <stdint.h>
+
+#define SIDES 4
+
+enum {
+    LABEL_MEDIAN, LABEL_255, LOWERABLE, TREE, CHECK, PASS, WATERSHED, QUERY,
+    CALLS
+};
+
+extern const uint32_t adjacencies[2];
+extern const unsigned sides[SIDES];
+extern const char *const call_names[CALLS];
+
+/* The least times of a call in seconds. */
+struct times {
+    double ours, peer;
+};
+
+/* The least times in seconds of the tree, of the place query and of the figures of all patches. */
+struct beside {
+    double tree, query, figures;
+};
+
+/* By adjacency, side, picture and call. */
+extern struct times table[2][SIDES][PICTURE_COUNT][CALLS];
+
+/* By adjacency and picture, at 40 by 40. */
+extern struct beside beside[2][PICTURE_COUNT];
+
+void print_tables(void);
+
+#endif
