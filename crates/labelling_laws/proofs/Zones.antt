@@ -25,7 +25,7 @@ abbrev pub Zone : Picture → ℕ → ℕ → ℕ → Type 0
 Zone p k x y = Conn (Adj p) (Flat p k) x y
 
 -- the zone of s has a neighbour of lower value
-pub record Lower (p : Picture) (k s : ℕ) : Type 0 where
+pub record LowerNeighbour (p : Picture) (k s : ℕ) : Type 0 where
   pub place : ℕ
   pub near : ℕ
   pub zone : Zone p k s place
@@ -56,7 +56,7 @@ module _ (p : Picture) (k : ℕ) where
   zone-leaf x f high = leaf-complete p k x (flat-at x f) (λ y c. conn-target (zone-whole f high c) .value)
 
   -- and one with a lower neighbour is no minimum
-  pub lower-no-leaf : (x : ℕ) → Lower p k x → leafAt p k x ≡ false
+  pub lower-no-leaf : (x : ℕ) → LowerNeighbour p k x → leafAt p k x ≡ false
   lower-no-leaf x l =
       test-false (leafAt p k x)
       (λ h.
@@ -97,14 +97,14 @@ pub record ZoneFlooding (p : Picture) (k s : ℕ) (before cells : List ℕ) (top
   pub sound : (y : ℕ) → Seen cells y → Zone p k s y ⊎ Seen before y
   pub kept : (y : ℕ) → Seen before y → Seen cells y
   pub search : Search (Adj p) (λ z. z < places p) (ZoneSeen p k s cells) (Followed p k cells low) (Linked cells top t) s q zs
-  pub lower : low ≡ true → Lower p k s
+  pub lower : low ≡ true → LowerNeighbour p k s
 
 -- the zone of s is visited, nothing else, and a lower neighbour is noted exactly if there is one
 pub record ZoneFlooded (p : Picture) (k s : ℕ) (before cells : List ℕ) (low : Bool) : Type 0 where
   pub new : (y : ℕ) → Zone p k s y → getD cells y 0 ≢ 65535
   pub old : (y : ℕ) → getD before y 0 ≢ 65535 → getD cells y 0 ≢ 65535
   pub only : (y : ℕ) → getD cells y 0 ≢ 65535 → Zone p k s y ⊎ (getD before y 0 ≢ 65535)
-  pub lower : low ≡ true → Lower p k s
+  pub lower : low ≡ true → LowerNeighbour p k s
   pub high : low ≡ false → (y z : ℕ) → Zone p k s y → Adj p y z → z < places p → k ≤ valueAt p z
 
 -- a store at a place that is not on the stack
@@ -192,7 +192,7 @@ module _ (p : Picture) (k s : ℕ) (before : List ℕ) where
     module _ (q z : ℕ) (zs : List ℕ) (f : ZoneFlooding p k s before cells top t low q (z ∷ zs)) where
       -- the next edge is followed without a visit
       zone-pass :
-          (low′ : Bool) → (low ≡ true → low′ ≡ true) → Followed p k cells low′ z → (low′ ≡ true → Lower p k s) →
+          (low′ : Bool) → (low ≡ true → low′ ≡ true) → Followed p k cells low′ z → (low′ ≡ true → LowerNeighbour p k s) →
           ZoneFlooding p k s before cells top t low′ q zs
       zone-pass low′ g h l =
           record { link = f .link; sound = f .sound; kept = f .kept; search = search-pass (f .search) still (λ y m r w. h); lower = l }

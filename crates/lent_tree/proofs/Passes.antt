@@ -1,5 +1,5 @@
 -- The climb along the fathers of a lent tree meets at the nearest common ancestor, whose height decides the pass.
-use mathlib.Core.Path.{_≡_, sym, ap, subst, _∙_}
+use mathlib.Core.Path.{_≡_, sym, ap, _∙_}
 use mathlib.Core.Bool.{true}
 use mathlib.Core.List.{List}
 use Prim.Native.Nat.{ℕ, _≤_, _<_, max}
@@ -7,7 +7,7 @@ use native.Mathlib.Omega.{arith}
 use lib.ListN.{length, getD}
 use Rattle.picture.specs.Pictures.{Picture, places, valueAt, isPicture}
 use Rattle.picture.specs.Components.{pass}
-use Rattle.picture.specs.Trees.{nodes, mapOf}
+use Rattle.picture.specs.Trees.{nodes}
 use Rattle.topology.proofs.Accepted.{accepted-is}
 use Rattle.topology.proofs.Fathers.{map-found}
 use Rattle.topology.proofs.Climb.{Meet, meet-same, father, father-of, father-greater, pass-meet}

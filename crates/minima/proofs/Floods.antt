@@ -23,11 +23,11 @@ use Rattle.labelling_laws.proofs.ZoneScan.{unvisited-set, Scanned, scan-start, 
 use Rattle.topology.proofs.Leaves.{bottom}
 use Rattle.topology.proofs.Accepted.{accepted-is, places-bound}
 use Rattle.minima.specs.declared.Stack.{Stack}
-use Rattle.minima.specs.Minima.{Sizes, Room, Moved, popped, Floods, Visit, Spread, Turn, Seed, Counting}
+use Rattle.minima.specs.Minima.{CellEach, ZoneRoom, ZoneMoved, popped, ZoneFloods, Visit, ZoneSpread, Turn, ZoneSeed, Counting}
 use Rattle.cells.specs.Blocks.{Filled}
 
-module _ (pixels : List ℕ) (k y : ℕ) (cells : List ℕ) (s : Stack) (room : Room pixels cells s) where
-  stays : Moved cells s cells s
+module _ (pixels : List ℕ) (k y : ℕ) (cells : List ℕ) (s : Stack) (room : ZoneRoom pixels cells s) where
+  stays : ZoneMoved cells s cells s
   stays = record { size = refl; link = room .link; room = omega arith; less = omega arith }
 
   -- the value of the place in a picture with these pixels
@@ -80,7 +80,7 @@ module _ (pixels : List ℕ) (k y : ℕ) (cells : List ℕ) (s : Stack) (room : 
       }
 
 module _ (p : Picture) (k q : ℕ) where
-  pub spread-none : (zs cells : List ℕ) (s : Stack) → s .top ≢ 65535 → Spread p k q zs zs cells s cells s
+  pub spread-none : (zs cells : List ℕ) (s : Stack) → s .top ≢ 65535 → ZoneSpread p k q zs zs cells s cells s
   spread-none zs cells s d =
       record {
         moved = record { size = refl; link = d; room = omega arith; less = omega arith };
@@ -91,8 +91,8 @@ module _ (p : Picture) (k q : ℕ) where
   pub spread-next :
       (i y : ℕ) (cells : List ℕ) (s : Stack) (m : List ℕ) (u : Stack) (o : List ℕ) (v : Stack) →
       i < length (neighboursIn p q) → y ≡ getD (neighboursIn p q) i 0 →
-      Spread p k q (neighboursIn p q) (drop i (neighboursIn p q)) cells s m u → Visit (p .pixels) k y m u o v →
-      Spread p k q (neighboursIn p q) (drop (i + 1) (neighboursIn p q)) cells s o v
+      ZoneSpread p k q (neighboursIn p q) (drop i (neighboursIn p q)) cells s m u → Visit (p .pixels) k y m u o v →
+      ZoneSpread p k q (neighboursIn p q) (drop (i + 1) (neighboursIn p q)) cells s o v
   spread-next i y cells s m u o v h e f g =
       let (b, r) = neighbour-at p q i h in
       let a = f .moved in
@@ -115,13 +115,13 @@ module _ (p : Picture) (k q : ℕ) where
             g .follows p x q before (drop (i + 1) (neighboursIn p q)) refl
             (subst (λ (z : ℕ). z < places p) (sym e) b)
             (subst (λ (z : ℕ). Adj p q z) (sym e) r)
-            (subst (λ (zs : List ℕ). Floods p k x before m u q zs) split (f .follows x before w));
+            (subst (λ (zs : List ℕ). ZoneFloods p k x before m u q zs) split (f .follows x before w));
       }
 
   -- the room for the next visit, if x was on top of the stack before
   pub spread-room :
-      (pixels zs us cells : List ℕ) (s : Stack) (m : List ℕ) (u : Stack) (x : ℕ) → Room pixels cells s →
-      Spread p k q zs us cells (popped cells x s) m u → Room pixels m u
+      (pixels zs us cells : List ℕ) (s : Stack) (m : List ℕ) (u : Stack) (x : ℕ) → ZoneRoom pixels cells s →
+      ZoneSpread p k q zs us cells (popped cells x s) m u → ZoneRoom pixels m u
   spread-room pixels zs us cells s m u x r f =
       let a = f .moved .room in
       let b = r .room in
@@ -135,14 +135,14 @@ module _ (p : Picture) (k q : ℕ) where
   pub spread-turn :
       (cells : List ℕ) (s : Stack) (after : List ℕ) (r : Stack) (i : ℕ) → 1 ≤ p .width → q ≡ s .top → 1 ≤ s .height →
       length (neighboursIn p q) ≤ i →
-      Spread p k q (neighboursIn p q) (drop i (neighboursIn p q)) cells (popped cells q s) after r → Turn p k cells s after r
+      ZoneSpread p k q (neighboursIn p q) (drop i (neighboursIn p q)) cells (popped cells q s) after r → Turn p k cells s after r
   spread-turn cells s after r i some e h n f =
       record {
-        moved = subst (λ (x : ℕ). Moved cells (popped cells x s) after r) e (f .moved);
+        moved = subst (λ (x : ℕ). ZoneMoved cells (popped cells x s) after r) e (f .moved);
         follows =
             λ x before w.
             zone-done p k x before after (r .top) (r .height) (r .low)
-            (subst (λ (zs : List ℕ). Floods p k x before after r q zs) none
+            (subst (λ (zs : List ℕ). ZoneFloods p k x before after r q zs) none
             (f .follows x before
             (zone-pop p k x before cells q (s .height - 1) (s .low) (neighboursIn p q)
             (subst (λ (z : ℕ). ZoneFlooding p k x before cells z (suc (s .height - 1)) (s .low) x []) (sym e)
@@ -157,9 +157,9 @@ module _ (p : Picture) (k q : ℕ) where
       none = drop-all i (neighboursIn p q) n
 
 -- a flood of the zone of x as it runs
-pub record Running (p : Picture) (k x : ℕ) (before cells : List ℕ) (s : Stack) : Type 0 where
-  pub room : Room (p .pixels) cells s
-  pub flooding : Floods p k x before cells s x []
+pub record ZoneRunning (p : Picture) (k x : ℕ) (before cells : List ℕ) (s : Stack) : Type 0 where
+  pub room : ZoneRoom (p .pixels) cells s
+  pub flooding : ZoneFloods p k x before cells s x []
 
 module _ (p : Picture) (x : ℕ) where
   -- the cells before the flood, from those with the first place visited
@@ -167,8 +167,8 @@ module _ (p : Picture) (x : ℕ) where
   before-start cells e = set-set cells x 65534 65535 ∙ (ap (set cells x) (sym e) ∙ set-getD cells x 0)
 
   pub running-start :
-      (cells : List ℕ) → Sizes (p .pixels) cells → length (p .pixels) ≡ places p → x < places p → Seed p x cells →
-      Running p (valueAt p x) x (set (set cells x 65534) x 65535) (set cells x 65534) (record { top = x; height = 1; low = false })
+      (cells : List ℕ) → CellEach (p .pixels) cells → length (p .pixels) ≡ places p → x < places p → ZoneSeed p x cells →
+      ZoneRunning p (valueAt p x) x (set (set cells x 65534) x 65535) (set cells x 65534) (record { top = x; height = 1; low = false })
   running-start cells z n b f =
       let flat : Flat p (valueAt p x) x = record { within = b; value = refl } in
       let size = z .size in
@@ -190,12 +190,12 @@ module _ (p : Picture) (x : ℕ) where
             (zone-start p (valueAt p x) x cells flat h d (f .fresh));
       }
 
-  module _ (k : ℕ) (before cells : List ℕ) (s : Stack) (f : Running p k x before cells s) where
+  module _ (k : ℕ) (before cells : List ℕ) (s : Stack) (f : ZoneRunning p k x before cells s) where
     -- what lies on the stack is a place that is visited
     pub running-top : 1 ≤ s .height → (s .top < places p) × (getD cells (s .top) 0 ≢ 65535)
     running-top h = let (c, m) = f .flooding .search .stack (s .top) (0, omega arith, refl) in (conn-target c .within, m)
 
-    pub running-turn : (after : List ℕ) (r : Stack) → 1 ≤ s .height → Turn p k cells s after r → Running p k x before after r
+    pub running-turn : (after : List ℕ) (r : Stack) → 1 ≤ s .height → Turn p k cells s after r → ZoneRunning p k x before after r
     running-turn after r h t =
         let a = t .moved .room in
         let b = f .room .room in
@@ -211,8 +211,8 @@ module _ (p : Picture) (x : ℕ) where
         }
 
   pub running-end :
-      (cells after : List ℕ) (s : Stack) → Seed p x cells → x < places p → s .height ≡ 0 →
-      Running p (valueAt p x) x (set (set cells x 65534) x 65535) after s → ZoneFlooded p (valueAt p x) x cells after (s .low)
+      (cells after : List ℕ) (s : Stack) → ZoneSeed p x cells → x < places p → s .height ≡ 0 →
+      ZoneRunning p (valueAt p x) x (set (set cells x 65534) x 65535) after s → ZoneFlooded p (valueAt p x) x cells after (s .low)
   running-end cells after s g b e f =
       let new = g .fresh x (f .flooding .search .seed .0) in
       subst (λ (l : List ℕ). ZoneFlooded p (valueAt p x) x l after (s .low)) (before-start cells new)
@@ -235,13 +235,13 @@ module _ (p : Picture) (x r : ℕ) (cells : List ℕ) (c : Counting p x r cells)
   counting-placed =
       let a = accepted-is p (c .accepted) in record { some = a .wide; wide = a .narrow; high = a .short; inside = b }
 
-  pub counting-sizes : Sizes (p .pixels) cells
+  pub counting-sizes : CellEach (p .pixels) cells
   counting-sizes =
       let n = places-bound p (accepted-is p (c .accepted)) in
       let e = counting-pixels in
       record { few = omega arith; size = c .size ∙ sym counting-pixels }
 
-  pub counting-seed : getD cells x 0 ≡ 65535 → Seed p x cells
+  pub counting-seed : getD cells x 0 ≡ 65535 → ZoneSeed p x cells
   counting-seed new = record { fresh = scan-fresh p x r cells b (c .scanned) new }
 
   counted : (q : ℕ) (after : List ℕ) → length after ≡ length cells → Scanned p (suc x) q after → Counting p (x + 1) q after

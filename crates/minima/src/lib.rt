@@ -11,7 +11,7 @@ ghost use Rattle.picture.specs.Pictures.{isPicture, pictureOf};
 ghost use Rattle.picture.specs.Geometry.{Placed};
 ghost use Rattle.picture.specs.Patches.{patches};
 ghost use Rattle.labelling_laws.proofs.Zones.{ZoneFlooded};
-ghost use Rattle.minima.specs.Minima.{Sizes, Room, Visit, Turn, Seed, Counting};
+ghost use Rattle.minima.specs.Minima.{CellEach, ZoneRoom, Visit, Turn, ZoneSeed, Counting};
 
 // The cell of a place that no flood has visited.
 const NEW: u16 = 65535;
@@ -27,7 +27,7 @@ pub struct Stack {
 
 // Follows the edge to the place y from a place of value k: notes y if it is lower, puts it on the stack if it is level and new.
 fn visit(pixels: &[u8], k: u8, y: usize, cells: &mut [u16], s: Stack) -> Stack
-    requires { ⌜ Room (now pixels) (now cells) s × (y < length (now pixels)) ⌝ }
+    requires { ⌜ ZoneRoom (now pixels) (now cells) s × (y < length (now pixels)) ⌝ }
     ensures { λ r. ⌜ Visit (now (pixels .entry)) k y (now (cells .entry)) s (now (cells .exit)) r ⌝ }
 {
     let value = pixels[y];
@@ -54,7 +54,7 @@ fn visit(pixels: &[u8], k: u8, y: usize, cells: &mut [u16], s: Stack) -> Stack
 
 // Takes the top off the stack and visits its neighbours.
 fn spread(a: u32, w: u32, h: u32, pixels: &[u8], k: u8, cells: &mut [u16], stack: Stack) -> Stack
-    requires { ⌜ Placed w h (stack .top) × Room (now pixels) (now cells) stack × (length (now pixels) ≡ w * h) × (1 ≤ stack .height) × (getD (now cells) (stack .top) 0 ≢ 65535) ⌝ }
+    requires { ⌜ Placed w h (stack .top) × ZoneRoom (now pixels) (now cells) stack × (length (now pixels) ≡ w * h) × (1 ≤ stack .height) × (getD (now cells) (stack .top) 0 ≢ 65535) ⌝ }
     ensures { λ r. ⌜ Turn (pictureOf a w h (now (pixels .entry))) k (now (cells .entry)) stack (now (cells .exit)) r ⌝ }
 {
     let x = wide(stack.top);
@@ -75,7 +75,7 @@ fn spread(a: u32, w: u32, h: u32, pixels: &[u8], k: u8, cells: &mut [u16], stack
 
 // Visits the flat zone of the place x; answers whether it has a lower neighbour.
 fn flood(a: u32, w: u32, h: u32, pixels: &[u8], x: usize, cells: &mut [u16]) -> bool
-    requires { ⌜ Placed w h x × Sizes (now pixels) (now cells) × (length (now pixels) ≡ w * h) × Seed (pictureOf a w h (now pixels)) x (now cells) ⌝ }
+    requires { ⌜ Placed w h x × CellEach (now pixels) (now cells) × (length (now pixels) ≡ w * h) × ZoneSeed (pictureOf a w h (now pixels)) x (now cells) ⌝ }
     ensures { λ r. ⌜ ZoneFlooded (pictureOf a w h (now (pixels .entry))) (getD (now (pixels .entry)) x 0) x (now (cells .entry)) (now (cells .exit)) r ⌝ }
 {
     let k = pixels[x];

@@ -1,16 +1,16 @@
--- `minima::flood` meets its contract. The invariant is Running; twice the unvisited places with the stack's height fall.
+-- `minima::flood` meets its contract. The invariant is ZoneRunning; twice the unvisited places with the stack's height fall.
 use Prim.Native.Nat.{_+_, _*_}
 use native.Mathlib.Omega.{arith}
 use lib.ListN.{set}
 use borrow.Author.Needs.{needs}
 use Rattle.labelling_laws.proofs.ZoneScan.{unvisited}
 use Rattle.picture.specs.Pictures.{pictureOf}
-use Rattle.minima.proofs.Floods.{Running, running-start, running-top, running-turn, running-end}
+use Rattle.minima.proofs.Floods.{ZoneRunning, running-start, running-top, running-turn, running-end}
 use Rattle.minima.proofs.flood.Statement.{statement}
 use Rattle.minima.proofs.flood.Tie as tie
 
 abbrev Inv-loop : tie.InvT-loop
-Inv-loop a w h pixels x cells₀ k s₀ cells s = Running (pictureOf a w h pixels) k x (set cells₀ x 65535) cells s
+Inv-loop a w h pixels x cells₀ k s₀ cells s = ZoneRunning (pictureOf a w h pixels) k x (set cells₀ x 65535) cells s
 
 abbrev μ-loop : tie.MeasureT-loop
 μ-loop a w h pixels x cells₀ k s₀ cells s = 2 * unvisited cells + s .height

@@ -7,7 +7,7 @@ use borrow.Author.Needs.{needs}
 use Rattle.picture.specs.Geometry.{neighboursOf, Placed}
 use Rattle.picture.proofs.Neighbours.{neighbour-at}
 use Rattle.picture.specs.Pictures.{pictureOf}
-use Rattle.minima.specs.Minima.{Spread}
+use Rattle.minima.specs.Minima.{ZoneSpread}
 use Rattle.picture.proofs.Neighbours.{listed-at}
 use Rattle.minima.proofs.Floods.{spread-none, spread-next, spread-room, spread-turn}
 use Rattle.minima.proofs.spread.Statement.{statement}
@@ -16,7 +16,7 @@ use Rattle.minima.proofs.spread.Tie as tie
 abbrev Inv-loop : tie.InvT-loop
 Inv-loop a w h pixels k cells₀ x near count s₀ i₀ cells s i =
     (i ≤ count) ×
-    Spread (pictureOf a w h pixels) k x (neighboursOf a w h x) (drop i (neighboursOf a w h x)) cells₀ s₀ cells s
+    ZoneSpread (pictureOf a w h pixels) k x (neighboursOf a w h x) (drop i (neighboursOf a w h x)) cells₀ s₀ cells s
 
 abbrev μ-loop : tie.MeasureT-loop
 μ-loop a w h pixels k cells₀ x near count s₀ i₀ cells s i = count - i
