@@ -25,7 +25,7 @@ use Rattle.patches.specs.Figures.{noPatch, Figures}
 use Rattle.patch_records.specs.Records.{Entry, Entries, recordAt, records}
 use Rattle.answers.specs.declared.Answer.{Answer}
 use Rattle.faults.specs.Faults.{workFault}
-use Rattle.answers.specs.Answers.{IsValue}
+use Rattle.answers.specs.Answers.{IsRefusal, IsValue}
 use Rattle.patch_lists.specs.PatchLists.{listFault, recordOf, Figured, Gathered}
 use Rattle.faults.proofs.Laws.{first-some, first-none, first-zero, first-either, when-zero, workFaultOf}
 use Rattle.answers.proofs.Shell.{refused-answer, refused-left, accepted-answer, cleared-left, lent-length, behind-lent}
@@ -170,7 +170,7 @@ module _ (p : Picture) (h : isPicture p ≡ true) where
 
 -- the answer of a refusal, and that of an accepted call
 module _ (p : Picture) (room : ℕ) (q : List ℕ) where
-  pub gathered-refused : (g : ℕ) (r : Answer) → g ≡ listFault p room (length q) → g ≢ 0 → Refused g r → Gathered p room q q r
+  pub gathered-refused : (g : ℕ) (r : Answer) → g ≡ listFault p room (length q) → g ≢ 0 → IsRefusal g r → Gathered p room q q r
   gathered-refused g r e d w =
       subst (λ (s : Answer). Gathered p room q q s) (sym w)
       (record {
