@@ -67,12 +67,13 @@ static inline bool absorb(struct grid g, const uint8_t *restrict pixels,
         if (pixels[y] > k || (pixels[y] == k && y > x))
             continue;
         unsigned other = find(cells, y);
-        if (other == root)
-            continue;
-        unsigned lo = other < root ? other : root;
-        if (!hang(cells, lo, other < root ? root : other, x, meet, tree))
+        if (other < root) {
+            if (!hang(cells, other, root, x, meet, tree))
+                return false;
+            root = other;
+        } else if (other > root && !hang(cells, root, other, x, meet, tree)) {
             return false;
-        root = lo;
+        }
     }
     return true;
 }
