@@ -16,7 +16,7 @@ use Rattle.lent_tree.specs.Lent.{HoldsTree}
 use Rattle.lent_tree.specs.Passes.{PassReady, PassOf}
 
 module _ (p : Picture) (count : ℕ) (hs fs ss m : List ℕ) (ok : isPicture p ≡ true) (t : HoldsTree p count hs fs ss m) (x y : ℕ) (bx : x < places p) (by : y < places p) where
-  pub climb-lent : count ≤ length fs → Climbing fs (getD m x 0) (getD m y 0)
+  climb-lent : count ≤ length fs → Climbing fs (getD m x 0) (getD m y 0)
   climb-lent long =
       let a = accepted-is p ok in
       let total = t .total in
@@ -38,7 +38,7 @@ module _ (p : Picture) (count : ℕ) (hs fs ss m : List ℕ) (ok : isPicture p �
       }
 
   -- the climb ends at a node, and its height decides the pass
-  pub pass-lent :
+  pass-lent :
       (r : ℕ) → Meet (λ i. getD fs i 0) (getD m x 0) (getD m y 0) r →
       (r < count) × (pass p x y ≡ max (max (valueAt p x) (valueAt p y)) (getD hs r 0))
   pass-lent r n =
