@@ -38,6 +38,9 @@ module _ (n : ℕ) (work : List ℕ) where
         taken = λ i b d. let q : 0 + i ≡ i = omega arith in absurd (d (subst (λ (k : ℕ). getD after k 0 ≡ 0) q (f .inside i b)));
       }
 
+  son-later : (j : ℕ) {i : ℕ} → Son n j work i → Son n (j + 1) work i
+  son-later j s = let b = s .within in record { son = s .son; within = omega arith; father = s .father }
+
   -- the father of one node more
   pub marks-more : (j f : ℕ) (l m : List ℕ) → f ≡ blockEntry work n j → Marks n j work l → Mark f l m → Marks n (j + 1) work m
   marks-more j f l m e k (beyond h q) =
@@ -50,11 +53,8 @@ module _ (n : ℕ) (work : List ℕ) where
             by-cases (ℕ-discrete a j)
             (λ d w. let u = ap (blockEntry work n) d in absurd (omega arith))
             (λ d. k .free i b z a (omega arith));
-        taken = λ i b d. later (k .taken i b d);
+        taken = λ i b d. son-later j (k .taken i b d);
       })
-    where
-      later : {i : ℕ} → Son n j work i → Son n (j + 1) work i
-      later s = let b = s .within in record { son = s .son; within = omega arith; father = s .father }
   marks-more j f l m e k (marked h q) =
       subst (Marks n (j + 1) work) (sym q)
       (record {
@@ -72,12 +72,9 @@ module _ (n : ℕ) (work : List ℕ) where
             λ i b d.
             ⊎-elim
             (λ w. record { son = j; within = omega arith; father = sym e ∙ sym (w .0) })
-            (λ w. later (k .taken i b (λ z. d (w .1 ∙ z))))
+            (λ w. son-later j (k .taken i b (λ z. d (w .1 ∙ z))))
             (set-cases l f 1 i h);
       })
-    where
-      later : {i : ℕ} → Son n j work i → Son n (j + 1) work i
-      later s = let b = s .within in record { son = s .son; within = omega arith; father = s .father }
 
   pub marks-end : (count j : ℕ) (l : List ℕ) → j ≤ count → count ≤ j → Marks n j work l → Marks n count work l
   marks-end count j l a b k = let e : j ≡ count = omega arith in subst (λ (i : ℕ). Marks n i work l) e k
