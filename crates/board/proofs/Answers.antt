@@ -7,7 +7,7 @@ use Prim.Native.Nat.{ℕ, suc, _≤_, _<_}
 use native.Mathlib.Omega.{arith}
 use lib.ListN.{length, getD, drop, List·getD-append}
 use borrow.Author.Tests.{eq-eqb}
-use Rattle.picture.specs.Lists.{pick, tally, range}
+use Rattle.lists.specs.Lists.{pick, tally, range}
 use Rattle.picture.specs.Pictures.{Picture, places, allBytes, isPicture}
 use Rattle.picture.specs.Components.{pass}
 use Rattle.picture.specs.Trees.{nodes, nodeAt, fatherOf, treeOf}

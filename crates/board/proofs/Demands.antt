@@ -6,7 +6,7 @@ use Prim.Native.Nat.{ℕ, _≤_}
 use lib.ListN.{length, take, drop}
 use lib.Seq.{take-at}
 use borrow.Author.Tests.{eq-eqb}
-use Rattle.picture.specs.Lists.{pick}
+use Rattle.lists.specs.Lists.{pick}
 use Rattle.picture.specs.Pictures.{Picture, places, withPixels, allBytes, isPicture}
 use Rattle.picture.specs.Watersheds.{watershed}
 use Rattle.picture.specs.Kept.{nowhereAbove, keepsAt, Kept}

@@ -5,7 +5,7 @@ use mathlib.Core.Logic.{_↔_}
 use mathlib.Core.List.{List}
 use Prim.Native.Nat.{ℕ, suc, _<_}
 use lib.ListN.{getD}
-use Rattle.picture.specs.Lists.{tally, range}
+use Rattle.lists.specs.Lists.{tally, range}
 use Rattle.picture.specs.Pictures.{Picture}
 use Rattle.picture.specs.Trees.{Node}
 use Rattle.picture.specs.Kept.{partners}

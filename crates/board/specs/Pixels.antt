@@ -5,7 +5,7 @@ use Prim.Native.Nat.{ℕ, _+_}
 use lib.Dec.{eqb}
 use lib.ListN.{drop}
 use denote.Ref.{RefT, now, ptr}
-use Rattle.picture.specs.Lists.{pick}
+use Rattle.lists.specs.Lists.{pick}
 use Rattle.p5.specs.Files.{readFile, numberOf, headerOf}
 
 -- the pixels of a file: what follows its header; none on a refusal

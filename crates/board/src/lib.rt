@@ -26,7 +26,7 @@ mod trees;
 ghost use mathlib.Core.Path.{_≡_};
 ghost use Prim.Native.Nat.{_*_};
 ghost use lib.ListN.{length};
-ghost use Rattle.picture.specs.Lists.{pick};
+ghost use Rattle.lists.specs.Lists.{pick};
 ghost use Rattle.picture.specs.Pictures.{pictureOf};
 ghost use Rattle.answers.specs.Answers.{cleared};
 ghost use Rattle.reading.specs.Reads.{ReadSays};

@@ -5,7 +5,7 @@ use mathlib.Core.List.{List}
 use Prim.Native.Nat.{ℕ, _≤_}
 use lib.ListN.{length}
 use borrow.Author.Tests.{eq-eqb}
-use Rattle.picture.specs.Lists.{pick}
+use Rattle.lists.specs.Lists.{pick}
 use Rattle.picture.specs.Pictures.{Picture, places, withPixels, allBytes, isPicture}
 use Rattle.faults.specs.PictureFault.{pictureFault}
 use Rattle.picture.specs.Watersheds.{watershed}

@@ -3,7 +3,7 @@ ghost use mathlib.Core.Path.{_≡_};
 ghost use mathlib.Core.List.{_++_};
 ghost use Prim.Native.Nat.{_+_, _≤_};
 ghost use lib.ListN.{length, drop, replicate};
-ghost use Rattle.cells.specs.Blocks.{Filled};
+ghost use Rattle.lists.specs.Blocks.{Filled};
 
 // A cell as an index.
 pub fn wide(x: u16) -> usize

@@ -8,7 +8,7 @@ use lib.Dec.{eqb}
 use lib.ListN.{length}
 use Rattle.picture.specs.Pictures.{Picture, places, sideFits, allBytes, isPicture}
 use Rattle.faults.specs.PictureFault.{faultOf, pictureFault}
-use Rattle.picture.proofs.Lists.{and-left, and-right, and-both}
+use Rattle.lists.proofs.Tests.{and-left, and-right, and-both}
 
 module _ (a w h l : ℕ) where
   pub fault-adjacency : (eqb a 4 || eqb a 8) ≡ false → faultOf a w h l ≡ 7

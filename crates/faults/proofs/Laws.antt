@@ -9,7 +9,7 @@ use lib.ListN.{length, getD}
 use borrow.Author.Tests.{eqb-true, ltb-false, leb-false, lt-ltb, le-ltb, le-leb, lt-leb}
 use Rattle.picture.specs.Pictures.{Picture, places, sideFits, isPicture}
 use Rattle.faults.specs.PictureFault.{firstOf, when, faultOf, pictureFault}
-use Rattle.picture.proofs.Lists.{and-left, and-right}
+use Rattle.lists.proofs.Tests.{and-left, and-right}
 use Rattle.picture.proofs.Sides.{side-most, area-most}
 use Rattle.faults.proofs.Accepted.{no-fault, accepted}
 use Rattle.topology.proofs.Accepted.{at-byte}

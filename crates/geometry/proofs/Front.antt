@@ -15,7 +15,7 @@ use mir.Val.{toZ, ofZ}
 use Rattle.picture.specs.declared.Step.{Step}
 use Rattle.picture.specs.Geometry.{steps, plusOne, offset, used, within, stays, placeBy, reached, neighboursOf, Placed, Listed}
 use Rattle.geometry.specs.Steps.{isUnit, strideOf, stepAt, offEdge, isInner, Stepping, StepsTo, PutBehind}
-use Rattle.picture.proofs.Lists.{and-left, and-right, and-both, on-pick}
+use Rattle.lists.proofs.Tests.{and-left, and-right, and-both, on-pick}
 use Rattle.picture.proofs.Sides.{within-some, area-most}
 use Rattle.geometry.proofs.Steps.{on-unit, unit-column, unit-row, off-edge-within, place-most, leads-from, row-under, used-step, reached-step, reached-one, reached-none}
 

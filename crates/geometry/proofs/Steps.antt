@@ -13,10 +13,11 @@ use Rattle.picture.specs.declared.Step.{Step}
 use lib.ListN.{length, getD, drop}
 use lib.Seq.{drop-cons}
 use borrow.Author.Tests.{leb-true, ltb-true, le-leb}
-use Rattle.picture.specs.Lists.{pick}
+use Rattle.lists.specs.Lists.{pick}
 use Rattle.picture.specs.Geometry.{step, steps, plusOne, offset, everySecond, used, within, stays, placeBy, reached}
 use Rattle.geometry.specs.Steps.{isUnit, Unit, strideOf, stepAt, offEdge, StepsTo}
-use Rattle.picture.proofs.Lists.{and-left, and-right, and-both, all-at}
+use Rattle.lists.proofs.Tests.{and-left, and-right, and-both}
+use Rattle.lists.proofs.Members.{all-at}
 use Rattle.picture.proofs.Sides.{within-some, within-most, area-most}
 
 -- what holds of −1, 0 and 1 holds of every step

@@ -7,7 +7,7 @@ use lib.Dec.{eqb, leb, ltb}
 use lib.IntN.{ℤ, pos, negsuc}
 use Rattle.picture.specs.declared.Step.{Step}
 use lib.ListN.{length, getD, take, drop}
-use Rattle.picture.specs.Lists.{pick}
+use Rattle.lists.specs.Lists.{pick}
 use Rattle.picture.specs.Geometry.{step, steps, offset, Placed}
 
 -- a step in one direction is −1, 0 or 1

@@ -6,7 +6,7 @@ use native.Mathlib.Nat.{div-le-self, lt-of-le-of-lt}
 use native.Mathlib.Omega.{arith}
 use native.Mathlib.Numerals.{add-one}
 use lib.ListN.{length, take, drop, length-append}
-use Rattle.picture.specs.Lists.{range}
+use Rattle.lists.specs.Lists.{range}
 use Rattle.picture.specs.Patches.{centre}
 use Rattle.text.specs.Decimal.{decimal, fields}
 use Rattle.hold_lines.specs.Figures.{concatMap, lineOf}

@@ -7,7 +7,7 @@ ghost use mathlib.Core.Path.{_≡_};
 ghost use mathlib.Core.List.{_++_};
 ghost use Prim.Native.Nat.{_+_, _*_, _<_, _≤_};
 ghost use lib.ListN.{length};
-ghost use Rattle.picture.specs.Lists.{range};
+ghost use Rattle.lists.specs.Lists.{range};
 ghost use Rattle.text.specs.Writing.{Written};
 ghost use Rattle.hold_lines.specs.Figures.{concatMap, lineOf, lineAt, Lists};
 ghost use Rattle.hold_lines.specs.Lines.{patchesWord, headLines, refusedLine};

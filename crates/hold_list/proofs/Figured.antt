@@ -8,7 +8,7 @@ use native.Mathlib.Omega.{arith}
 use lib.Dec.{eqb}
 use lib.ListN.{length, getD, take, drop, length-drop}
 use lib.Seq.{length-take-le, getD-take, getD-drop}
-use Rattle.picture.specs.Lists.{range}
+use Rattle.lists.specs.Lists.{range}
 use Rattle.picture.specs.Pictures.{Picture, places}
 use Rattle.picture.specs.Patches.{Patch, patches, patchAt, lineCount, centre}
 use Rattle.lists.proofs.Lists.{tally-length, length-range}
@@ -16,7 +16,7 @@ use Rattle.lists.proofs.Cuts.{take-rest}
 use Rattle.topology.proofs.Accepted.{Accepted, places-bound}
 use Rattle.topology.proofs.PatchFigures.{bottom-number}
 use Rattle.topology.proofs.PatchSums.{sumAt, sum-in, sum-out, patch-begins, count-few, patch-size}
-use Rattle.cells.specs.Blocks.{blockEntry}
+use Rattle.lists.specs.Blocks.{blockEntry}
 use Rattle.patches.specs.Figures.{noPatch, Figures}
 use Rattle.hold_lines.specs.Figures.{concatMap, lineAt, Lists}
 use Rattle.hold_lines.specs.Lines.{headLines}

@@ -9,7 +9,7 @@ use lib.Dec.{eqb}
 use lib.ListN.{length, getD}
 use borrow.Author.Count.{below-more}
 use borrow.Author.Tests.{eqb-true, eqb-false, ne-eqb}
-use Rattle.picture.specs.Lists.{pick}
+use Rattle.lists.specs.Lists.{pick}
 use Rattle.picture.specs.Pictures.{Picture, places, valueAt}
 use Rattle.picture.specs.Components.{labels}
 use Rattle.picture.specs.Geometry.{neighboursIn}

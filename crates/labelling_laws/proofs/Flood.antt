@@ -8,7 +8,7 @@ use native.Mathlib.Omega.{arith}
 use lib.Dec.{eqb}
 use lib.ListN.{length, getD, set}
 use lib.Seq.{getD-set-same, getD-set-other}
-use Rattle.picture.specs.Lists.{tally}
+use Rattle.lists.specs.Lists.{tally}
 use Rattle.picture.specs.Pictures.{Picture, places}
 use Rattle.lists.proofs.Lists.{set-cases, tally-set}
 use Rattle.topology.proofs.Connected.{start, step, conn-closed}

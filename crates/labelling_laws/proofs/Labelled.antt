@@ -8,7 +8,7 @@ use native.Mathlib.Decide.{decLt}
 use native.Mathlib.Omega.{arith}
 use lib.ListN.{length, getD, replicate, length-replicate, getD-replicate, List·getD-eq-default}
 use lib.Seq.{ext-getD}
-use Rattle.picture.specs.Lists.{tally, range}
+use Rattle.lists.specs.Lists.{tally, range}
 use Rattle.picture.specs.Pictures.{Picture, places}
 use Rattle.picture.specs.Components.{inSection, components, labels}
 use Rattle.lists.proofs.Tests.{clash, test-false}

@@ -8,7 +8,7 @@ use native.Mathlib.Decide.{ℕ-discrete}
 use native.Mathlib.Omega.{arith}
 use lib.Dec.{eqb}
 use lib.ListN.{length, getD, set}
-use Rattle.picture.specs.Lists.{tally, range}
+use Rattle.lists.specs.Lists.{tally, range}
 use Rattle.picture.specs.Pictures.{Picture, places, valueAt}
 use Rattle.picture.specs.Patches.{patches}
 use Rattle.lists.proofs.Tests.{test-false, clash}

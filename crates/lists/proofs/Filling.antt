@@ -5,7 +5,7 @@ use Prim.Native.Nat.{ℕ, zero, suc, _+_, _≤_, _<_}
 use native.Mathlib.Omega.{arith}
 use lib.ListN.{length, getD, drop, set, length-append, length-drop, length-map}
 use lib.Seq.{drop-cons, set-at}
-use Rattle.picture.specs.Lists.{range}
+use Rattle.lists.specs.Lists.{range}
 use Rattle.lists.proofs.Lists.{length-range}
 
 module _ {A : Type 0} (f : ℕ → A) where

@@ -1,8 +1,10 @@
 -- Laws of tests and lists: Booleans, selections, ranges, rising lists, indices, positions, copies.
 pub mod Tests
 pub mod Lists
+pub mod Members
 pub mod Sums
 pub mod Cuts
+pub mod Blocks
 pub mod Rising
 pub mod Numbers
 pub mod Positions

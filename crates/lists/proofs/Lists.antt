@@ -10,7 +10,7 @@ use lib.Dec.{eqb}
 use lib.ListN.{length, getD, set, length-map}
 use lib.Seq.{getD-set-same, getD-set-other, ext-getD}
 use borrow.Author.Tests.{eqb-true, eq-eqb, ne-eqb}
-use Rattle.picture.specs.Lists.{pick, any, all, tally, select, range, isIn}
+use Rattle.lists.specs.Lists.{pick, any, all, tally, select, range, isIn}
 use Rattle.lists.proofs.Tests.{and-left, and-right, and-both, or-left, or-right, or-cases, on-test, clash}
 
 module _ {A : Type 0} (t : A → Bool) where

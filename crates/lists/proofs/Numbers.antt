@@ -7,7 +7,7 @@ use Prim.Native.Nat.{ℕ, zero, suc, _≤_, _<_}
 use native.Mathlib.Decide.{ℕ-discrete}
 use native.Mathlib.Omega.{arith}
 use lib.ListN.{length, getD}
-use Rattle.picture.specs.Lists.{tally}
+use Rattle.lists.specs.Lists.{tally}
 use Rattle.lists.proofs.Tests.{on-test, test-false}
 use Rattle.lists.proofs.Lists.{tally-in, tally-out, tally-none}
 use Rattle.lists.proofs.Rising.{Rising, none, more, rising-from}

@@ -7,7 +7,7 @@ use Prim.Native.Nat.{ℕ, zero, suc, _+_, _-_, _≤_, _<_}
 use native.Mathlib.Decide.{ℕ-discrete, decLt}
 use native.Mathlib.Omega.{arith}
 use lib.ListN.{length, getD}
-use Rattle.picture.specs.Lists.{tally, select, indexFrom, range}
+use Rattle.lists.specs.Lists.{tally, select, indexFrom, range}
 use Rattle.lists.proofs.Tests.{on-test, on-elim, clash}
 use Rattle.lists.proofs.Lists.{select-in, select-out, tally-in, tally-out}
 

@@ -7,8 +7,7 @@ use Prim.Native.Nat.{ℕ, zero, suc, _+_, _≤_, _<_}
 use native.Mathlib.Omega.{arith}
 use lib.Dec.{eqb}
 use borrow.Author.Tests.{eqb-true, eq-eqb}
-use Rattle.picture.specs.Lists.{tally, select, range, isIn}
-use Rattle.picture.specs.Trees.{headOf}
+use Rattle.lists.specs.Lists.{tally, select, range, isIn, headOf}
 use Rattle.lists.proofs.Tests.{on-test, clash, test-false}
 use Rattle.lists.proofs.Lists.{select-in, select-out, tally-in, tally-out, tally-none, none-tally, in-mem, mem-in, range-mem, mem-range}
 

@@ -6,7 +6,7 @@ use Prim.Native.Nat.{ℕ, zero, suc, _+_, _*_, _≤_, _<_}
 use native.Mathlib.Nat.{mul-suc}
 use native.Mathlib.Omega.{arith}
 use lib.ListN.{length, getD, set, length-map}
-use Rattle.picture.specs.Lists.{pick, select, range, total}
+use Rattle.lists.specs.Lists.{pick, select, range, total}
 use Rattle.lists.proofs.Tests.{on-test}
 use Rattle.lists.proofs.Lists.{select-in, select-out, length-range, getD-map-range}
 

@@ -1,9 +1,42 @@
 -- Tests and what they say: the Boolean connectives, and cases on a test that a definition is stuck on.
 use mathlib.Core.Path.{_≡_, refl, sym, _∙_}
-use mathlib.Core.Bool.{Bool, true, false, _&&_, _||_, not, true≢false}
+use mathlib.Core.Bool.{Bool, true, false, _&&_, _||_, not, or-true, true≢false, false≢true}
 use mathlib.Core.Logic.{_⊎_, inl, inr}
 use borrow.Author.Tests.{not-true, not-false}
-pub use Rattle.picture.proofs.Lists.{and-left, and-right, and-both, or-cases, or-left, or-right, on-pick}
+use Rattle.lists.specs.Lists.{pick}
+
+-- both tests of a conjunction pass
+pub and-left : (a b : Bool) → (a && b) ≡ true → a ≡ true
+and-left true b e = refl
+and-left false b e = e
+
+pub and-right : (a b : Bool) → (a && b) ≡ true → b ≡ true
+and-right true b e = e
+and-right false b e = let z : false ≡ true = e in elim b [ true ↦ refl | false ↦ z ]
+
+pub and-both : {a b : Bool} → a ≡ true → b ≡ true → (a && b) ≡ true
+and-both p q = rw (p, q)
+
+-- one test of a disjunction passes
+pub or-cases : (a b : Bool) → (a || b) ≡ true → (a ≡ true) ⊎ (b ≡ true)
+or-cases true b e = inl refl
+or-cases false b e = inr e
+
+pub or-left : {a : Bool} (b : Bool) → a ≡ true → (a || b) ≡ true
+or-left b p = rw p
+
+pub or-right : (a : Bool) {b : Bool} → b ≡ true → (a || b) ≡ true
+or-right a p = rw p (or-true a)
+
+-- an implication of tests
+pub implied : (a b : Bool) → (not a || b) ≡ true → a ≡ true → b ≡ true
+implied true b e p = e
+implied false b e p = absurd (false≢true p)
+
+-- what holds of either value, under the test that picks it, holds of the one picked
+pub on-pick : {A : Type 0} (P : A → Type 0) (t : Bool) {x y : A} → (t ≡ true → P x) → (t ≡ false → P y) → P (pick t x y)
+on-pick P true f g = f refl
+on-pick P false f g = g refl
 
 pub not-of-false : (a : Bool) → a ≡ false → not a ≡ true
 not-of-false true h = absurd (true≢false h)

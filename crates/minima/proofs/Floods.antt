@@ -9,7 +9,7 @@ use native.Mathlib.Omega.{arith}
 use lib.Dec.{eqb}
 use lib.ListN.{length, getD, set, drop, length-set}
 use lib.Seq.{drop-cons, set-set, set-getD}
-use Rattle.picture.specs.Lists.{range}
+use Rattle.lists.specs.Lists.{range}
 use Rattle.picture.specs.Pictures.{Picture, places, valueAt, isPicture}
 use Rattle.picture.specs.Geometry.{neighboursIn, Placed}
 use Rattle.picture.specs.Patches.{patches}
@@ -24,7 +24,7 @@ use Rattle.topology.proofs.Leaves.{bottom}
 use Rattle.topology.proofs.Accepted.{accepted-is, places-bound}
 use Rattle.minima.specs.declared.Stack.{Stack}
 use Rattle.minima.specs.Minima.{CellEach, ZoneRoom, ZoneMoved, popped, ZoneFloods, Visit, ZoneSpread, Turn, ZoneSeed, Counting}
-use Rattle.cells.specs.Blocks.{Filled}
+use Rattle.lists.specs.Blocks.{Filled}
 
 module _ (pixels : List ℕ) (k y : ℕ) (cells : List ℕ) (s : Stack) (room : ZoneRoom pixels cells s) where
   stays : ZoneMoved cells s cells s

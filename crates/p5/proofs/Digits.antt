@@ -11,7 +11,7 @@ use lib.Dec.{eqb, leb}
 use lib.Arith.{digits-lt}
 use lib.ListN.{length, getD, take, drop, length-append}
 use lib.Seq.{drop-cons, take-at}
-use Rattle.picture.specs.Lists.{pick, all}
+use Rattle.lists.specs.Lists.{pick, all}
 use Rattle.lists.proofs.Lists.{all-snoc}
 use Rattle.p5.specs.declared.field.Field.{Field}
 use Rattle.p5.specs.declared.field.Field.the-variants.{Number, Unfit}

@@ -9,7 +9,7 @@ use native.Mathlib.Numerals.{add-one}
 use native.Mathlib.Omega.{arith}
 use lib.ListN.{length, getD, take, drop, length-drop, drop-of-length-le}
 use lib.Seq.{drop-cons, drop-append-le}
-use Rattle.picture.specs.Lists.{all}
+use Rattle.lists.specs.Lists.{all}
 use Rattle.p5.specs.Headers.{leading}
 use Rattle.lists.proofs.Tests.{on-pick, and-both, and-left, and-right}
 

@@ -5,7 +5,7 @@ use mathlib.Core.Logic.{_⊎_}
 use mathlib.Core.List.{List, _∷_, _++_}
 use Prim.Native.Nat.{ℕ, suc, _+_, _*_, _≤_, _<_}
 use lib.ListN.{length, getD, take}
-use Rattle.picture.specs.Lists.{all}
+use Rattle.lists.specs.Lists.{all}
 use Rattle.p5.specs.declared.header.Header.{Header}
 use Rattle.p5.specs.Headers.{isWhite, isDigit, decimalValue}
 

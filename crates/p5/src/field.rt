@@ -5,7 +5,7 @@ ghost use mathlib.Core.Path.{_≡_};
 ghost use mathlib.Core.Bool.{true};
 ghost use Prim.Native.Nat.{_+_, _-_, _*_, _<_};
 ghost use lib.Dec.{eqb};
-ghost use Rattle.picture.specs.Lists.{pick};
+ghost use Rattle.lists.specs.Lists.{pick};
 ghost use Rattle.p5.specs.Headers.{isDigit, gapEnd, digitsAt, numberAt};
 
 // A number with the position after it, or the unfit place.

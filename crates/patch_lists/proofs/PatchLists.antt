@@ -10,7 +10,7 @@ use lib.Dec.{eqb, ltb, leb}
 use lib.ListN.{length, getD, take, drop, replicate, length-replicate, length-map, List·getD-append, List·getD-map, List·getD-eq-default}
 use lib.Seq.{length-front, ext-getD}
 use borrow.Author.Tests.{lt-ltb, le-ltb, ltb-false, ne-eqb}
-use Rattle.picture.specs.Lists.{pick, range, highest}
+use Rattle.lists.specs.Lists.{pick, range, highest}
 use Rattle.picture.specs.Pictures.{Picture, places, isPicture}
 use Rattle.faults.specs.PictureFault.{firstOf, when, pictureFault}
 use Rattle.picture.specs.Trees.{Node, nodes, nodeAt, fatherOf, mapOf}

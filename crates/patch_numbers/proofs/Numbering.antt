@@ -11,13 +11,13 @@ use lib.Dec.{eqb}
 use lib.ListN.{length, getD, set, length-set}
 use lib.Seq.{getD-set-same, getD-set-other}
 use borrow.Author.Tests.{eqb-true, eqb-false, eq-eqb, ne-eqb}
-use Rattle.picture.specs.Lists.{pick, tally, range}
-use Rattle.cells.specs.Blocks.{blockEntry, UntouchedOutside, Filled}
+use Rattle.lists.specs.Lists.{pick, tally, range}
+use Rattle.lists.specs.Blocks.{blockEntry, UntouchedOutside, Filled}
 use Rattle.lists.proofs.Tests.{and-left, and-right, and-both, clash, on-pick}
 use Rattle.lists.proofs.Lists.{tally-length, length-range, set-cases}
 use Rattle.lists.proofs.Positions.{tally-next-in, tally-next-out}
 use Rattle.patch_numbers.specs.Numbers.{Mapped, Cleared, Mark, beyond, marked, Son, Marks, starts, Number, passed, given, Numbers, patchIn}
-use Rattle.cells.proofs.Blocks.{kept-refl, kept-set}
+use Rattle.lists.proofs.Blocks.{kept-refl, kept-set}
 
 -- an entry before the block that may have changed
 pub kept-row : (b n o i : ℕ) {l m : List ℕ} → UntouchedOutside b n l m → o + i < b → blockEntry m o i ≡ blockEntry l o i

@@ -6,8 +6,8 @@ use mathlib.Core.List.{List}
 use Prim.Native.Nat.{ℕ, suc, _+_, _*_, _≤_, _<_}
 use lib.Dec.{eqb}
 use lib.ListN.{length, getD, set}
-use Rattle.picture.specs.Lists.{pick, tally, range}
-use Rattle.cells.specs.Blocks.{blockEntry, UntouchedOutside}
+use Rattle.lists.specs.Lists.{pick, tally, range}
+use Rattle.lists.specs.Blocks.{blockEntry, UntouchedOutside}
 
 -- five blocks of n cells, and n cells or pixels beside them
 pub record FiveBlocks (n : ℕ) (work cells : List ℕ) : Type 0 where

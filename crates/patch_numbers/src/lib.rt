@@ -5,7 +5,7 @@ ghost use mathlib.Core.Path.{_≡_};
 ghost use Prim.Native.Nat.{ℕ, _+_, _*_, _≤_, _<_};
 ghost use lib.Dec.{eqb};
 ghost use lib.ListN.{length, getD};
-ghost use Rattle.picture.specs.Lists.{pick};
+ghost use Rattle.lists.specs.Lists.{pick};
 ghost use Rattle.patch_numbers.specs.Numbers.{FiveBlocks, Mapped, Cleared, Mark, Marks, Number, Numbers, Leaves, patchIn};
 
 // Marks the father f of a node; a number that is no node's is the root's father.

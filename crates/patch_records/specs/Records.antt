@@ -2,7 +2,7 @@
 use mathlib.Core.List.{List, map}
 use Prim.Native.Nat.{ℕ, _+_, _*_, _≤_, _<_}
 use lib.ListN.{length, getD}
-use Rattle.picture.specs.Lists.{range}
+use Rattle.lists.specs.Lists.{range}
 use Rattle.patch_records.specs.declared.Patch.{Patch}
 
 -- the five blocks of n figures have an entry i, whose depth and height are bytes

@@ -13,12 +13,12 @@ use lib.Dec.{eqb}
 use lib.ListN.{length, getD}
 use lib.Seq.{getD-set-same, getD-set-other}
 use borrow.Author.Tests.{eq-eqb, ne-eqb}
-use Rattle.picture.specs.Lists.{pick}
-use Rattle.cells.specs.Blocks.{blockEntry, UntouchedOutside, Filled}
+use Rattle.lists.specs.Lists.{pick}
+use Rattle.lists.specs.Blocks.{blockEntry, UntouchedOutside, Filled}
 use Rattle.topology.proofs.PatchSums.{sumAt, sum-none, sum-in, sum-out, sum-most}
 use Rattle.patch_sums.specs.declared.Run.{Run}
 use Rattle.patch_sums.specs.Sums.{Figure, sizes, columns, rows, term, terms, termAt, base, raised, Raisable, SumsRoom, Added, RunAfter, NumberedRows, Sums, RowSummed}
-use Rattle.cells.proofs.Blocks.{kept-refl, kept-trans, kept-store}
+use Rattle.lists.proofs.Blocks.{kept-refl, kept-trans, kept-store}
 
 pick-in : (c d v : ℕ) → c ≡ d → pick (eqb c d) v 0 ≡ v
 pick-in c d v e = ap (λ (b : Bool). pick b v 0) (eq-eqb c d e)

@@ -4,8 +4,8 @@ use mathlib.Core.List.{List}
 use Prim.Native.Nat.{ℕ, suc, _+_, _*_, _/_, _%_, _≤_, _<_}
 use lib.Dec.{eqb}
 use lib.ListN.{length, getD, set}
-use Rattle.picture.specs.Lists.{pick}
-use Rattle.cells.specs.Blocks.{blockEntry, UntouchedOutside}
+use Rattle.lists.specs.Lists.{pick}
+use Rattle.lists.specs.Blocks.{blockEntry, UntouchedOutside}
 use Rattle.topology.proofs.PatchSums.{sumAt}
 use Rattle.patch_sums.specs.declared.Run.{Run}
 

@@ -10,7 +10,7 @@ use native.Mathlib.Omega.{arith}
 use lib.Dec.{eqb}
 use lib.ListN.{length, getD}
 use borrow.Author.Tests.{eq-eqb, ne-eqb}
-use Rattle.picture.specs.Lists.{range, highest, tally}
+use Rattle.lists.specs.Lists.{range, highest, tally}
 use Rattle.picture.specs.Pictures.{Picture, places, isPicture}
 use Rattle.picture.specs.Patches.{patches, patchAt, lineCount}
 use Rattle.tree.specs.Arrays.{TreeIn}
@@ -21,7 +21,7 @@ use Rattle.topology.proofs.Accepted.{Accepted, accepted-is}
 use Rattle.topology.proofs.Nodes.{nodes-few}
 use Rattle.topology.proofs.PatchFigures.{patches-count}
 use Rattle.topology.proofs.PatchSums.{count-few, patch-most, patch-number, patch-size, patch-columns, patch-rows}
-use Rattle.cells.specs.Blocks.{UntouchedOutside}
+use Rattle.lists.specs.Blocks.{UntouchedOutside}
 use Rattle.patch_numbers.specs.Numbers.{FiveBlocks, Mapped, Leaves, patchIn}
 use Rattle.patch_sums.specs.Sums.{sizes, columns, rows, NumberedRows, Sums}
 use Rattle.patches.specs.Figures.{TreeInWork, noPatch, Charted, Patched, Figures, PatchMap}

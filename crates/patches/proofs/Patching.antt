@@ -10,11 +10,11 @@ use native.Mathlib.Omega.{arith}
 use lib.Dec.{leb}
 use lib.ListN.{length, getD, set, drop, length-set}
 use lib.Seq.{getD-set-same, getD-set-other, drop-cons}
-use Rattle.picture.specs.Lists.{pick, tally, range, highest}
+use Rattle.lists.specs.Lists.{pick, tally, range, highest}
 use Rattle.picture.specs.Pictures.{Picture, places}
 use Rattle.picture.specs.Trees.{mapOf}
 use Rattle.picture.specs.Patches.{patches}
-use Rattle.cells.specs.Blocks.{blockEntry}
+use Rattle.lists.specs.Blocks.{blockEntry}
 use Rattle.lists.proofs.Tests.{test-false}
 use Rattle.topology.proofs.Accepted.{Accepted, accepted-is}
 use Rattle.topology.proofs.Fathers.{map-found}
@@ -25,7 +25,7 @@ use Rattle.topology.proofs.PatchFigures.{bottom-number}
 use Rattle.topology.proofs.PatchSums.{next-bottom, patch-height, patch-depth}
 use Rattle.patch_numbers.specs.Numbers.{Mapped}
 use Rattle.patches.specs.Figures.{depthIn, PatchPut, passed, begun, noPatch, DepthsBefore, Charted, Patched}
-use Rattle.cells.proofs.Blocks.{kept-refl, kept-store}
+use Rattle.lists.proofs.Blocks.{kept-refl, kept-store}
 use Rattle.patch_numbers.proofs.Numbering.{kept-row}
 use Rattle.patches.proofs.Charting.{arrays, depth-is, depth-kept}
 

@@ -6,11 +6,11 @@ use mathlib.Core.List.{List}
 use Prim.Native.Nat.{ℕ, _+_, _-_, _*_, _≤_, _<_}
 use lib.Dec.{ltb}
 use lib.ListN.{length, getD, set}
-use Rattle.picture.specs.Lists.{pick, tally, range, highest}
+use Rattle.lists.specs.Lists.{pick, tally, range, highest}
 use Rattle.picture.specs.Pictures.{Picture, places, isPicture}
 use Rattle.picture.specs.Trees.{nodes}
 use Rattle.picture.specs.Patches.{Patch, patches, patchAt}
-use Rattle.cells.specs.Blocks.{blockEntry, UntouchedOutside}
+use Rattle.lists.specs.Blocks.{blockEntry, UntouchedOutside}
 use Rattle.tree.specs.Arrays.{TreeIn}
 use Rattle.topology.proofs.Leaves.{bottom}
 

@@ -8,7 +8,7 @@ ghost use mathlib.Core.Path.{_≡_};
 ghost use Prim.Native.Nat.{_+_, _-_, _*_, _/_, _≤_, _<_};
 ghost use lib.ListN.{length};
 ghost use lib.Dec.{leb};
-ghost use Rattle.picture.specs.Lists.{pick, highest};
+ghost use Rattle.lists.specs.Lists.{pick, highest};
 ghost use Rattle.picture.specs.Patches.{centre};
 ghost use Rattle.picture.specs.Pictures.{pictureOf};
 ghost use Rattle.patch_numbers.specs.Numbers.{FiveBlocks, Mapped};

@@ -1,5 +1,4 @@
 -- Laws of the definitions that are close to them, and the worked pictures.
-pub mod Lists
 pub mod Neighbours
 pub mod Sides
 pub mod Worked

@@ -10,10 +10,11 @@ use lib.Arith.{digits-lt, digits-div, digits-mod}
 use lib.Dec.{eqb, leb}
 use lib.ListN.{length, getD, drop, length-map, List·getD-append}
 use borrow.Author.Tests.{leb-true, leb-false, eqb-true, not-true, le-leb, eq-eqb}
-use Rattle.picture.specs.Lists.{pick, any, all, select, range, isIn}
+use Rattle.lists.specs.Lists.{pick, any, all, select, range, isIn}
 use Rattle.picture.specs.Pictures.{Picture, places, distance, adjacent, touch}
 use Rattle.picture.specs.Geometry.{Listed, steps, Offset, offset, everySecond, within, stays, placeBy, neighboursOf, neighboursIn}
-use Rattle.picture.proofs.Lists.{and-left, and-right, and-both, on-pick, implied, any-all, any-mono, any-map-select, select-most, all-below, isIn-at, isIn-index, distinct, pairwise, distinct-images}
+use Rattle.lists.proofs.Tests.{and-left, and-right, and-both, on-pick, implied}
+use Rattle.lists.proofs.Members.{any-all, any-mono, any-map-select, select-most, all-below, isIn-at, isIn-index, distinct, pairwise, distinct-images}
 use Rattle.picture.proofs.Sides.{within-some, within-most}
 
 -- the distance of two numbers as a sum of differences, of which one is 0

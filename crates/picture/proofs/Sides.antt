@@ -7,7 +7,7 @@ use lib.Dec.{leb}
 use borrow.Author.Tests.{leb-true}
 use Rattle.picture.specs.Pictures.{sideFits}
 use Rattle.picture.specs.Geometry.{within}
-use Rattle.picture.proofs.Lists.{and-left, and-right}
+use Rattle.lists.proofs.Tests.{and-left, and-right}
 
 -- a number from 1 to side
 pub within-some : (side c : ℕ) → within side c ≡ true → 1 ≤ c

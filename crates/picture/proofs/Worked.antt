@@ -4,7 +4,7 @@ use mathlib.Core.Bool.{Bool, true, false, _&&_}
 use mathlib.Core.List.{List, [], _∷_, map}
 use Prim.Native.Nat.{ℕ}
 use lib.Dec.{eqb}
-use Rattle.picture.specs.Lists.{all, range}
+use Rattle.lists.specs.Lists.{all, range}
 use Rattle.picture.specs.Pictures.{Picture, places, adjacent, isPicture, pictureOf}
 use Rattle.picture.specs.Components.{componentAt, components, labels, pass}
 use Rattle.picture.specs.Trees.{Tree, isBranch, nodesAt, nodes, fatherOf, mapOf, treeOf, isLeaf}

@@ -4,7 +4,7 @@ use mathlib.Core.List.{List, [], _∷_, _++_, map}
 use Prim.Native.Nat.{ℕ, zero, suc}
 use lib.Dec.{eqb, leb}
 use lib.ListN.{length}
-use Rattle.picture.specs.Lists.{any, select, indexFrom, range, isIn}
+use Rattle.lists.specs.Lists.{any, select, indexFrom, range, isIn}
 use Rattle.picture.specs.Pictures.{Picture, places, valueAt, touch}
 
 -- a place is in the section at height k (standard terms: lower threshold set; height: level)

@@ -7,7 +7,7 @@ use lib.Dec.{eqb, leb}
 use lib.ListN.{length, drop}
 use lib.IntN.{ℤ, pos, negsuc}
 use Rattle.picture.specs.declared.Step.{Step}
-use Rattle.picture.specs.Lists.{pick, select}
+use Rattle.lists.specs.Lists.{pick, select}
 use Rattle.picture.specs.Pictures.{Picture}
 
 -- the step back by one

@@ -5,7 +5,7 @@ use mathlib.Core.List.{List, [], _∷_}
 use Prim.Native.Nat.{ℕ, _≤_, _<_}
 use lib.Dec.{eqb, leb}
 use lib.ListN.{length}
-use Rattle.picture.specs.Lists.{all, tally, range, allWithin}
+use Rattle.lists.specs.Lists.{all, tally, range, allWithin}
 use Rattle.picture.specs.Pictures.{Picture, places, withPixels, allBytes, isPicture}
 use Rattle.picture.specs.Components.{components, pass}
 use Rattle.picture.specs.Trees.{Node, nodes, nodeAt, componentOf, fatherOf}

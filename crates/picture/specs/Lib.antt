@@ -1,5 +1,4 @@
 -- The definitions that a reader must believe, in the words of the scope document.
-pub mod Lists
 pub mod Pictures
 pub mod Geometry
 pub mod Components

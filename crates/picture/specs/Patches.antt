@@ -4,7 +4,7 @@ use mathlib.Core.List.{List, [], _∷_, map}
 use Prim.Native.Nat.{ℕ, suc, _-_, _*_, _/_}
 use lib.Dec.{eqb, ltb}
 use lib.ListN.{length}
-use Rattle.picture.specs.Lists.{pick, tally, select, indexFrom, range, isIn, total, highest}
+use Rattle.lists.specs.Lists.{pick, tally, select, indexFrom, range, isIn, total, highest}
 use Rattle.picture.specs.Pictures.{Picture, places, column, row}
 use Rattle.picture.specs.Trees.{Node, nodes, nodeAt, componentOf, fatherOf, isLeaf}
 

@@ -4,7 +4,7 @@ use mathlib.Core.List.{List}
 use Prim.Native.Nat.{ℕ, _+_, _-_, _*_, _/_, _%_}
 use lib.Dec.{eqb, ltb, leb}
 use lib.ListN.{length, getD}
-use Rattle.picture.specs.Lists.{pick, all}
+use Rattle.lists.specs.Lists.{pick, all}
 
 -- adjacency 4 or 8, width, height, and the pixels row by row
 pub record Picture : Type 0 where

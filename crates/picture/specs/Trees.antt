@@ -4,13 +4,9 @@ use mathlib.Core.List.{List, [], _++_, map}
 use Prim.Native.Nat.{ℕ, zero, suc, _-_}
 use lib.Dec.{eqb}
 use lib.ListN.{length, getD}
-use Rattle.picture.specs.Lists.{select, indexFrom, range, isIn}
+use Rattle.lists.specs.Lists.{select, indexFrom, range, isIn, headOf}
 use Rattle.picture.specs.Pictures.{Picture, places, valueAt}
 use Rattle.picture.specs.Components.{componentAt, components}
-
--- the first (smallest) place of a component, which is rising
-abbrev pub headOf : List ℕ → ℕ
-headOf c = getD c 0 0
 
 -- the components of the height below within a component of height k, none at height 0
 abbrev pub below : Picture → ℕ → List ℕ → List (List ℕ)

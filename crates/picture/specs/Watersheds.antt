@@ -4,7 +4,7 @@ use mathlib.Core.List.{List, [], _∷_}
 use Prim.Native.Nat.{ℕ, zero, suc, _-_}
 use lib.Dec.{eqb, ltb}
 use lib.ListN.{set}
-use Rattle.picture.specs.Lists.{pick, tally, range, total}
+use Rattle.lists.specs.Lists.{pick, tally, range, total}
 use Rattle.picture.specs.Pictures.{Picture, places, valueAt, withPixels}
 use Rattle.picture.specs.Components.{touchesSome, components}
 

@@ -7,10 +7,10 @@ use native.Mathlib.Omega.{arith}
 use lib.Dec.{eqb}
 use lib.ListN.{length, getD}
 use borrow.Author.Tests.{eqb-true, eq-eqb}
-use Rattle.picture.specs.Lists.{any, tally, isIn}
+use Rattle.lists.specs.Lists.{any, tally, isIn, headOf}
 use Rattle.picture.specs.Pictures.{Picture, places, valueAt, withPixels}
 use Rattle.picture.specs.Components.{componentAt, components}
-use Rattle.picture.specs.Trees.{headOf, below, isBranch}
+use Rattle.picture.specs.Trees.{below, isBranch}
 use Rattle.lists.proofs.Tests.{on-test, same-test, clash}
 use Rattle.lists.proofs.Lists.{any-mem, mem-any, mem-select, length-select}
 use Rattle.topology.proofs.Connected.{start, step, conn-source, conn-target, conn-trans, conn-mono, conn-closed}

@@ -6,7 +6,7 @@ use Prim.Native.Nat.{ℕ, zero, suc, _≤_, _<_}
 use native.Mathlib.Omega.{arith}
 use lib.Dec.{eqb}
 use borrow.Author.Tests.{eqb-true, eq-eqb}
-use Rattle.picture.specs.Lists.{all, tally, range, isIn, allWithin}
+use Rattle.lists.specs.Lists.{all, tally, range, isIn, allWithin}
 use Rattle.picture.specs.Pictures.{Picture, places, valueAt, withPixels, touch}
 use Rattle.picture.specs.Components.{touchesSome, componentAt, components}
 use Rattle.picture.specs.Watersheds.{lowerableAt, lowerable}

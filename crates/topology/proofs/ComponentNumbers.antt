@@ -7,7 +7,7 @@ use Prim.Native.Nat.{ℕ, zero, suc, _+_, _≤_, _<_}
 use native.Mathlib.Decide.{decLt}
 use native.Mathlib.Omega.{arith}
 use lib.ListN.{length, getD, length-map}
-use Rattle.picture.specs.Lists.{tally, select, range, isIn}
+use Rattle.lists.specs.Lists.{tally, select, range, isIn}
 use Rattle.picture.specs.Pictures.{Picture, places}
 use Rattle.picture.specs.Components.{componentAt, components, labelFrom, labels}
 use Rattle.lists.proofs.Tests.{on-test, on-elim, clash, test-false}

@@ -7,7 +7,7 @@ use Prim.Native.Nat.{ℕ, zero, suc, _-_, _≤_, _<_}
 use native.Mathlib.Omega.{arith}
 use lib.ListN.{length, getD, set, length-set}
 use lib.Seq.{ext-getD, getD-set-same}
-use Rattle.picture.specs.Lists.{range, isIn}
+use Rattle.lists.specs.Lists.{range, isIn}
 use Rattle.picture.specs.Pictures.{Picture, places, valueAt, withPixels, allBytes}
 use Rattle.picture.specs.Components.{inSection, componentAt, passFrom, pass}
 use Rattle.picture.specs.Watersheds.{lowerable, watershed}

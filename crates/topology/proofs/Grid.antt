@@ -9,7 +9,7 @@ use native.Mathlib.Omega.{arith}
 use lib.Arith.{digits-div, digits-mod}
 use lib.Dec.{eqb}
 use borrow.Author.Tests.{eq-eqb, le-leb}
-use Rattle.picture.specs.Lists.{isIn}
+use Rattle.lists.specs.Lists.{isIn}
 use Rattle.picture.specs.Pictures.{Picture, places, valueAt, distance, adjacent}
 use Rattle.picture.specs.Components.{inSection, componentAt, passFrom, pass}
 use Rattle.picture.proofs.Neighbours.{distance-is, distance-same}

@@ -7,7 +7,7 @@ use native.Mathlib.Decide.{ℕ-discrete, decLe}
 use native.Mathlib.Omega.{arith}
 use lib.Dec.{eqb}
 use borrow.Author.Tests.{eq-eqb, ne-eqb}
-use Rattle.picture.specs.Lists.{pick}
+use Rattle.lists.specs.Lists.{pick}
 use Rattle.topology.proofs.Connected.{Conn, start, step, conn-target, conn-trans, conn-sym, conn-edge, conn-mono, conn-closed}
 
 -- y is in the section of v at height k

@@ -8,10 +8,10 @@ use native.Mathlib.Omega.{arith}
 use lib.Dec.{eqb, ltb}
 use lib.ListN.{length}
 use borrow.Author.Tests.{eqb-true, eq-eqb, ltb-true, ltb-false}
-use Rattle.picture.specs.Lists.{select, range, isIn}
+use Rattle.lists.specs.Lists.{select, range, isIn, headOf}
 use Rattle.picture.specs.Pictures.{Picture, places, valueAt}
 use Rattle.picture.specs.Components.{componentAt, components}
-use Rattle.picture.specs.Trees.{Node, headOf, below, isBranch, nodes, isLeaf}
+use Rattle.picture.specs.Trees.{Node, below, isBranch, nodes, isLeaf}
 use Rattle.picture.specs.Patches.{insertByFirst, byFirst, patchNodes}
 use Rattle.lists.proofs.Tests.{and-left, and-right, and-both, on-test, on-elim, same-test, test-false}
 use Rattle.lists.proofs.Lists.{select-in, select-out, select-mem, mem-select, length-select, tally-none, in-mem, mem-in, range-mem, mem-range}

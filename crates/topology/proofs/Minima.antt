@@ -9,10 +9,10 @@ use native.Mathlib.Omega.{arith}
 use lib.Dec.{ltb}
 use lib.ListN.{length}
 use borrow.Author.Tests.{eqb-true}
-use Rattle.picture.specs.Lists.{select, isIn}
+use Rattle.lists.specs.Lists.{select, isIn, headOf}
 use Rattle.picture.specs.Pictures.{Picture, places, valueAt, withPixels}
 use Rattle.picture.specs.Components.{componentAt, components}
-use Rattle.picture.specs.Trees.{Node, headOf, below, nodes, componentOf, isLeaf}
+use Rattle.picture.specs.Trees.{Node, below, nodes, componentOf, isLeaf}
 use Rattle.picture.specs.Patches.{insertByFirst, byFirst, patchNodes, patchFrom, patchAt}
 use Rattle.lists.proofs.Tests.{on-elim}
 use Rattle.lists.proofs.Lists.{select-mem, mem-select}

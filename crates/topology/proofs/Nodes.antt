@@ -8,10 +8,10 @@ use native.Mathlib.Omega.{arith}
 use lib.Dec.{eqb}
 use lib.ListN.{length, getD}
 use borrow.Author.Tests.{eqb-true, eq-eqb, not-true}
-use Rattle.picture.specs.Lists.{select, range}
+use Rattle.lists.specs.Lists.{select, range, headOf}
 use Rattle.picture.specs.Pictures.{Picture, places, valueAt}
 use Rattle.picture.specs.Components.{componentAt}
-use Rattle.picture.specs.Trees.{Node, headOf, isBranch, nodesAt, nodesFrom, nodes, nodeAt, componentOf, numberFrom, numberOf}
+use Rattle.picture.specs.Trees.{Node, isBranch, nodesAt, nodesFrom, nodes, nodeAt, componentOf, numberFrom, numberOf}
 use Rattle.lists.proofs.Tests.{and-left, and-right, and-both, on-test, on-elim, not-of-false, clash}
 use Rattle.lists.proofs.Lists.{select-map, select-select, select-mem, mem-select, range-mem, mem-range}
 use Rattle.lists.proofs.Rising.{Rising, none, more, rising-select}

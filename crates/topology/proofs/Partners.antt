@@ -9,7 +9,7 @@ use native.Mathlib.Omega.{arith}
 use lib.Dec.{eqb}
 use lib.ListN.{length}
 use borrow.Author.Tests.{eqb-true, eq-eqb}
-use Rattle.picture.specs.Lists.{tally, allWithin}
+use Rattle.lists.specs.Lists.{tally, allWithin}
 use Rattle.picture.specs.Pictures.{Picture, places, valueAt, withPixels}
 use Rattle.picture.specs.Components.{componentAt}
 use Rattle.picture.specs.Trees.{Node, isBranch, nodes, nodeAt, componentOf, numberOf, fatherOf}

@@ -9,7 +9,7 @@ use native.Mathlib.Omega.{arith}
 use lib.Dec.{eqb}
 use lib.ListN.{length, getD}
 use borrow.Author.Tests.{eq-eqb, ne-eqb}
-use Rattle.picture.specs.Lists.{pick, tally, range, total}
+use Rattle.lists.specs.Lists.{pick, tally, range, total}
 use Rattle.picture.specs.Pictures.{Picture, places, valueAt, column, row}
 use Rattle.picture.specs.Trees.{nodeAt, componentOf, mapOf}
 use Rattle.picture.specs.Patches.{Patch, patchOf, patches, patchAt, depthOf}

@@ -7,7 +7,7 @@ use Prim.Native.Nat.{ℕ, zero, suc, _≤_, _<_}
 use native.Mathlib.Decide.{decLt}
 use native.Mathlib.Omega.{arith}
 use lib.ListN.{length}
-use Rattle.picture.specs.Lists.{tally, range}
+use Rattle.lists.specs.Lists.{tally, range}
 use Rattle.picture.specs.Pictures.{Picture, places, valueAt, withPixels, isPicture}
 use Rattle.picture.specs.Trees.{nodes, nodeAt}
 use Rattle.picture.specs.Watersheds.{watershed}

@@ -8,10 +8,9 @@ use native.Mathlib.Omega.{arith}
 use lib.Dec.{eqb}
 use lib.ListN.{length}
 use borrow.Author.Tests.{eqb-true, eq-eqb}
-use Rattle.picture.specs.Lists.{tally, select, range, isIn}
+use Rattle.lists.specs.Lists.{tally, select, range, isIn, headOf}
 use Rattle.picture.specs.Pictures.{Picture, places, touch}
 use Rattle.picture.specs.Components.{inSection, touchesSome, grown, spread, componentAt}
-use Rattle.picture.specs.Trees.{headOf}
 use Rattle.lists.proofs.Tests.{and-left, and-right, and-both, or-left, or-right, or-cases, on-elim, same-test, clash}
 use Rattle.lists.proofs.Lists.{any-mem, mem-any, select-mem, mem-select, length-select, tally-length, tally-stronger, tally-equal, in-mem, mem-in, length-range, range-mem, mem-range}
 use Rattle.lists.proofs.Rising.{Rising, none, more, rising-select, rising-equal, head-in}

@@ -7,7 +7,7 @@ use native.Mathlib.Decide.{decLt}
 use native.Mathlib.Omega.{arith}
 use lib.ListN.{length}
 use Rattle.picture.specs.Pictures.{Picture, places, valueAt}
-use Rattle.picture.specs.Lists.{any, range, isIn}
+use Rattle.lists.specs.Lists.{any, range, isIn}
 use Rattle.picture.specs.Components.{inSection, componentAt}
 use Rattle.picture.specs.Trees.{isBranch, nodes, nodeAt, numberOf, mapOf}
 use Rattle.topology.proofs.Accepted.{Accepted, byte-at}

@@ -10,7 +10,7 @@ use lib.Dec.{eqb, ltb}
 use lib.ListN.{length, getD, set, length-set}
 use lib.Seq.{getD-set-same, getD-set-other}
 use borrow.Author.Tests.{ltb-true, ltb-false, eqb-true, eq-eqb}
-use Rattle.picture.specs.Lists.{pick, range, total}
+use Rattle.lists.specs.Lists.{pick, range, total}
 use Rattle.picture.specs.Pictures.{Picture, places, valueAt, withPixels}
 use Rattle.picture.specs.Watersheds.{lowerable, bestFrom, best, lowered, waterFrom, watershed}
 use Rattle.lists.proofs.Tests.{and-left, and-right, and-both, or-cases, or-right, on-test, on-pick, on-elim, clash}

@@ -4,7 +4,7 @@ use mathlib.Core.List.{List}
 use Prim.Native.Nat.{ℕ, _*_, _<_}
 use lib.ListN.{length}
 use Rattle.picture.specs.Pictures.{Picture, places}
-use Rattle.cells.specs.Blocks.{blockEntry}
+use Rattle.lists.specs.Blocks.{blockEntry}
 use Rattle.picture.specs.Trees.{nodes, nodeAt, fatherOf, mapOf}
 
 -- the cells hold the tree of p: heights at 0, fathers at n, the map at 2 n, first places at 3 n

@@ -6,7 +6,7 @@ use union_find::join;
 ghost use Prim.Native.Nat.{_<_, _+_, _*_};
 ghost use lib.ListN.{length};
 ghost use Rattle.picture.specs.Pictures.{pictureOf};
-ghost use Rattle.cells.specs.Blocks.{UntouchedOutside};
+ghost use Rattle.lists.specs.Blocks.{UntouchedOutside};
 ghost use Rattle.tree_laws.proofs.Chains.{EdgeReady, EdgeDone};
 ghost use Rattle.tree_laws.proofs.Walks.{WalkReady, Absorbed};
 

@@ -8,7 +8,7 @@ use native.Mathlib.Omega.{arith}
 use lib.Dec.{eqb}
 use lib.ListN.{length}
 use borrow.Author.Tests.{eq-eqb, ne-eqb}
-use Rattle.picture.specs.Lists.{pick}
+use Rattle.lists.specs.Lists.{pick}
 use Rattle.picture.specs.Pictures.{Picture, places, valueAt}
 use Rattle.picture.specs.Trees.{nodes, nodeAt, fatherOf, mapOf}
 pub use Rattle.topology.proofs.Keeping.{put, put-same, put-other}

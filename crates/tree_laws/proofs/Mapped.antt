@@ -15,8 +15,8 @@ use Rattle.topology.proofs.Nodes.{nodes-few}
 use Rattle.topology.proofs.Descent.{under, map-under}
 use Rattle.tree_laws.proofs.Levels.{Level, Upto}
 use Rattle.tree_laws.proofs.Counts.{soFar, so-few}
-use Rattle.cells.specs.Blocks.{UntouchedOutside}
-use Rattle.cells.proofs.Blocks.{kept-refl, kept-set}
+use Rattle.lists.specs.Blocks.{UntouchedOutside}
+use Rattle.lists.proofs.Blocks.{kept-refl, kept-set}
 use Rattle.tree_laws.proofs.Forests.{Forest, Found, Parents, forest-parents}
 use Rattle.tree_laws.proofs.Absorbing.{Classes}
 use Rattle.tree_laws.proofs.Chains.{fathersIn, mapIn, NextOfValue, After, Threads, upto-skip, classes-skip}

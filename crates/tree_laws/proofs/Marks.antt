@@ -8,8 +8,8 @@ use native.Mathlib.Omega.{arith}
 use lib.ListN.{length, getD, set}
 use lib.Seq.{getD-set-same, getD-set-other}
 use Rattle.tree_laws.proofs.Levels.{Merged, left, right, both}
-use Rattle.cells.specs.Blocks.{UntouchedOutside}
-use Rattle.cells.proofs.Blocks.{kept-refl, kept-set, kept-trans}
+use Rattle.lists.specs.Blocks.{UntouchedOutside}
+use Rattle.lists.proofs.Blocks.{kept-refl, kept-set, kept-trans}
 use Rattle.tree_laws.proofs.Forests.{Hung}
 
 -- a state: one of the two marks, or the name of a node below n

@@ -10,8 +10,8 @@ use Rattle.picture.specs.Pictures.{Picture, places, valueAt}
 use Rattle.picture.specs.Geometry.{neighboursIn, Placed}
 use Rattle.topology.proofs.Accepted.{Accepted}
 use Rattle.tree_laws.proofs.Levels.{Upto}
-use Rattle.cells.specs.Blocks.{UntouchedOutside}
-use Rattle.cells.proofs.Blocks.{kept-refl, kept-trans}
+use Rattle.lists.specs.Blocks.{UntouchedOutside}
+use Rattle.lists.proofs.Blocks.{kept-refl, kept-trans}
 use Rattle.tree_laws.proofs.Forests.{Found, Parents, forest-parents}
 use Rattle.tree_laws.proofs.Absorbing.{Classes, Near, near-start, near-end}
 use Rattle.tree_laws.proofs.Chains.{fathersIn, mapIn, NextOfValue, Threads, classes-skip, EdgeReady, EdgeDone}

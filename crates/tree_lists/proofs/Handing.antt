@@ -9,7 +9,7 @@ use Rattle.picture.specs.Trees.{nodes, nodeAt, treeOf}
 use Rattle.topology.proofs.Nodes.{nodes-few, node-is}
 use Rattle.topology.proofs.TreeLists.{length-heights, length-fathers, length-firsts, length-map-of, heights-at, fathers-at, firsts-at, map-at}
 use Rattle.lists.proofs.Copies.{Copied, copy-end}
-use Rattle.cells.specs.Blocks.{blockEntry}
+use Rattle.lists.specs.Blocks.{blockEntry}
 use Rattle.tree.specs.Built.{Built}
 use Rattle.tree_lists.specs.Lists.{Bytes, InFront, Handed}
 

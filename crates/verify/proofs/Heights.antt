@@ -9,8 +9,8 @@ use native.Mathlib.Numerals.{add-one}
 use native.Mathlib.Decide.{decLt}
 use native.Mathlib.Omega.{arith}
 use lib.ListN.{length, getD}
-use Rattle.cells.specs.Blocks.{Filled}
-use Rattle.cells.proofs.Blocks.{filled-entry}
+use Rattle.lists.specs.Blocks.{Filled}
+use Rattle.lists.proofs.Blocks.{filled-entry}
 use Rattle.picture.specs.Pictures.{Picture, places, isPicture}
 use Rattle.lists.proofs.Tests.{clash}
 use Rattle.topology.proofs.Accepted.{accepted-is, byte-at, places-bound}

@@ -7,7 +7,7 @@ use Prim.Native.Nat.{ℕ, zero, suc, _+_, _-_, _≤_, _<_}
 use native.Mathlib.Decide.{decLt}
 use native.Mathlib.Omega.{arith}
 use lib.ListN.{length, getD, length-map}
-use Rattle.picture.specs.Lists.{select, range}
+use Rattle.lists.specs.Lists.{select, range}
 use Rattle.picture.specs.Pictures.{Picture, places}
 use Rattle.picture.specs.Components.{componentAt}
 use Rattle.picture.specs.Trees.{Node, isBranch, nodesAt, nodes, nodeAt}

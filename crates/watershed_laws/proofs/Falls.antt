@@ -8,7 +8,7 @@ use native.Mathlib.Decide.{ℕ-discrete}
 use native.Mathlib.Omega.{arith}
 use lib.ListN.{length, getD, set, length-set}
 use lib.Seq.{set-set, set-getD}
-use Rattle.picture.specs.Lists.{total}
+use Rattle.lists.specs.Lists.{total}
 use Rattle.picture.specs.Pictures.{Picture, places, valueAt, withPixels, touch}
 use Rattle.picture.specs.Watersheds.{lowerable, best, waterFrom, watershed}
 use Rattle.lists.proofs.Tests.{on-test, clash}

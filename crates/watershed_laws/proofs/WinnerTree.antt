@@ -9,7 +9,7 @@ use lib.Dec.{eqb}
 use lib.ListN.{length, getD, set}
 use lib.Seq.{getD-set-same, getD-set-other}
 use borrow.Author.Tests.{eqb-true, eq-eqb}
-use Rattle.picture.specs.Lists.{pick}
+use Rattle.lists.specs.Lists.{pick}
 use Rattle.lists.proofs.Tests.{on-pick, clash}
 
 -- the candidate a is before b in the order of lowering by the values g, or is b; 65535, no candidate, is the last

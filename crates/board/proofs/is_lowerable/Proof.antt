@@ -4,7 +4,7 @@ use mathlib.Core.Bool.{Bool}
 use Prim.Native.Nat.{ℕ, _*_, _<_}
 use native.Mathlib.Omega.{arith}
 use lib.ListN.{length}
-use Rattle.picture.specs.Lists.{pick}
+use Rattle.lists.specs.Lists.{pick}
 use Rattle.picture.specs.Pictures.{Picture, places, pictureOf}
 use Rattle.board.specs.Calls.{placeFaultOf}
 use Rattle.faults.proofs.Laws.{workFaultOf, place-enough, Admitted, admitted}

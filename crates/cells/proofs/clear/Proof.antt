@@ -1,6 +1,6 @@
 -- `cells::clear` meets its contract.
 use borrow.Author.Needs.{needs}
-use Rattle.cells.proofs.Blocks.{filled-front}
+use Rattle.lists.proofs.Blocks.{filled-front}
 use Rattle.cells.proofs.clear.Statement.{statement}
 use Rattle.cells.proofs.clear.Tie as tie
 

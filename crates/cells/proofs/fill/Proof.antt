@@ -2,8 +2,8 @@
 use Prim.Native.Nat.{_≤_, _-_}
 use native.Mathlib.Omega.{arith}
 use borrow.Author.Needs.{needs}
-use Rattle.cells.specs.Blocks.{Filled}
-use Rattle.cells.proofs.Blocks.{filled-none, filled-more, filled-end}
+use Rattle.lists.specs.Blocks.{Filled}
+use Rattle.lists.proofs.Blocks.{filled-none, filled-more, filled-end}
 use Rattle.cells.proofs.fill.Statement.{statement}
 use Rattle.cells.proofs.fill.Tie as tie
 

@@ -3,7 +3,7 @@ use mathlib.Core.Path.{_≡_, subst}
 use Prim.Native.Nat.{ℕ, _+_, _-_, _*_, _≤_}
 use native.Mathlib.Omega.{arith}
 use borrow.Author.Needs.{needs}
-use Rattle.picture.specs.Lists.{range}
+use Rattle.lists.specs.Lists.{range}
 use Rattle.text.specs.Writing.{Written}
 use Rattle.text.proofs.Writings.{written-none, written-length}
 use Rattle.hold_lines.specs.Figures.{concatMap, lineAt}

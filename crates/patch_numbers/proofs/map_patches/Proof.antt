@@ -5,7 +5,7 @@ use native.Mathlib.Omega.{arith}
 use lib.ListN.{length, getD, length-set}
 use borrow.Author.Needs.{needs}
 use Rattle.patch_numbers.specs.Numbers.{patchIn}
-use Rattle.cells.proofs.Blocks.{below-set}
+use Rattle.lists.proofs.Blocks.{below-set}
 use Rattle.patch_numbers.proofs.map_patches.Statement.{statement}
 use Rattle.patch_numbers.proofs.map_patches.Tie as tie
 

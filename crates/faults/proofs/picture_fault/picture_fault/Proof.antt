@@ -6,7 +6,7 @@ use native.Mathlib.Nat.{lt-of-le-of-lt}
 use borrow.Author.Needs.{needs}
 use borrow.Author.Tests.{not-true, not-false, eq-eqb, ne-eqb}
 use Rattle.picture.specs.Pictures.{sideFits}
-use Rattle.picture.proofs.Lists.{and-left, and-right}
+use Rattle.lists.proofs.Tests.{and-left, and-right}
 use Rattle.picture.proofs.Sides.{side-most, area-most}
 use Rattle.faults.proofs.Accepted.{fault-adjacency, fault-sides, fault-length, fault-none}
 use Rattle.faults.proofs.picture_fault.picture_fault.Statement.{statement}

@@ -5,7 +5,7 @@ use native.Mathlib.Omega.{arith}
 use lib.ListN.{length, drop}
 use lib.Seq.{drop-length}
 use borrow.Author.Needs.{needs}
-use Rattle.picture.specs.Lists.{highest}
+use Rattle.lists.specs.Lists.{highest}
 use Rattle.patches.proofs.Patching.{highest-next}
 use Rattle.patches.proofs.figures.largest.Statement.{statement}
 use Rattle.patches.proofs.figures.largest.Tie as tie

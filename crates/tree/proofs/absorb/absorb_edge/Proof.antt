@@ -1,6 +1,6 @@
 -- `tree::absorb::absorb_edge` meets its contract.
 use Rattle.tree_laws.proofs.Chains.{comes-is, edge-bounds, edge-parents, join-ready, done-skip, done-same, done-linked}
-use Rattle.cells.proofs.Blocks.{kept-refl}
+use Rattle.lists.proofs.Blocks.{kept-refl}
 use borrow.Author.Tests.{not-true, not-false}
 use native.Mathlib.Omega.{arith}
 use borrow.Author.Needs.{needs}

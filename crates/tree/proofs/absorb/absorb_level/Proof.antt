@@ -1,8 +1,8 @@
 -- `tree::absorb::absorb_level` meets its contract.
 use Rattle.picture.specs.Pictures.{pictureOf}
 use Rattle.tree_laws.proofs.Walks.{WalkReady, ready-end}
-use Rattle.cells.specs.Blocks.{UntouchedOutside}
-use Rattle.cells.proofs.Blocks.{kept-refl, kept-trans}
+use Rattle.lists.specs.Blocks.{UntouchedOutside}
+use Rattle.lists.proofs.Blocks.{kept-refl, kept-trans}
 use mathlib.Core.Path.{sym, _∙_}
 use native.Mathlib.Omega.{arith}
 use Prim.Native.Nat.{_-_, _*_}

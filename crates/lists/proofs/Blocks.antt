@@ -8,7 +8,7 @@ use native.Mathlib.Decide.{ℕ-discrete, decLt}
 use native.Mathlib.Omega.{arith}
 use lib.ListN.{length, getD, set, drop, replicate, length-set, length-append, length-drop, length-replicate, getD-replicate, List·getD-append}
 use lib.Seq.{getD-set-same, getD-set-other, getD-append-add, getD-drop, ext-getD}
-use Rattle.cells.specs.Blocks.{UntouchedOutside, Filled}
+use Rattle.lists.specs.Blocks.{UntouchedOutside, Filled}
 
 pub kept-refl : (b n : ℕ) (l : List ℕ) → UntouchedOutside b n l l
 kept-refl b n l = record { size = refl; outside = λ j h. refl }

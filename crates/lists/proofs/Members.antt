@@ -1,48 +1,17 @@
--- Laws of tests and of lists that the proofs share.
+-- Members and selections of lists by tests, and lists without repetition.
 use mathlib.Core.Path.{_≡_, refl, sym, ap, _∙_}
-use mathlib.Core.Bool.{Bool, true, false, _&&_, _||_, not, or-true, false≢true}
+use mathlib.Core.Bool.{Bool, true, false, _&&_, _||_, not, false≢true}
 use mathlib.Core.List.{List, [], _∷_, _++_, map}
-use mathlib.Core.Logic.{_⊎_, inl, inr, ⊎-elim}
+use mathlib.Core.Logic.{_⊎_, ⊎-elim}
 use Prim.Native.Nat.{ℕ, zero, suc, _+_, _≤_, _<_, suc-le-suc}
 use native.Mathlib.Nat.{not-suc-le-zero, le-of-suc-le-suc, zero-add, add-zero, add-suc, suc-add}
 use native.Mathlib.Omega.{arith}
 use lib.Dec.{eqb}
 use lib.ListN.{length, getD}
 use borrow.Author.Tests.{eqb-true, eq-eqb}
-use Rattle.picture.specs.Lists.{pick, any, all, select, range, isIn}
-
--- both tests of a conjunction pass
-pub and-left : (a b : Bool) → (a && b) ≡ true → a ≡ true
-and-left true b e = refl
-and-left false b e = e
-
-pub and-right : (a b : Bool) → (a && b) ≡ true → b ≡ true
-and-right true b e = e
-and-right false b e = let z : false ≡ true = e in elim b [ true ↦ refl | false ↦ z ]
-
-pub and-both : {a b : Bool} → a ≡ true → b ≡ true → (a && b) ≡ true
-and-both p q = rw (p, q)
-
--- one test of a disjunction passes
-pub or-cases : (a b : Bool) → (a || b) ≡ true → (a ≡ true) ⊎ (b ≡ true)
-or-cases true b e = inl refl
-or-cases false b e = inr e
-
-pub or-left : {a : Bool} (b : Bool) → a ≡ true → (a || b) ≡ true
-or-left b p = rw p
-
-pub or-right : (a : Bool) {b : Bool} → b ≡ true → (a || b) ≡ true
-or-right a p = rw p (or-true a)
-
--- an implication of tests
-pub implied : (a b : Bool) → (not a || b) ≡ true → a ≡ true → b ≡ true
-implied true b e p = e
-implied false b e p = absurd (false≢true p)
-
--- what holds of either value, under the test that picks it, holds of the one picked
-pub on-pick : {A : Type 0} (P : A → Type 0) (t : Bool) {x y : A} → (t ≡ true → P x) → (t ≡ false → P y) → P (pick t x y)
-on-pick P true f g = f refl
-on-pick P false f g = g refl
+use Rattle.lists.specs.Lists.{pick, any, all, select, range, isIn}
+use Rattle.lists.proofs.Tests.{and-left, and-right, and-both, or-cases, or-left, or-right, not-of-false, test-false}
+use Rattle.lists.proofs.Lists.{length-select, tally-length}
 
 module _ {A : Type 0} (t : A → Bool) where
   -- a test that every member and the default pass passes at every index
@@ -72,12 +41,7 @@ module _ {A : Type 0} (t : A → Bool) where
 
   -- a selection is no longer than the list
   pub select-most : (xs : List A) → length (select t xs) ≤ length xs
-  select-most [] = omega arith
-  select-most (x ∷ xs) = by (t x) (select-most xs)
-    where
-      by : (b : Bool) → length (select t xs) ≤ length xs → length (pick b (x ∷ []) [] ++ select t xs) ≤ suc (length xs)
-      by true h = omega arith
-      by false h = omega arith
+  select-most xs = let a = length-select t xs in let b = tally-length t xs in omega arith
 
   -- some member of the images of a selection passes a test
   pub any-map-select :
@@ -102,11 +66,6 @@ abbrev pub pairwise : {A : Type 0} → (A → A → Bool) → List A → Bool
 pairwise d [] = true
 pairwise d (x ∷ xs) = all (d x) xs && pairwise d xs
 
--- a test that is not passed
-not-passed : (b : Bool) → (b ≡ true → ⊥) → not b ≡ true
-not-passed true f = absurd (f refl)
-not-passed false f = refl
-
 -- members of a selection that differ pairwise have images that stand once each, if different members have different images
 module _ {A : Type 0} (t : A → Bool) (f : A → ℕ) (d : A → A → Bool) where
   pub distinct-images :
@@ -125,7 +84,7 @@ module _ {A : Type 0} (t : A → Bool) (f : A → ℕ) (d : A → A → Bool) wh
       by :
           (b : Bool) → t x ≡ b → distinct (map f (select t xs)) ≡ true →
           distinct (map f (pick b (x ∷ []) [] ++ select t xs)) ≡ true
-      by true p h = and-both (not-passed _ (once p)) h
+      by true p h = and-both (not-of-false _ (test-false _ (once p))) h
       by false p h = h
 
 -- what stands at an index is a member, and a member stands at an index

@@ -3,6 +3,7 @@ use mathlib.Core.Bool.{Bool, true, false, _&&_, _||_}
 use mathlib.Core.List.{List, [], _∷_, _++_}
 use Prim.Native.Nat.{ℕ, zero, suc, _+_}
 use lib.Dec.{eqb, leb}
+use lib.ListN.{getD}
 
 -- the first value if the test passes, else the second
 abbrev pub pick : {A : Type 0} → Bool → A → A → A
@@ -56,3 +57,7 @@ total (x ∷ xs) = x + total xs
 abbrev pub highest : List ℕ → ℕ
 highest [] = 0
 highest (x ∷ xs) = pick (leb (highest xs) x) x (highest xs)
+
+-- the first member, 0 for none
+abbrev pub headOf : List ℕ → ℕ
+headOf c = getD c 0 0

@@ -1,2 +1,0 @@
--- Laws of blocks of cells.
-pub mod Blocks

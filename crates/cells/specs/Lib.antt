@@ -1,2 +1,0 @@
--- What the functions on cells say.
-pub mod Blocks
