@@ -5,7 +5,7 @@
 
 #include <string.h>
 
-/* Numbers the leaves by first place. The cells mark the nodes that are somebody's father. */
+/* Numbers the leaves by first place. The cells mark the nodes that are the father of some node. */
 static inline void number_leaves(unsigned n, unsigned count,
                                  const uint16_t *restrict work,
                                  uint16_t *restrict cells,

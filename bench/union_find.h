@@ -1,6 +1,6 @@
 /*
- * Union-find in cells: below ROOT a parent, which is a smaller place; from
- * ROOT on a root with its state. The builder and the check join the pixels of
+ * Union-find in cells: below NODES a parent, which is a smaller place; from
+ * NODES on a root with its state. The builder and the check join the pixels of
  * one height after the other by it.
  */
 
@@ -13,9 +13,9 @@
 #include <stdint.h>
 
 enum {
-    ROOT = 2048,                /* ROOT + t: goes down to the node t */
+    NODES = 2048,               /* NODES + t: goes down to the node t */
     LISTED = 65533,             /* a new root that is in the list already */
-    MANY = 65534,               /* holds several components of the height below */
+    SEVERAL = 65534,            /* holds several components of the height below */
     NONE = 65535                /* holds none */
 };
 
@@ -23,9 +23,9 @@ enum {
 static inline unsigned find(uint16_t *cells, unsigned x)
 {
     unsigned parent;
-    while ((parent = cells[x]) < ROOT) {
+    while ((parent = cells[x]) < NODES) {
         unsigned above = cells[parent];
-        if (above < ROOT)
+        if (above < NODES)
             cells[x] = (uint16_t)above;
         x = parent;
     }
@@ -47,7 +47,7 @@ static inline bool hang(uint16_t *cells, unsigned lo, unsigned hi, unsigned x,
     } else {
         if (!meet(tree, a, b, x))
             return false;
-        state = MANY;
+        state = SEVERAL;
     }
     cells[hi] = (uint16_t)lo;
     cells[lo] = (uint16_t)state;

@@ -16,7 +16,7 @@ struct lent {
 /* The lent father of the node that a state names is the lent node of x. */
 static inline bool agrees(const struct lent *t, unsigned state, unsigned x)
 {
-    return state >= MANY || t->fathers[state - ROOT] == t->map[x];
+    return state >= SEVERAL || t->fathers[state - NODES] == t->map[x];
 }
 
 static inline bool fathers_agree(void *tree, unsigned a, unsigned b, unsigned x)
@@ -32,10 +32,10 @@ static unsigned check_nodes(struct grid g, const uint8_t *pixels,
     unsigned begin = c;
     for (; c < t->count && t->heights[c] == k; c++) {
         unsigned f = t->firsts[c];
-        if (f >= g.n || pixels[f] > k || cells[f] < MANY
+        if (f >= g.n || pixels[f] > k || cells[f] < SEVERAL
             || (c > begin && f <= t->firsts[c - 1]))
             return t->count + 1;
-        cells[f] = (uint16_t)(ROOT + c);
+        cells[f] = (uint16_t)(NODES + c);
     }
     return c;
 }
@@ -57,7 +57,7 @@ static inline bool check_map(struct grid g, const uint8_t *pixels,
     for (unsigned x = 0; x < g.n; x++)
         if (pixels[x] == k) {
             unsigned state = cells[find(cells, x)];
-            if (state >= MANY || state != (unsigned)ROOT + t->map[x])
+            if (state >= SEVERAL || state != (unsigned)NODES + t->map[x])
                 return false;
         }
     return true;

@@ -4,6 +4,9 @@ ghost use lib.ListN.{getD};
 ghost use Rattle.topology.proofs.Climb.{Meet};
 ghost use Rattle.ancestors.specs.Ancestors.{Climbing};
 
+// The father of the root, which has none.
+pub const NO_FATHER: u16 = 65535;
+
 // The nearest common ancestor of two nodes: a father's number is greater than its sons'.
 pub fn meet(fathers: &[u16], a: usize, b: usize) -> usize
     requires { ⌜ Climbing (now fathers) a b ⌝ }

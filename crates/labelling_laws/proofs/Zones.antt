@@ -1,4 +1,4 @@
--- Flat zones: a flood over places of one value, its stack linked in the cells, and the minima that a scan of the zones counts.
+-- Flat zones: a flood over places of one value, its stack linked in the cells.
 use mathlib.Core.Path.{_≡_, refl, sym, ap, _∙_}
 use mathlib.Core.Bool.{Bool, true, false, false≢true}
 use mathlib.Core.Logic.{_⊎_, inl, inr, ⊎-elim, _≢_}
@@ -13,7 +13,7 @@ use Rattle.topology.proofs.Connected.{Conn, start, step, conn-source, conn-targ
 use Rattle.topology.proofs.Adjacency.{Adj, At, Joined}
 use Rattle.topology.proofs.Leaves.{leafAt, leaf-sound, leaf-complete}
 use Rattle.labelling_laws.proofs.Search.{Grown, grown-all, Search, search-start, search-pop, search-done, search-pass, search-mark, search-end}
-pub use Rattle.lists.proofs.Lists.{set-cases}
+use Rattle.lists.proofs.Lists.{set-cases}
 
 -- y is a place of value k
 pub record Flat (p : Picture) (k y : ℕ) : Type 0 where

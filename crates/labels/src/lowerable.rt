@@ -13,7 +13,7 @@ ghost use Rattle.picture.specs.Watersheds.{lowerable as isLowerable};
 ghost use Rattle.labelling_laws.proofs.Agreeing.{agreed, isSingle, Common};
 
 // Stands for labels that differ.
-const SEVERAL: u16 = 65535;
+const DIFFERENT: u16 = 65535;
 
 // The label common to some places, 0 for none, after one more place with its own label.
 fn agree(common: u16, label: u16) -> u16
@@ -28,7 +28,7 @@ fn agree(common: u16, label: u16) -> u16
     if common == label {
         return common;
     }
-    SEVERAL
+    DIFFERENT
 }
 
 // The label found is that of exactly one component.
@@ -38,7 +38,7 @@ fn single(found: u16) -> bool
     if found == 0 {
         return false;
     }
-    found != SEVERAL
+    found != DIFFERENT
 }
 
 // The label common to the neighbours of the place x.

@@ -1,16 +1,10 @@
 -- Lists cut in two: what `take` and `drop` leave.
 use mathlib.Core.Path.{_≡_, refl, sym, ap, _∙_}
-use mathlib.Core.List.{List, [], _∷_, _++_}
-use Prim.Native.Nat.{ℕ, zero, suc, _+_, _-_, _≤_}
+use mathlib.Core.List.{List, _++_}
+use Prim.Native.Nat.{ℕ, _+_, _-_, _≤_}
 use native.Mathlib.Omega.{arith}
 use lib.ListN.{length, take, drop, length-append, length-drop}
-use lib.Seq.{drop-nil, drop-drop, take-all, take-add, take-at}
-
--- nothing is left past the end
-pub drop-all : (i : ℕ) (l : List ℕ) → length l ≤ i → drop i l ≡ []
-drop-all i [] h = drop-nil i
-drop-all zero (x ∷ xs) h = absurd (omega arith)
-drop-all (suc i) (x ∷ xs) h = drop-all i xs (omega arith)
+use lib.Seq.{drop-drop, take-all, take-add, take-at}
 
 -- lists that are equal from a on are so from b on
 pub drop-more : (a b : ℕ) (l m : List ℕ) → a ≤ b → drop a l ≡ drop a m → drop b l ≡ drop b m

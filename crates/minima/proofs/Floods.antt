@@ -7,7 +7,7 @@ use Prim.Native.Nat.{ℕ, suc, _+_, _-_, _≤_, _<_}
 use native.Mathlib.Numerals.{add-one}
 use native.Mathlib.Omega.{arith}
 use lib.Dec.{eqb}
-use lib.ListN.{length, getD, set, drop, length-set}
+use lib.ListN.{length, getD, set, drop, length-set, drop-of-length-le}
 use lib.Seq.{drop-cons, set-set, set-getD}
 use Rattle.lists.specs.Lists.{range}
 use Rattle.picture.specs.Pictures.{Picture, places, valueAt, isPicture}
@@ -15,7 +15,6 @@ use Rattle.picture.specs.Geometry.{neighboursIn, Placed}
 use Rattle.picture.specs.Patches.{patches}
 use Rattle.picture.proofs.Neighbours.{neighbour-at, neighbours-touch}
 use Rattle.lists.proofs.Lists.{in-mem, tally-length, length-range}
-use Rattle.lists.proofs.Cuts.{drop-all}
 use Rattle.topology.proofs.Connected.{start, conn-target}
 use Rattle.topology.proofs.Adjacency.{Adj}
 use Rattle.labelling_laws.proofs.Zones.{Flat, ZoneFlooding, ZoneFlooded, zone-start, zone-pop, zone-done, zone-lower, zone-higher, zone-level, zone-visit, zone-end}
@@ -154,7 +153,7 @@ module _ (p : Picture) (k q : ℕ) where
       up = omega arith
 
       none : drop i (neighboursIn p q) ≡ []
-      none = drop-all i (neighboursIn p q) n
+      none = drop-of-length-le (neighboursIn p q) n
 
 -- a flood of the zone of x as it runs
 pub record ZoneRunning (p : Picture) (k x : ℕ) (before cells : List ℕ) (s : Stack) : Type 0 where

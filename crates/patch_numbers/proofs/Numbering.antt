@@ -1,4 +1,4 @@
--- The laws of the numbering: marks of fathers, numbers of leaves, what stays in the other blocks, the patch of a place, places on the line.
+-- The laws of the numbering: marks of fathers, numbers of leaves, what stays in the other blocks, the patch of a place.
 use mathlib.Core.Path.{_≡_, refl, sym, ap, subst, _∙_}
 use mathlib.Core.Bool.{Bool, true, false, _&&_}
 use mathlib.Core.Logic.{inl, ⊎-elim, _≢_, by-cases}

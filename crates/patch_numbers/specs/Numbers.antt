@@ -62,7 +62,7 @@ pub record Numbers (n : ℕ) (work marks : List ℕ) (x r : ℕ) (after : List �
       (m : ℕ) → m < n → ((z : ℕ) → z < x → starts n work marks z ≡ true → blockEntry work (2 * n) z ≢ m) →
       blockEntry after (4 * n) m ≡ 0
 
--- the fifth block, cleared, holds the numbers of the nodes that are nobody's father; the other blocks are as they were
+-- the fifth block, cleared, holds the numbers of the nodes that are the father of no node; the other blocks are as they were
 pub record Leaves (n count : ℕ) (work : List ℕ) (r : ℕ) (after : List ℕ) : Type 0 where
   pub marks : List ℕ
   pub cleared : List ℕ

@@ -17,7 +17,7 @@ fn mark(cells: &mut [u16], f: usize)
     }
 }
 
-// Marks the nodes that are somebody's father: the entries of all others are 0.
+// Marks the nodes that are the father of some node: the entries of all others are 0.
 fn mark_fathers(n: usize, count: usize, work: &[u16], cells: &mut [u16])
     requires { ⌜ FiveBlocks n (now work) (now cells) × (count ≤ n) ⌝ }
     ensures { λ _. ⌜ Marks n count (now (work .entry)) (now (cells .exit)) ⌝ }

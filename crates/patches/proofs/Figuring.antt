@@ -1,4 +1,4 @@
--- The laws of all figures together.
+-- The laws of all figures together, and of the places on the line.
 use mathlib.Core.Path.{_≡_, refl, sym, ap, _∙_}
 use mathlib.Core.Bool.{true}
 use mathlib.Core.Logic.{inr, _≢_}

@@ -1,4 +1,4 @@
--- The laws of the figures in their blocks: depths and heights by first place, sums by number, and all of them together.
+-- The laws of the figures in their blocks: depths and heights by first place, sums by number.
 use mathlib.Core.Path.{_≡_, refl, sym, ap, subst, _∙_}
 use mathlib.Core.Bool.{true}
 use mathlib.Core.Logic.{_≢_, by-cases}

@@ -97,7 +97,7 @@ module _ (p : Picture) (ok : Accepted p) where
       leaf-first : (x : ℕ) → (s : At p (valueAt p x) x) → leafAt p (valueAt p x) x ≡ leafAt p (valueAt p x) (firstAt p (valueAt p x) x)
       leaf-first x s = leaf-same p (first-joined p (valueAt p x) x s)
 
-  -- a node is a leaf exactly if it is nobody's father
+  -- a node is a leaf exactly if it is the father of no node
   pub father-leaf : (i j : ℕ) → i < length (nodes p) → j < length (nodes p) → father p j ≡ i → leafNode p i ≡ false
   unfolding leafNode
   father-leaf i j bi bj e = father-no-leaf p ok i j bi bj e

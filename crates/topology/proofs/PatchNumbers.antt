@@ -1,4 +1,4 @@
--- The number of patches and the patch of a place, by the first places of minima; a leaf is nobody's father.
+-- The number of patches and the patch of a place, by the first places of minima; a leaf is the father of no node.
 use mathlib.Core.Path.{_≡_, refl, sym, ap, subst, _∙_}
 use mathlib.Core.Bool.{true, false}
 use mathlib.Core.Logic.{⊎-elim}

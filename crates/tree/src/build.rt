@@ -1,8 +1,9 @@
 // The component tree of a picture: the heights one after the other, then the fathers.
+use crate::buckets::NO_PLACE;
 use crate::buckets::thread;
 use crate::levels::levels;
+use ancestors::NO_FATHER;
 use cells::wide;
-use union_find::NONE;
 ghost use mathlib.Core.Path.{_≡_};
 ghost use mathlib.Core.Bool.{true};
 ghost use Prim.Native.Nat.{_<_, _≤_, _+_, _*_};
@@ -13,13 +14,13 @@ ghost use Rattle.tree_laws.proofs.Settling.{SettledOne, SettleBounds, SettleRea
 ghost use Rattle.tree.specs.Arrays.{TreeIn};
 ghost use Rattle.tree.specs.Built.{Built};
 
-// The entry of the node i, if it is a pixel, gives way to the node of the pixel.
+// The entry of the node i, if it is a pixel, is replaced by the node of the pixel.
 fn settle_one(work: &mut [u16], n: usize, i: usize)
     requires { ⌜ SettleBounds n i (now work) ⌝ }
     ensures { λ _. ⌜ SettledOne n i (now (work .entry)) (now (work .exit)) ⌝ }
 {
     let f = work[n + i];
-    if f == NONE {
+    if f == NO_FATHER {
         return;
     }
     work[n + i] = work[2 * n + wide(f)];
@@ -50,7 +51,7 @@ fn build_exactly(
     requires { ⌜ (length (now work) ≡ 4 * (w * h)) × (length (now cells) ≡ w * h) ⌝ }
     ensures { λ r. ⌜ (r ≡ length (nodes (pictureOf a w h (now (pixels .entry))))) × TreeIn (pictureOf a w h (now (pixels .entry))) (now (work .exit)) ⌝ }
 {
-    let mut heads = [NONE; 256];
+    let mut heads = [NO_PLACE; 256];
     thread(pixels, work, cells, &mut heads);
     let c = levels(a, w, h, pixels, work, cells, &heads);
     settle(work, cells.len(), c);

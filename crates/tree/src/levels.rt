@@ -1,9 +1,9 @@
 // The heights one after the other: the pixels join, the new roots are listed and numbered, the pixels are mapped.
 use crate::absorb::absorb_level;
 use crate::list::list_level;
+use ancestors::NO_FATHER;
 use cells::wide;
 use union_find::NODES;
-use union_find::NONE;
 use union_find::find;
 ghost use mathlib.Core.Path.{_≡_};
 ghost use Prim.Native.Nat.{_<_, _+_, _*_};
@@ -22,7 +22,7 @@ fn number_one(work: &mut [u16], cells: &mut [u16], k: usize, i: usize)
     let n = cells.len();
     let r = wide(work[3 * n + i]);
     work[i] = k as u16;
-    work[n + i] = NONE;
+    work[n + i] = NO_FATHER;
     cells[r] = NODES + i as u16;
 }
 

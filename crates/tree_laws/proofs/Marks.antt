@@ -12,7 +12,7 @@ use Rattle.lists.specs.Blocks.{UntouchedOutside}
 use Rattle.lists.proofs.Blocks.{kept-refl, kept-set, kept-trans}
 use Rattle.tree_laws.proofs.Forests.{Hung}
 
--- a state: one of the two marks, or the name of a node below n
+-- a state: 65534, 65535, or the name of a node below n
 pub record Names (n s : ℕ) : Type 0 where
   pub root : 2048 ≤ s
   pub node : s < 65534 → s < 2048 + n

@@ -1,4 +1,4 @@
--- After the last height each father's entry, a pixel, gives way to the node of the pixel.
+-- After the last height each father's entry, a pixel, is replaced by the node of the pixel.
 use mathlib.Core.Path.{_≡_, refl, sym, ap, subst, _∙_}
 use mathlib.Core.Logic.{inl, by-cases, _≢_}
 use mathlib.Core.List.{List}

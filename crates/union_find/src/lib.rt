@@ -1,4 +1,4 @@
-// Union-find in cells: a cell below NODES is a parent, a smaller place; a greater one marks a root with its state.
+// Union-find in cells: a cell below NODES is a parent, a smaller place; one from NODES on marks a root with its state.
 use cells::value;
 use cells::wide;
 ghost use mathlib.Core.Logic.{_≢_};
@@ -17,8 +17,8 @@ pub const LISTED: u16 = 65533;
 // Several nodes are beneath.
 pub const SEVERAL: u16 = 65534;
 
-// No lower place is beneath; also the father of the last node, and the place where a value has none.
-pub const NONE: u16 = 65535;
+// No lower place is beneath.
+pub const NOTHING: u16 = 65535;
 
 // The parent of a place; its cell gets the grandparent.
 fn split(cells: &mut [u16], x: usize) -> usize
@@ -61,10 +61,10 @@ fn merge(work: &mut [u16], n: usize, a: u16, b: u16, x: usize) -> u16
     requires { ⌜ Names n a × Names n b × (2 * n ≤ length (now work)) × (x < 1600) ⌝ }
     ensures { λ r. ⌜ MergedIn n x a b r (now (work .entry)) (now (work .exit)) ⌝ }
 {
-    if a == NONE {
+    if a == NOTHING {
         return b;
     }
-    if b == NONE {
+    if b == NOTHING {
         return a;
     }
     mark(work, n, a, x);

@@ -1,5 +1,7 @@
 // A lent tree is the tree of a picture: the heights one after the other, with n cells for the union-find.
-use union_find::NONE;
+use ancestors::NO_FATHER;
+use cells::fill;
+use union_find::NOTHING;
 use verify_nodes::check_map;
 use verify_nodes::check_nodes;
 use verify_nodes::run_end;
@@ -114,13 +116,13 @@ pub fn is_tree(
         return false;
     }
     let part = &mut cells[..n];
-    cells::fill(part, 0, n, NONE);
+    fill(part, 0, n, NOTHING);
     let c = check_levels(a, w, h, pixels, count, heights, fathers, firsts, map, part);
     if c != count {
         return false;
     }
     let last = fathers[count - 1];
-    if last != NONE {
+    if last != NO_FATHER {
         return false;
     }
     true

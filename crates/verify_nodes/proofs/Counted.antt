@@ -1,4 +1,4 @@
--- The lent nodes of a height are checked against the new roots, and the lent map against their numbers.
+-- The lent nodes of a height are checked against the new roots.
 use mathlib.Core.Path.{_≡_, refl, sym, ap, subst, _∙_}
 use mathlib.Core.Bool.{false}
 use mathlib.Core.Logic.{inl, inr, ⊎-elim, by-cases}

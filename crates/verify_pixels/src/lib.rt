@@ -2,7 +2,7 @@
 use cells::value;
 use cells::wide;
 use union_find::NODES;
-use union_find::NONE;
+use union_find::NOTHING;
 use union_find::SEVERAL;
 use union_find::comes_before;
 use union_find::find;
@@ -47,10 +47,10 @@ fn check_join(
 {
     let a = cells[q];
     let b = cells[r];
-    if a == NONE {
+    if a == NOTHING {
         return hang(cells, q, r, b);
     }
-    if b == NONE {
+    if b == NOTHING {
         return hang(cells, q, r, a);
     }
     if !agrees(fathers, map, a, x) {

@@ -4,7 +4,7 @@ use cells::wide;
 use falls::fall::lowest;
 use falls::fall::stop_at;
 use geometry::neighbours;
-use winner::NONE;
+use winner::NO_CANDIDATE;
 use winner::assign;
 use winner::build;
 use winner::wake_all;
@@ -45,7 +45,7 @@ fn turn(a: u32, w: u32, h: u32, x: usize, out: &mut [u8], work: &mut [u16]) -> u
 {
     let n = w as usize * h as usize;
     let e = 3 * n;
-    assign(out, &mut work[e..], n, x, NONE);
+    assign(out, &mut work[e..], n, x, NO_CANDIDATE);
     lower_place(a, w, h, x, out, work);
     wide(work[e + 1])
 }
@@ -59,7 +59,7 @@ pub fn lower_all(a: u32, w: u32, h: u32, out: &mut [u8], work: &mut [u16])
     let e = 3 * n;
     build(out, &mut work[e..], n);
     let mut x = wide(work[e + 1]);
-    while x != NONE as usize {
+    while x != NO_CANDIDATE as usize {
         x = turn(a, w, h, x, out, work);
     }
 }

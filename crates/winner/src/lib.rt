@@ -10,17 +10,17 @@ ghost use Rattle.watershed_laws.proofs.WinnerSteps.{Candidate, Replaying, Assig
 ghost use Rattle.watershed_laws.proofs.Stopping.{Places};
 
 // The mark of no candidate.
-pub const NONE: u16 = 65535;
+pub const NO_CANDIDATE: u16 = 65535;
 
 // The better of two candidates: of lesser value, then of smaller place.
 fn better(pixels: &[u8], a: u16, b: u16) -> u16
     requires { ⌜ Candidate (length (now pixels)) a × Candidate (length (now pixels)) b ⌝ }
     ensures { λ r. ⌜ Better (now (pixels .entry)) a b r ⌝ }
 {
-    if a == NONE {
+    if a == NO_CANDIDATE {
         return b;
     }
-    if b == NONE {
+    if b == NO_CANDIDATE {
         return a;
     }
     let first = value(pixels[a as usize]) * 65536 + wide(a);
