@@ -25,10 +25,11 @@ pub record Answered (f v : ℕ) (r : Answer) : Type 0 where
   pub number : r .number ≡ f
   pub value : r .value ≡ pick (eqb f 0) v 0
 
--- the record of a refusal, and that of an answer
+-- the record of a refusal
 abbrev pub IsRefusal : ℕ → Answer → Type 0
 IsRefusal f r = r ≡ record { number = f; value = 0 }
 
+-- the record of an accepted call
 abbrev pub IsValue : ℕ → Answer → Type 0
 IsValue v r = r ≡ record { number = 0; value = v }
 

@@ -11,6 +11,7 @@ pub struct Answer {
     pub value: u32,
 }
 
+// The answer of a refusal.
 pub fn refused(number: u8) -> Answer
     ensures { λ r. ⌜ IsRefusal number r ⌝ }
 {
@@ -20,6 +21,7 @@ pub fn refused(number: u8) -> Answer
     }
 }
 
+// The answer of an accepted call.
 pub fn accepted(value: u32) -> Answer
     ensures { λ r. ⌜ IsValue value r ⌝ }
 {

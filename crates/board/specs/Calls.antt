@@ -18,11 +18,12 @@ use Rattle.board.specs.declared.Ground.{Ground}
 use Rattle.board.specs.declared.Ground.the-variants as G
 use Rattle.board.specs.declared.Queried.{Queried}
 
--- the fault of a call that lends output and work, and of one that lends work and names a place
+-- the fault of a call that lends output and work
 abbrev pub outputFaultOf : Picture → List ℕ → List ℕ → ℕ
 outputFaultOf p o q =
     outputFault (p .adjacency) (p .width) (p .height) (length (p .pixels)) (length o) (length q)
 
+-- the fault of a call that lends work and names a place
 abbrev pub placeFaultOf : Picture → List ℕ → ℕ → ℕ
 placeFaultOf p q x = placeFault (p .adjacency) (p .width) (p .height) (length (p .pixels)) (length q) x
 

@@ -36,6 +36,7 @@ ghost use Rattle.board.specs.Trees.{TreeSays, CheckSays, PassSays};
 ghost use Rattle.picture.specs.Patches.{patchAt};
 ghost use Rattle.board.specs.PatchLists.{PatchesSay};
 
+// Reads a P5 file: sides, largest sample and where the pixels begin, or the refusal with its place.
 pub fn read_file(file: &[u8]) -> Read
     ensures { λ r. ⌜ ReadSays (now (file .entry)) r ⌝ }
 {
@@ -219,6 +220,7 @@ fn ground_of(number: u16) -> Ground
     Ground::Patch(number)
 }
 
+// The answer of a place query.
 fn answer_query(number: u8, value: u8, patch: u16) -> Queried
     ensures { λ r. ⌜ QueryIs number value patch r ⌝ }
 {

@@ -65,6 +65,7 @@ pub fn places_fault(fault: u8, n: usize, x: u32, y: u32) -> u8
     place_after(place_after(fault, n, y), n, x)
 }
 
+// The lesser of two lengths.
 fn lesser(a: usize, b: usize) -> usize
     ensures { λ r. ⌜ r ≡ min a b ⌝ }
 {

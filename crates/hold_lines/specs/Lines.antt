@@ -3,16 +3,19 @@ use mathlib.Core.List.{List, [], _∷_, _++_}
 use Prim.Native.Nat.{ℕ}
 use Rattle.text.specs.Decimal.{decimal, fields}
 
--- the words `picture`, `patches` and `refused`, each with the space behind it, and `line` between spaces
+-- the word picture and a space
 abbrev pub pictureWord : List ℕ
 pictureWord = 112 ∷ 105 ∷ 99 ∷ 116 ∷ 117 ∷ 114 ∷ 101 ∷ 32 ∷ []
 
+-- the word patches and a space
 abbrev pub patchesWord : List ℕ
 patchesWord = 112 ∷ 97 ∷ 116 ∷ 99 ∷ 104 ∷ 101 ∷ 115 ∷ 32 ∷ []
 
+-- the word line between spaces
 abbrev pub lineWord : List ℕ
 lineWord = 32 ∷ 108 ∷ 105 ∷ 110 ∷ 101 ∷ 32 ∷ []
 
+-- the word refused and a space
 abbrev pub refusedWord : List ℕ
 refusedWord = 114 ∷ 101 ∷ 102 ∷ 117 ∷ 115 ∷ 101 ∷ 100 ∷ 32 ∷ []
 

@@ -1,4 +1,5 @@
 -- A lent tree.
+-- p the picture, hs fs ss m the lent heights, fathers, first places and map.
 use mathlib.Core.Path.{_≡_}
 use mathlib.Core.List.{List}
 use Prim.Native.Nat.{ℕ, _<_}

@@ -1,4 +1,5 @@
 -- The pass read off a lent tree.
+-- p the picture, hs fs ss m the lent heights, fathers, first places and map.
 use mathlib.Core.Path.{_≡_}
 use mathlib.Core.Bool.{true}
 use mathlib.Core.List.{List}

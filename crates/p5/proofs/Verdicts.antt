@@ -21,12 +21,15 @@ use Rattle.lists.proofs.Tests.{on-pick}
 use Rattle.p5.proofs.Leading.{leading-le, leading-next}
 use Rattle.p5.proofs.Shape.{walk-headed}
 
+-- both sides are from 1 to 40
 abbrev pub sidesFit : Header → Type 0
 sidesFit h = sideFits (h .width) && sideFits (h .height) ≡ true
 
+-- no pixel is above the largest sample
 abbrev pub pixelsFit : Header → List ℕ → Type 0
 pixelsFit h s = leading (atMost (h .largest)) s ≡ length s
 
+-- the tests that lead to each answer
 pub data Verdict (f : List ℕ) : Outcome → Type 0 where
   not-p5 : beginsP5 f ≡ false → Verdict f NotP5
   stopped : {p : ℕ} → beginsP5 f ≡ true → walk f ≡ Stopped p → Verdict f (Malformed p)

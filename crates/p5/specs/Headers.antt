@@ -60,10 +60,12 @@ abbrev pub fromLargest : List ℕ → ℕ → ℕ → Field → Walk
 fromLargest f w h (Number m p) = endAt f w h m p
 fromLargest f w h (Unfit p) = Stopped p
 
+-- the walk from the height on
 abbrev pub fromHeight : List ℕ → ℕ → Field → Walk
 fromHeight f w (Number h p) = fromLargest f w h (numberAt f p)
 fromHeight f w (Unfit p) = Stopped p
 
+-- the walk from the width on
 abbrev pub fromWidth : List ℕ → Field → Walk
 fromWidth f (Number w p) = fromHeight f w (numberAt f p)
 fromWidth f (Unfit p) = Stopped p

@@ -44,6 +44,7 @@ pub record Headed (f : List ℕ) (h : Header) (rest : List ℕ) : Type 0 where
 abbrev pub Inside : ℕ → ℕ → ℕ → Type 0
 Inside low high x = (low ≤ x) × (x ≤ high)
 
+-- x is not from low to high
 abbrev pub Outside : ℕ → ℕ → ℕ → Type 0
 Outside low high x = (x < low) ⊎ (high < x)
 

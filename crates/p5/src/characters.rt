@@ -4,6 +4,7 @@ use crate::ranges::wide;
 ghost use mathlib.Core.Path.{_≡_};
 ghost use Rattle.p5.specs.Headers.{isWhite, isDigit};
 
+// White space as the scope document takes it.
 pub fn is_white(byte: u8) -> bool
     ensures { λ r. ⌜ r ≡ isWhite byte ⌝ }
 {
@@ -16,6 +17,7 @@ pub fn is_white(byte: u8) -> bool
     }
 }
 
+// A decimal digit.
 pub fn is_digit(byte: u8) -> bool
     ensures { λ r. ⌜ r ≡ isDigit byte ⌝ }
 {

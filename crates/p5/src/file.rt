@@ -24,6 +24,7 @@ pub enum Outcome {
     PixelAbove(usize),
 }
 
+// The file begins with the letters P5.
 pub fn begins_p5(file: &[u8]) -> bool
     ensures { λ r. ⌜ r ≡ beginsP5 (now (file .entry)) ⌝ }
 {

@@ -5,6 +5,7 @@ use crate::reader::Reader;
 ghost use mathlib.Core.Path.{_≡_};
 ghost use Rattle.p5.specs.Headers.{walk, endAt, stoppedAt};
 
+// The numbers of a header, and where the pixels begin.
 pub struct Header {
     pub width: u32,
     pub height: u32,

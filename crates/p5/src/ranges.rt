@@ -7,6 +7,7 @@ ghost use Rattle.picture.specs.Pictures.{sideFits};
 ghost use Rattle.p5.specs.Headers.{leading};
 ghost use Rattle.p5.specs.Files.{largestFits, atMost};
 
+// A byte as a number.
 pub fn wide(byte: u8) -> u32
     ensures { λ r. ⌜ r ≡ byte ⌝ }
 {
@@ -23,12 +24,14 @@ pub fn between(low: u32, x: u32, high: u32) -> bool
     x <= high
 }
 
+// A side from 1 to 40.
 pub fn side_fits(side: u32) -> bool
     ensures { λ r. ⌜ r ≡ sideFits side ⌝ }
 {
     between(1, side, 40)
 }
 
+// Both sides from 1 to 40.
 pub fn sides_fit(width: u32, height: u32) -> bool
     ensures { λ r. ⌜ r ≡ sideFits width && sideFits height ⌝ }
 {
@@ -38,6 +41,7 @@ pub fn sides_fit(width: u32, height: u32) -> bool
     side_fits(height)
 }
 
+// A largest sample from 1 to 255.
 pub fn largest_fits(largest: u32) -> bool
     ensures { λ r. ⌜ r ≡ largestFits largest ⌝ }
 {

@@ -7,12 +7,14 @@ use crate::header::stopped;
 ghost use mathlib.Core.Path.{_≡_};
 ghost use Rattle.p5.specs.Headers.{numberAt, endAt, fromWidth};
 
+// A file and a position in it.
 pub struct Reader<'a> {
     pub file: &'a [u8],
     pub at: usize,
 }
 
 impl<'a> Reader<'a> {
+    // A reader of a file from a position on.
     pub fn new(file: &'a [u8], at: usize) -> Reader<'a>
         ensures { λ r. ⌜ (r .file ≡ file .entry) × (r .at ≡ at) ⌝ }
     {

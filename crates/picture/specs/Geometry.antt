@@ -41,6 +41,7 @@ pub record Offset : Type 0 where
   pub column : ℕ
   pub row : ℕ
 
+-- the offset of a step
 abbrev pub offset : Step → Offset
 offset s = record { column = plusOne (s .column); row = plusOne (s .row) }
 

@@ -43,10 +43,11 @@ isPicture p =
     (eqb (p .adjacency) 4 || eqb (p .adjacency) 8) &&
     (sideFits (p .width) && (sideFits (p .height) && (eqb (length (p .pixels)) (places p) && allBytes (p .pixels))))
 
--- the column and the row of a place
+-- the column of a place
 abbrev pub column : Picture → ℕ → ℕ
 column p x = x % p .width
 
+-- the row of a place
 abbrev pub row : Picture → ℕ → ℕ
 row p x = x / p .width
 

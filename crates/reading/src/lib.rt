@@ -12,6 +12,7 @@ pub struct Read {
     pub offset: usize,
 }
 
+// The answer for a file that is refused.
 fn refused(number: u8, place: usize) -> Read
     ensures { λ r. ⌜ RefusedRead number place r ⌝ }
 {
@@ -25,6 +26,7 @@ fn refused(number: u8, place: usize) -> Read
     }
 }
 
+// The answer for each outcome of reading.
 fn answer(outcome: Outcome) -> Read
     ensures { λ r. ⌜ ReadIs outcome r ⌝ }
 {

@@ -13,6 +13,7 @@ use Rattle.picture.specs.Pictures.{Picture, places, withPixels, sideFits, allBy
 use Rattle.picture.specs.Kept.{nowhereAbove}
 use Rattle.lists.proofs.Tests.{and-left, and-right, and-both, or-cases, or-left, or-right, clash}
 
+-- what the test of an accepted picture says
 pub record Accepted (p : Picture) : Type 0 where
   pub adjacency : (p .adjacency ≡ 4) ⊎ (p .adjacency ≡ 8)
   pub wide : 1 ≤ p .width

@@ -11,6 +11,7 @@ use Rattle.lists.proofs.Tests.{clash}
 use Rattle.topology.proofs.Connected.{Conn, conn-sym}
 use Rattle.topology.proofs.Keeping.{Sec}
 
+-- x and y are neighbours
 abbrev pub Adj : Picture → ℕ → ℕ → Type 0
 Adj p x y = touch p x y ≡ true
 

@@ -37,6 +37,7 @@ pub record Checking (p : Picture) (k x : ℕ) (l fs m : List ℕ) : Type 0 where
   pub classes : Classes p k x l fa
   pub agree : Agree fa fs m
 
+-- the first j neighbours of x are joined, and the lent fathers agree so far
 pub record NearBy (p : Picture) (k x j r : ℕ) (l fs m : List ℕ) : Type 0 where
   pub fa : ℕ → ℕ
   pub near : Near p k x j r l fa
@@ -47,6 +48,7 @@ pub record Agrees (s x : ℕ) (fs m : List ℕ) (b : Bool) : Type 0 where
   pub yes : b ≡ true → (i : ℕ) → i < 1600 → s ≡ 2048 + i → getD fs i 0 ≡ getD m x 0
   pub never : b ≡ false → (s < 65534) × (getD fs (s - 2048) 0 ≢ getD m x 0)
 
+-- the states a and b merged to s, the lent fathers of the nodes that meet being the lent node of x
 pub data MergedBy (x a b s : ℕ) (fs m : List ℕ) : Type 0 where
   by-left : a ≡ 65535 → s ≡ b → MergedBy x a b s fs m
   by-right : b ≡ 65535 → s ≡ a → MergedBy x a b s fs m

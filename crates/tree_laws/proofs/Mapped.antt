@@ -44,6 +44,7 @@ pub record NamedOne (k i : ℕ) (l w m v : List ℕ) : Type 0 where
   pub cells : m ≡ set l (getD w (3 * length l + i) 0) (2048 + i)
   pub work : v ≡ set (set w i k) (length l + i) 65535
 
+-- the listed roots from c on, before i, have their numbers
 pub record NameWalk (k c d i : ℕ) (l w m v : List ℕ) : Type 0 where
   pub from : c ≤ i
   pub most : i ≤ d
@@ -107,6 +108,7 @@ pub record MapFrom (p : Picture) (k d x : ℕ) (l w : List ℕ) : Type 0 where
   pub mapping : Mapping p k d x l w
   pub is : x < places p → valueAt p x ≡ k
 
+-- some picture's pixels of one height can be mapped from x on
 pub record MapReady (x : ℕ) (l w : List ℕ) : Type 0 where
   pub p : Picture
   pub k : ℕ
@@ -120,6 +122,7 @@ pub record MappedOne (x q : ℕ) (l w m v : List ℕ) : Type 0 where
   pub work : v ≡ set w (2 * length l + x) (getD m r 0 - 2048)
   pub next : q ≡ getD w (2 * length l + x) 0
 
+-- the walk from x has come to y
 pub record MapWalk (x : ℕ) (l w : List ℕ) (y : ℕ) (m v : List ℕ) : Type 0 where
   pub size : length m ≡ length l
   pub same : length v ≡ length w

@@ -23,6 +23,7 @@ pub record Marked (n s x : ℕ) (w v : List ℕ) : Type 0 where
   pub hit : (i : ℕ) → i < n → s ≡ 2048 + i → s < 65534 → getD v (n + i) 0 ≡ x
   pub miss : (i : ℕ) → s ≢ 2048 + i → getD v (n + i) 0 ≡ getD w (n + i) 0
 
+-- the states a and b merged to s, and the entries of fathers that this writes
 pub record MergedIn (n x a b s : ℕ) (w v : List ℕ) : Type 0 where
   pub block : UntouchedOutside n n w v
   pub root : 2048 ≤ s

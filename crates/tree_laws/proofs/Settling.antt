@@ -38,12 +38,14 @@ pub record SettleBounds (n i : ℕ) (w : List ℕ) : Type 0 where
   pub room : length w ≡ 4 * n
   pub pixel : getD w (n + i) 0 ≢ 65535 → getD w (n + i) 0 < n
 
+-- some picture's fathers can be settled
 pub record SettleReady (n c : ℕ) (w : List ℕ) : Type 0 where
   pub p : Picture
   pub size : n ≡ places p
   pub count : c ≡ length (nodes p)
   pub settling : Settling p 0 w
 
+-- the entries of the first i nodes are settled
 pub record SettleWalk (n c i : ℕ) (w v : List ℕ) : Type 0 where
   pub most : i ≤ c
   pub size : length v ≡ length w

@@ -1,4 +1,5 @@
 -- The answer of the check of a lent tree.
+-- p the picture, hs fs ss m the lent heights, fathers, first places and map.
 use mathlib.Core.Path.{_≡_}
 use mathlib.Core.Bool.{Bool, true, false}
 use mathlib.Core.List.{List}

@@ -1,4 +1,5 @@
 -- What the heights of the check ask and leave.
+-- p the picture, hs fs ss m the lent heights, fathers, first places and map; l the cells.
 use mathlib.Core.List.{List}
 use Prim.Native.Nat.{ℕ, _+_, _≤_, _<_}
 use lib.ListN.{length}

@@ -81,6 +81,7 @@ module _ (pixels : List ℕ) (k c i f : ℕ) (l ss : List ℕ) (e : f ≡ getD s
         never = λ q. absurd (clash refl q);
       }
 
+-- the lent nodes from c on, before i, have passed their tests and have their numbers
 pub record NodesNumbered (pixels : List ℕ) (k c i : ℕ) (o ss l : List ℕ) : Type 0 where
   pub order : c ≤ i
   pub size : length l ≡ length o

@@ -1,4 +1,5 @@
 -- What the steps of the check of a lent tree keep.
+-- p the picture, hs fs ss m the lent heights, fathers, first places and map; l the cells, o the cells before, fa the fathers' entries so far, st the states of roots.
 use mathlib.Core.Path.{_≡_}
 use mathlib.Core.Bool.{Bool, true, false}
 use mathlib.Core.Logic.{_⊎_, _≢_}
