@@ -177,7 +177,7 @@ mod tests {
     #[test]
     fn header_not_well_formed() {
         for (file, offset) in UNFIT_HEADERS {
-            assert_eq!(number_and_detail(file), (2, Some(offset)));
+            assert_eq!(number_and_detail(file), (2, Some(offset)), "{:?}", file);
         }
     }
 
@@ -208,7 +208,7 @@ mod tests {
     #[test]
     fn ranges_in_order() {
         for (file, number, detail) in WHOLE_HEADERS {
-            assert_eq!(number_and_detail(file), (number, detail));
+            assert_eq!(number_and_detail(file), (number, detail), "{:?}", file);
         }
     }
 

@@ -180,7 +180,7 @@ fn partner(node: &Component, lowered_nodes: &[Component]) -> usize {
             node.height == lowered_nodes[*other].height && node.lies_in(&lowered_nodes[*other])
         })
         .collect();
-    assert_eq!(found.len(), 1, "{:?}", node);
+    assert_eq!(found.len(), 1, "{:?} among {:?}", node, lowered_nodes);
     found[0]
 }
 
