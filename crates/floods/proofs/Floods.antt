@@ -9,11 +9,11 @@ use mathlib.Core.Bool.{false}
 use lib.Dec.{leb}
 use borrow.Author.Tests.{leb-false}
 use lib.ListN.{length, getD, set, drop, length-set}
-use lib.Seq.{drop-cons, drop-length, drop-set-lt, set-set, set-getD}
+use lib.Seq.{drop-cons, drop-length, drop-set-lt}
 use Rattle.picture.specs.Pictures.{Picture, places}
 use Rattle.picture.specs.Geometry.{neighboursIn}
 use Rattle.picture.proofs.Neighbours.{neighbour-at, neighbours-touch}
-use Rattle.lists.proofs.Lists.{in-mem}
+use Rattle.lists.proofs.Lists.{in-mem, set-back}
 use Rattle.topology.proofs.Connected.{start, conn-target}
 use Rattle.topology.proofs.Adjacency.{Adj}
 use Rattle.labelling_laws.proofs.Flood.{unmarked, unmarked-set, Flooding, Flooded, flood-start, flood-pop, flood-done, flood-pass, flood-mark, flood-end}
@@ -155,7 +155,7 @@ module _ (p : Picture) (k x c : ℕ) where
       let size = a .label in
       let cells = a .cells in
       let h : x < length l = omega arith in
-      let e : set (set l x c) x 0 ≡ l = set-set l x c 0 ∙ (ap (set l x) (sym (seed-empty l s)) ∙ set-getD l x 0) in
+      let e : set (set l x c) x 0 ≡ l = set-back l x c 0 (seed-empty l s) in
       rw e
       (record {
         room = moved-room (places p) l stack 0 a (moved-mark (places p) l stack 0 x c size (a .room) b (seed-empty l s) (seed-some l s));
@@ -200,7 +200,7 @@ module _ (p : Picture) (k x c : ℕ) where
       Flowing p k x c (set (set l x c) x 0) (set stack 0 x) m after t → Floods p k x c l stack m after
   flowing-end l stack m after t s n z f =
       let before = set (set l x c) x 0 in
-      let e : before ≡ l = set-set l x c 0 ∙ (ap (set l x) (sym (seed-empty l s)) ∙ set-getD l x 0) in
+      let e : before ≡ l = set-back l x c 0 (seed-empty l s) in
       record {
         rest = f .rest ∙ drop-set-lt (places p) stack 0 x n;
         marks =

@@ -11,7 +11,7 @@ use lib.Seq.{length-take-le, getD-take, getD-drop}
 use Rattle.lists.specs.Lists.{range}
 use Rattle.picture.specs.Pictures.{Picture, places}
 use Rattle.picture.specs.Patches.{Patch, patches, patchAt, lineCount, centre}
-use Rattle.lists.proofs.Lists.{tally-length, length-range}
+use Rattle.lists.proofs.Positions.{tally-bound}
 use Rattle.lists.proofs.Cuts.{take-rest}
 use Rattle.topology.proofs.Accepted.{Accepted, places-bound}
 use Rattle.topology.proofs.PatchFigures.{bottom-number}
@@ -62,7 +62,7 @@ from-length b l = ap length (take-rest b l) ∙ length-drop b l
 -- the line pixels are places
 pub line-few : (p : Picture) → lineCount p ≤ places p
 unfolding lineCount
-line-few p = omega (arith, tally-length (λ x. eqb (patchAt p x) 0) (range 0 (places p)), length-range 0 (places p))
+line-few p = tally-bound (λ x. eqb (patchAt p x) 0) (places p)
 
 module _ (p : Picture) (r n : ℕ) (work cells : List ℕ) (ok : Accepted p) (size : n ≡ places p) (long : length work ≡ 5 * n) (f : Figures p r work cells) where
   pub count-most : (r ≤ n) × (n ≤ 1600)

@@ -44,10 +44,10 @@ module _ (f : List ℕ) where
       is-accepted (pictureIn f)
       (record {
         adjacency = inl refl;
-        wide = a .width .0;
-        narrow = a .width .1;
+        some = a .width .0;
+        wide = a .width .1;
         tall = a .height .0;
-        short = a .height .1;
+        high = a .height .1;
         size = let l = length-drop (h .offset) f in let o = a .headed .offset in let c = a .count in omega arith;
         bytes = at-byte (drop (h .offset) f) (λ i. let q = getD-drop (h .offset) f i 0 in let k = b (h .offset + i) in omega arith);
       })

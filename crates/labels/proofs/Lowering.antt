@@ -37,5 +37,5 @@ module _ (p : Picture) (a : isPicture p ≡ true) where
     lower-end m l r d e c f =
         let v : valueAt p x ≡ suc (valueAt p x - 1) = omega arith in
         f ∙
-        common-end p (valueAt p x - 1) x (accepted-is p a .wide) h v m
+        common-end p (valueAt p x - 1) x (accepted-is p a .some) h v m
         (subst (λ o. Common o (neighboursIn p x) (length (neighboursIn p x)) m) e c)

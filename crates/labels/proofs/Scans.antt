@@ -9,7 +9,6 @@ use lib.Dec.{eqb}
 use lib.ListN.{length, getD, drop, replicate, drop-of-length-le}
 use Rattle.picture.specs.Pictures.{Picture, places, isPicture}
 use Rattle.picture.specs.Components.{inSection}
-use Rattle.picture.specs.Geometry.{Placed}
 use Rattle.lists.proofs.Lists.{tally-length}
 use Rattle.topology.proofs.Parts.{isFirst, first-is}
 use Rattle.topology.proofs.Accepted.{accepted-is, places-bound}
@@ -17,22 +16,15 @@ use Rattle.labelling_laws.proofs.Labelled.{Labelled, labelled-start, count-most
 use Rattle.labels.specs.Labels.{LabelReady, LabelsBefore, LabelsHold}
 use Rattle.floods.specs.Floods.{Room, Seed, Floods}
 
--- what an accepted picture gives
-module _ (p : Picture) (a : isPicture p ≡ true) where
-  pub picture-few : places p ≤ 1600
-  picture-few = places-bound p (accepted-is p a)
-
-  pub picture-size : length (p .pixels) ≡ places p
-  picture-size = accepted-is p a .size
-
-  pub picture-placed : (x : ℕ) → x < places p → Placed (p .width) (p .height) x
-  picture-placed x h = let e = accepted-is p a in record { some = e .wide; wide = e .narrow; high = e .short; inside = h }
+-- the places of an accepted picture
+pub picture-few : (p : Picture) → isPicture p ≡ true → places p ≤ 1600
+picture-few p a = places-bound p (accepted-is p a)
 
 module _ (p : Picture) (l stack : List ℕ) (a : LabelReady p l stack) where
   pub ready-room : Room (places p) (p .pixels) l stack 0
   ready-room =
       let most = tally-length (eqb 0) l in
-      record { few = picture-few p (a .accepted); pixel = picture-size p (a .accepted); label = a .label; cells = a .cells; room = omega arith }
+      record { few = picture-few p (a .accepted); pixel = accepted-is p (a .accepted) .size; label = a .label; cells = a .cells; room = omega arith }
 
   module _ (k x c : ℕ) (h : x < places p) (s : Labelled p k x c l) where
     pub scan-outside : inSection p k x ≡ false → LabelsBefore p k (x + 1) c l stack stack

@@ -5,6 +5,7 @@ pub mod Members
 pub mod Sums
 pub mod Cuts
 pub mod Blocks
+pub mod Updates
 pub mod Rising
 pub mod Numbers
 pub mod Positions

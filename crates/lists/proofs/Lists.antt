@@ -8,7 +8,7 @@ use native.Mathlib.Decide.{ℕ-discrete}
 use native.Mathlib.Omega.{arith}
 use lib.Dec.{eqb}
 use lib.ListN.{length, getD, set, length-map}
-use lib.Seq.{getD-set-same, getD-set-other, ext-getD}
+use lib.Seq.{getD-set-same, getD-set-other, set-set, set-getD, ext-getD}
 use borrow.Author.Tests.{eqb-true, eq-eqb, ne-eqb}
 use Rattle.lists.specs.Lists.{pick, any, all, tally, select, range, isIn}
 use Rattle.lists.proofs.Tests.{and-left, and-right, and-both, or-left, or-right, or-cases, on-test, clash}
@@ -231,6 +231,10 @@ set-cases l x v y h =
     by-cases (ℕ-discrete y x)
     (λ e. inl (e, ap (λ (z : ℕ). getD (set l x v) z 0) e ∙ getD-set-same l x v 0 h))
     (λ e. inr (e, getD-set-other l x y v 0 e))
+
+-- a store undone
+pub set-back : (l : List ℕ) (x c v : ℕ) → getD l x 0 ≡ v → set (set l x c) x v ≡ l
+set-back l x c v e = set-set l x c v ∙ (ap (set l x) (sym e) ∙ set-getD l x 0)
 
 -- another value in the place of an a: there is one a less
 pub tally-set : (a : ℕ) (l : List ℕ) (y v : ℕ) → y < length l → getD l y 0 ≡ a → v ≢ a → suc (tally (eqb a) (set l y v)) ≡ tally (eqb a) l

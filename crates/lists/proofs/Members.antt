@@ -2,16 +2,16 @@
 use mathlib.Core.Path.{_≡_, refl, sym, ap, _∙_}
 use mathlib.Core.Bool.{Bool, true, false, _&&_, _||_, not, false≢true}
 use mathlib.Core.List.{List, [], _∷_, _++_, map}
-use mathlib.Core.Logic.{_⊎_, ⊎-elim}
-use Prim.Native.Nat.{ℕ, zero, suc, _+_, _≤_, _<_, suc-le-suc}
-use native.Mathlib.Nat.{not-suc-le-zero, le-of-suc-le-suc, zero-add, add-zero, add-suc, suc-add}
+use mathlib.Core.Logic.{⊎-elim}
+use Prim.Native.Nat.{ℕ, zero, suc, _≤_, _<_}
 use native.Mathlib.Omega.{arith}
 use lib.Dec.{eqb}
 use lib.ListN.{length, getD}
-use borrow.Author.Tests.{eqb-true, eq-eqb}
+use borrow.Author.Tests.{eqb-true}
 use Rattle.lists.specs.Lists.{pick, any, all, select, range, isIn}
 use Rattle.lists.proofs.Tests.{and-left, and-right, and-both, or-cases, or-left, or-right, not-of-false, test-false}
-use Rattle.lists.proofs.Lists.{length-select, tally-length}
+use Rattle.lists.proofs.Lists.{all-mem, length-select, tally-length, in-mem, mem-in, mem-range}
+use Rattle.lists.proofs.Numbers.{mem-index, index-mem}
 
 module _ {A : Type 0} (t : A → Bool) where
   -- a test that every member and the default pass passes at every index
@@ -89,24 +89,11 @@ module _ {A : Type 0} (t : A → Bool) (f : A → ℕ) (d : A → A → Bool) wh
 
 -- what stands at an index is a member, and a member stands at an index
 pub isIn-at : (xs : List ℕ) (i : ℕ) → i < length xs → isIn (getD xs i 0) xs ≡ true
-isIn-at [] i h = absurd (not-suc-le-zero h)
-isIn-at (x ∷ xs) zero h = or-left (isIn x xs) (eq-eqb x x refl)
-isIn-at (x ∷ xs) (suc i) h = or-right (eqb (getD xs i 0) x) (isIn-at xs i (le-of-suc-le-suc h))
+isIn-at xs i h = mem-in (getD xs i 0) xs (index-mem 0 xs i h)
 
 pub isIn-index : (y : ℕ) (xs : List ℕ) → isIn y xs ≡ true → (i : ℕ) × (i < length xs) × (getD xs i 0 ≡ y)
-isIn-index y [] e = absurd (false≢true e)
-isIn-index y (x ∷ xs) e =
-    ⊎-elim
-    (λ p. (0, omega arith, sym (eqb-true y x p)))
-    (λ p. let (i, h, q) = isIn-index y xs p in (suc i, suc-le-suc h, q))
-    (or-cases (eqb y x) (isIn y xs) e)
+isIn-index y xs e = mem-index 0 (in-mem y xs e)
 
--- a test that every number of a range passes passes at each of them
-all-range : (t : ℕ → Bool) (x l : ℕ) → all t (range x l) ≡ true → (i : ℕ) → i < l → t (x + i) ≡ true
-all-range t x zero e i h = absurd (not-suc-le-zero h)
-all-range t x (suc l) e zero h = ap t (add-zero x) ∙ and-left (t x) _ e
-all-range t x (suc l) e (suc i) h =
-    ap t (add-suc x i ∙ sym (suc-add x i)) ∙ all-range t (suc x) l (and-right (t x) _ e) i (le-of-suc-le-suc h)
-
+-- a test that every number below l passes passes at each of them
 pub all-below : (t : ℕ → Bool) (l : ℕ) → all t (range 0 l) ≡ true → (i : ℕ) → i < l → t i ≡ true
-all-below t l e i h = sym (ap t (zero-add i)) ∙ all-range t 0 l e i h
+all-below t l e i h = all-mem t e (mem-range 0 l (omega arith) (omega arith))

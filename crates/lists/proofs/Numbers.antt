@@ -12,6 +12,10 @@ use Rattle.lists.proofs.Tests.{on-test, test-false}
 use Rattle.lists.proofs.Lists.{tally-in, tally-out, tally-none}
 use Rattle.lists.proofs.Rising.{Rising, none, more, rising-from}
 
+-- what holds of all numbers below x, and of x
+pub below-suc : (x : ℕ) (P : ℕ → Type 0) → ((y : ℕ) → y < x → P y) → P x → (y : ℕ) → y < suc x → P y
+below-suc x P f g y h = by-cases (ℕ-discrete y x) (λ e. subst P (sym e) g) (λ d. f y (omega arith))
+
 pub mem-index : {A : Type 0} (d : A) {x : A} {l : List A} → List·Memᴰ x l → (i : ℕ) × (i < length l) × (getD l i d ≡ x)
 mem-index d (List·Memᴰ·head e) = (0, omega arith, sym e)
 mem-index d (List·Memᴰ·tail m) = let (i, b, e) = mem-index d m in (suc i, omega arith, e)

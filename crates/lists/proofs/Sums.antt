@@ -1,13 +1,15 @@
--- Sums over lists: of selected members, of a range, after a store, under a bound.
+-- Sums over lists: of selected members, of a range, after a store, under a bound. The largest member.
 use mathlib.Core.Path.{_≡_, refl, sym, ap, subst, _∙_}
 use mathlib.Core.Bool.{Bool}
 use mathlib.Core.List.{List, [], _∷_, map}
-use Prim.Native.Nat.{ℕ, zero, suc, _+_, _*_, _≤_, _<_}
+use Prim.Native.Nat.{ℕ, zero, suc, _+_, _-_, _*_, _≤_, _<_}
 use native.Mathlib.Nat.{mul-suc}
 use native.Mathlib.Omega.{arith}
-use lib.ListN.{length, getD, set, length-map}
-use Rattle.lists.specs.Lists.{pick, select, range, total}
-use Rattle.lists.proofs.Tests.{on-test}
+use lib.Dec.{leb}
+use lib.ListN.{length, getD, set, drop, length-map}
+use lib.Seq.{drop-cons}
+use Rattle.lists.specs.Lists.{pick, select, range, total, highest}
+use Rattle.lists.proofs.Tests.{on-test, on-pick}
 use Rattle.lists.proofs.Lists.{select-in, select-out, length-range, getD-map-range}
 
 -- a sum over selected members is one over all, with 0 for the others
@@ -59,3 +61,21 @@ total-most f d y l h =
     subst (λ (m : ℕ). total (map f (range y l)) ≤ d * m) n
     (total-bounded d (map f (range y l))
     (λ i b. let e = getD-map-range f 0 y l i (omega arith) in let q = h (y + i) (omega arith) in omega arith))
+
+-- the largest member under a bound
+pub highest-most : (d : ℕ) (l : List ℕ) → ((i : ℕ) → getD l i 0 ≤ d) → highest l ≤ d
+highest-most d [] f = omega arith
+highest-most d (x ∷ xs) f =
+    on-pick (λ (v : ℕ). v ≤ d) (leb (highest xs) x) (λ e. f 0) (λ e. highest-most d xs (λ i. f (suc i)))
+
+-- the largest of one member more
+pub highest-next :
+    (l : List ℕ) (i most r : ℕ) → 1 ≤ i → i ≤ length l → most ≡ highest (drop i l) →
+    r ≡ pick (leb most (getD l (i - 1) 0)) (getD l (i - 1) 0) most → r ≡ highest (drop (i - 1) l)
+highest-next l i most r some h e q =
+    let up : suc (i - 1) ≡ i = omega arith in
+    let v = getD l (i - 1) 0 in
+    let b : i - 1 < length l = omega arith in
+    q ∙
+    (ap (λ (m : ℕ). pick (leb m v) v m) (e ∙ ap (λ (k : ℕ). highest (drop k l)) (sym up)) ∙
+    sym (ap highest (drop-cons l (i - 1) 0 b)))

@@ -1,8 +1,10 @@
 -- Tests and what they say: the Boolean connectives, and cases on a test that a definition is stuck on.
-use mathlib.Core.Path.{_≡_, refl, sym, _∙_}
+use mathlib.Core.Path.{_≡_, refl, sym, ap, _∙_}
 use mathlib.Core.Bool.{Bool, true, false, _&&_, _||_, not, or-true, true≢false, false≢true}
-use mathlib.Core.Logic.{_⊎_, inl, inr}
-use borrow.Author.Tests.{not-true, not-false}
+use mathlib.Core.Logic.{_⊎_, inl, inr, _≢_}
+use Prim.Native.Nat.{ℕ, _+_}
+use lib.Dec.{eqb}
+use borrow.Author.Tests.{not-true, not-false, eq-eqb, ne-eqb}
 use Rattle.lists.specs.Lists.{pick}
 
 -- both tests of a conjunction pass
@@ -37,6 +39,18 @@ implied false b e p = absurd (false≢true p)
 pub on-pick : {A : Type 0} (P : A → Type 0) (t : Bool) {x y : A} → (t ≡ true → P x) → (t ≡ false → P y) → P (pick t x y)
 on-pick P true f g = f refl
 on-pick P false f g = g refl
+
+-- a value picked by whether two numbers are equal
+pub pick-in : {A : Type 0} (c d : ℕ) (v w : A) → c ≡ d → pick (eqb c d) v w ≡ v
+pick-in c d v w e = ap (λ (b : Bool). pick b v w) (eq-eqb c d e)
+
+pub pick-out : {A : Type 0} (c d : ℕ) (v w : A) → c ≢ d → pick (eqb c d) v w ≡ w
+pick-out c d v w e = ap (λ (b : Bool). pick b v w) (ne-eqb c d e)
+
+-- a sum picked, or 0
+pub pick-add : (b : Bool) (v z : ℕ) → pick b (v + z) 0 ≡ pick b v 0 + pick b z 0
+pick-add true v z = refl
+pick-add false v z = refl
 
 pub not-of-false : (a : Bool) → a ≡ false → not a ≡ true
 not-of-false true h = absurd (true≢false h)

@@ -8,19 +8,20 @@ use native.Mathlib.Numerals.{add-one}
 use native.Mathlib.Omega.{arith}
 use lib.Dec.{eqb}
 use lib.ListN.{length, getD, set, drop, length-set, drop-of-length-le}
-use lib.Seq.{drop-cons, set-set, set-getD}
-use Rattle.lists.specs.Lists.{range}
+use lib.Seq.{drop-cons}
 use Rattle.picture.specs.Pictures.{Picture, places, valueAt, isPicture}
 use Rattle.picture.specs.Geometry.{neighboursIn, Placed}
 use Rattle.picture.specs.Patches.{patches}
 use Rattle.picture.proofs.Neighbours.{neighbour-at, neighbours-touch}
-use Rattle.lists.proofs.Lists.{in-mem, tally-length, length-range}
+use Rattle.lists.proofs.Lists.{in-mem, tally-length, set-back}
+use Rattle.lists.proofs.Positions.{tally-bound}
+use Rattle.lists.proofs.Blocks.{filled-entry}
 use Rattle.topology.proofs.Connected.{start, conn-target}
 use Rattle.topology.proofs.Adjacency.{Adj}
 use Rattle.labelling_laws.proofs.Zones.{Flat, ZoneFlooding, ZoneFlooded, zone-start, zone-pop, zone-done, zone-lower, zone-higher, zone-level, zone-visit, zone-end}
 use Rattle.labelling_laws.proofs.ZoneScan.{unvisited-set, Scanned, scan-start, scan-seen, scan-fresh, scan-lower, scan-minimum, scan-end}
 use Rattle.topology.proofs.Leaves.{bottom}
-use Rattle.topology.proofs.Accepted.{accepted-is, places-bound}
+use Rattle.topology.proofs.Accepted.{accepted-is, places-bound, placed}
 use Rattle.minima.specs.declared.Stack.{Stack}
 use Rattle.minima.specs.Minima.{CellEach, ZoneRoom, ZoneMoved, popped, ZoneFloods, Visit, ZoneSpread, Turn, ZoneSeed, Counting}
 use Rattle.lists.specs.Blocks.{Filled}
@@ -161,10 +162,6 @@ pub record ZoneRunning (p : Picture) (k x : ℕ) (before cells : List ℕ) (s : 
   pub flooding : ZoneFloods p k x before cells s x []
 
 module _ (p : Picture) (x : ℕ) where
-  -- the cells before the flood, from those with the first place visited
-  before-start : (cells : List ℕ) → getD cells x 0 ≡ 65535 → set (set cells x 65534) x 65535 ≡ cells
-  before-start cells e = set-set cells x 65534 65535 ∙ (ap (set cells x) (sym e) ∙ set-getD cells x 0)
-
   pub running-start :
       (cells : List ℕ) → CellEach (p .pixels) cells → length (p .pixels) ≡ places p → x < places p → ZoneSeed p x cells →
       ZoneRunning p (valueAt p x) x (set (set cells x 65534) x 65535) (set cells x 65534) (record { top = x; height = 1; low = false })
@@ -185,7 +182,7 @@ module _ (p : Picture) (x : ℕ) where
               room = omega arith;
             };
         flooding =
-            subst (λ (l : List ℕ). ZoneFlooding p (valueAt p x) x l (set cells x 65534) x 1 false x []) (sym (before-start cells new))
+            subst (λ (l : List ℕ). ZoneFlooding p (valueAt p x) x l (set cells x 65534) x 1 false x []) (sym (set-back cells x 65534 65535 new))
             (zone-start p (valueAt p x) x cells flat h d (f .fresh));
       }
 
@@ -214,7 +211,7 @@ module _ (p : Picture) (x : ℕ) where
       ZoneRunning p (valueAt p x) x (set (set cells x 65534) x 65535) after s → ZoneFlooded p (valueAt p x) x cells after (s .low)
   running-end cells after s g b e f =
       let new = g .fresh x (f .flooding .search .seed .0) in
-      subst (λ (l : List ℕ). ZoneFlooded p (valueAt p x) x l after (s .low)) (before-start cells new)
+      subst (λ (l : List ℕ). ZoneFlooded p (valueAt p x) x l after (s .low)) (set-back cells x 65534 65535 new)
       (zone-end p (valueAt p x) x (set (set cells x 65534) x 65535) after (s .top) (s .low)
       (subst (λ (t : ℕ). ZoneFlooding p (valueAt p x) x (set (set cells x 65534) x 65535) after (s .top) t (s .low) x []) e (f .flooding)))
 
@@ -223,22 +220,18 @@ module _ (p : Picture) (x r : ℕ) (cells : List ℕ) (c : Counting p x r cells)
   pub counting-few : r ≤ x
   counting-few =
       let e = c .scanned .count in
-      let a = tally-length (bottom p) (range 0 x) in
-      let n = length-range 0 x in
+      let a = tally-bound (bottom p) x in
       omega arith
 
-  pub counting-pixels : length (p .pixels) ≡ places p
-  counting-pixels = accepted-is p (c .accepted) .size
-
   pub counting-placed : Placed (p .width) (p .height) x
-  counting-placed =
-      let a = accepted-is p (c .accepted) in record { some = a .wide; wide = a .narrow; high = a .short; inside = b }
+  counting-placed = placed p (accepted-is p (c .accepted)) x b
 
   pub counting-sizes : CellEach (p .pixels) cells
   counting-sizes =
-      let n = places-bound p (accepted-is p (c .accepted)) in
-      let e = counting-pixels in
-      record { few = omega arith; size = c .size ∙ sym counting-pixels }
+      let a = accepted-is p (c .accepted) in
+      let n = places-bound p a in
+      let e = a .size in
+      record { few = omega arith; size = c .size ∙ sym e }
 
   pub counting-seed : getD cells x 0 ≡ 65535 → ZoneSeed p x cells
   counting-seed new = record { fresh = scan-fresh p x r cells b (c .scanned) new }
@@ -270,7 +263,7 @@ counting-start p cells after n ok e m f =
     record {
       accepted = ok;
       size = f .kept .size ∙ e;
-      scanned = scan-start p after (λ y b. let i : 0 + y ≡ y = omega arith in subst (λ (z : ℕ). getD after z 0 ≡ 65535) i (f .inside y (omega arith)));
+      scanned = scan-start p after (λ y b. filled-entry f y (omega arith));
     }
 
 pub counting-end : (p : Picture) (x r : ℕ) (cells : List ℕ) → x ≡ places p → Counting p x r cells → r ≡ length (patches p)

@@ -2,11 +2,11 @@
 use mathlib.Core.Path.{_≡_, refl, sym, ap, subst, _∙_}
 use mathlib.Core.Bool.{Bool, true}
 use mathlib.Core.Logic.{_≢_, by-cases}
-use mathlib.Core.List.{List, [], _∷_, _++_, map}
-use Prim.Native.Nat.{ℕ, suc, _+_, _*_, _≤_, _<_}
+use mathlib.Core.List.{List, [], _++_, map}
+use Prim.Native.Nat.{ℕ, _+_, _*_, _≤_, _<_}
 use native.Mathlib.Decide.{decLt}
 use native.Mathlib.Omega.{arith}
-use lib.Dec.{eqb, ltb, leb}
+use lib.Dec.{eqb, ltb}
 use lib.ListN.{length, getD, take, drop, replicate, length-replicate, length-map, List·getD-append, List·getD-map, List·getD-eq-default}
 use lib.Seq.{length-front, ext-getD}
 use borrow.Author.Tests.{lt-ltb, le-ltb, ltb-false, ne-eqb}
@@ -18,6 +18,7 @@ use Rattle.picture.specs.Patches.{patches, depthOf}
 use Rattle.picture.proofs.Sides.{area-most}
 use Rattle.lists.proofs.Tests.{on-pick}
 use Rattle.lists.proofs.Lists.{length-range, getD-map-range}
+use Rattle.lists.proofs.Sums.{highest-most}
 use Rattle.topology.proofs.Accepted.{Accepted, accepted-is, byte-at}
 use Rattle.topology.proofs.Nodes.{node-is}
 use Rattle.topology.proofs.PatchSums.{patch-begins, count-few, patch-height, patch-depth}
@@ -52,26 +53,17 @@ module _ (p : Picture) (room work : ℕ) where
       let z = first-zero (workFaultOf p work) (when (ltb room (length (patches p))) 9) (list-is ∙ e) in
       (z .0, ltb-false room (length (patches p)) (when-zero 8 (ltb room (length (patches p))) (z .1)))
 
--- a largest value of bytes is a byte
-highest-byte : (l : List ℕ) → ((i : ℕ) → getD l i 0 ≤ 255) → highest l ≤ 255
-highest-byte [] f = omega arith
-highest-byte (x ∷ xs) f =
-    on-pick (λ (v : ℕ). v ≤ 255) (leb (highest xs) x) (λ e. f 0) (λ e. highest-byte xs (λ i. f (suc i)))
-
 -- an accepted picture has at most 1,600 places, and heights and depths of its patches are bytes
 module _ (p : Picture) (h : isPicture p ≡ true) where
   ok : Accepted p
   ok = accepted-is p h
 
   pub pixels-few : length (p .pixels) ≤ 1600
-  pixels-few = let a = area-most (p .width) (p .height) (ok .narrow) (ok .short) in let e = ok .size in omega arith
+  pixels-few = let a = area-most (p .width) (p .height) (ok .wide) (ok .high) in let e = ok .size in omega arith
 
   -- a cell a pixel of a local array
   pub cells-lent : length (p .pixels) ≡ length (take (length (p .pixels)) (replicate {A = ℕ} 1600 0))
   cells-lent = lent-length (length (p .pixels)) (replicate {A = ℕ} 1600 0) (omega (arith, pixels-few, length-replicate {A = ℕ} 1600 0))
-
-  pub pixels-places : length (p .pixels) ≡ places p
-  pixels-places = ok .size
 
   pub patches-few : length (patches p) ≤ 1600
   patches-few = let a = count-few p ok in let e = ok .size in let f = pixels-few in omega arith
@@ -90,7 +82,7 @@ module _ (p : Picture) (h : isPicture p ≡ true) where
   depth-byte n =
       let most : pick (eqb (fatherOf p n) 65535) (highest (p .pixels)) (nodeAt p (fatherOf p n) .height) ≤ 255 =
       on-pick (λ (v : ℕ). v ≤ 255) (eqb (fatherOf p n) 65535)
-      (λ e. highest-byte (p .pixels) (byte-at (p .pixels) (ok .bytes)))
+      (λ e. highest-most 255 (p .pixels) (byte-at (p .pixels) (ok .bytes)))
       (λ e. node-byte (fatherOf p n))
       in
       omega arith
@@ -193,5 +185,5 @@ module _ (p : Picture) (room : ℕ) (q : List ℕ) where
         entries = f .entries;
         records = f .records;
         enough = λ _. (pixels-few p h, long);
-        left = cleared-left 0 (length (p .pixels)) p q q′ _ refl (pixels-places p h) (f .rest) refl;
+        left = cleared-left 0 (length (p .pixels)) p q q′ _ refl (ok p h .size) (f .rest) refl;
       })

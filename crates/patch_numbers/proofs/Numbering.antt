@@ -14,10 +14,10 @@ use borrow.Author.Tests.{eqb-true, eqb-false, eq-eqb, ne-eqb}
 use Rattle.lists.specs.Lists.{pick, tally, range}
 use Rattle.lists.specs.Blocks.{blockEntry, UntouchedOutside, Filled}
 use Rattle.lists.proofs.Tests.{and-left, and-right, and-both, clash, on-pick}
-use Rattle.lists.proofs.Lists.{tally-length, length-range, set-cases}
-use Rattle.lists.proofs.Positions.{tally-next-in, tally-next-out}
+use Rattle.lists.proofs.Lists.{set-cases}
+use Rattle.lists.proofs.Positions.{tally-next-in, tally-next-out, tally-bound}
 use Rattle.patch_numbers.specs.Numbers.{Mapped, Cleared, Mark, beyond, marked, Son, Marks, starts, Number, passed, given, Numbers, patchIn}
-use Rattle.lists.proofs.Blocks.{kept-refl, kept-set}
+use Rattle.lists.proofs.Blocks.{kept-refl, kept-set, filled-entry}
 
 -- an entry before the block that may have changed
 pub kept-row : (b n o i : ℕ) {l m : List ℕ} → UntouchedOutside b n l m → o + i < b → blockEntry m o i ≡ blockEntry l o i
@@ -35,7 +35,7 @@ module _ (n : ℕ) (work : List ℕ) where
       record {
         size = f .kept .size ∙ e;
         free = λ i b z j c. absurd (omega arith);
-        taken = λ i b d. let q : 0 + i ≡ i = omega arith in absurd (d (subst (λ (k : ℕ). getD after k 0 ≡ 0) q (f .inside i b)));
+        taken = λ i b d. absurd (d (filled-entry f i b));
       }
 
   son-later : (j : ℕ) {i : ℕ} → Son n j work i → Son n (j + 1) work i
@@ -130,8 +130,7 @@ module _ (n : ℕ) (work marks : List ℕ) where
     pub numbers-few : r ≤ x
     numbers-few =
         let e = k .count in
-        let a = tally-length (starts n work marks) (range 0 x) in
-        let c = length-range 0 x in
+        let a = tally-bound (starts n work marks) x in
         omega arith
 
     same-map : (z : ℕ) → z < n → blockEntry l (2 * n) z ≡ blockEntry work (2 * n) z

@@ -1,7 +1,6 @@
 -- The laws of the sums by patch number.
 use mathlib.Core.Path.{_≡_, refl, sym, ap, ap₂, subst, _∙_}
 use mathlib.Core.Logic.{_≢_, by-cases}
-use mathlib.Core.Bool.{Bool, true, false}
 use mathlib.Core.List.{List}
 use Prim.Native.Nat.{ℕ, suc, _+_, _*_, _≤_, _<_}
 use native.Mathlib.Decide.{ℕ-discrete}
@@ -12,34 +11,21 @@ use lib.Arith.{digits-div, digits-mod}
 use lib.Dec.{eqb}
 use lib.ListN.{length, getD}
 use lib.Seq.{getD-set-same, getD-set-other}
-use borrow.Author.Tests.{eq-eqb, ne-eqb}
 use Rattle.lists.specs.Lists.{pick}
+use Rattle.lists.proofs.Tests.{pick-in, pick-out, pick-add}
 use Rattle.lists.specs.Blocks.{blockEntry, UntouchedOutside, Filled}
 use Rattle.topology.proofs.PatchSums.{sumAt, sum-none, sum-in, sum-out, sum-most}
 use Rattle.patch_sums.specs.declared.Run.{Run}
 use Rattle.patch_sums.specs.Sums.{Figure, sizes, columns, rows, term, terms, termAt, base, raised, Raisable, SumsRoom, Added, RunAfter, NumberedRows, Sums, RowSummed}
 use Rattle.lists.proofs.Blocks.{kept-refl, kept-trans, kept-store}
 
-pick-in : (c d v : ℕ) → c ≡ d → pick (eqb c d) v 0 ≡ v
-pick-in c d v e = ap (λ (b : Bool). pick b v 0) (eq-eqb c d e)
-
-pick-out : (c d v : ℕ) → c ≢ d → pick (eqb c d) v 0 ≡ 0
-pick-out c d v e = ap (λ (b : Bool). pick b v 0) (ne-eqb c d e)
-
-pick-add : (c d v z : ℕ) → pick (eqb c d) (v + z) 0 ≡ pick (eqb c d) v 0 + pick (eqb c d) z 0
-pick-add c d v z = on-pick-add (eqb c d)
-  where
-    on-pick-add : (b : Bool) → pick b (v + z) 0 ≡ pick b v 0 + pick b z 0
-    on-pick-add true = refl
-    on-pick-add false = refl
-
 -- the sum with one place more
 sum-next : (g : ℕ → ℕ) (numbers : List ℕ) (c x : ℕ) → sumAt g numbers c (x + 1) ≡ sumAt g numbers c x + pick (eqb (getD numbers x 0) c) (g x) 0
 sum-next g numbers c x =
     let e = ap (sumAt g numbers c) (add-one x) in
     by-cases (ℕ-discrete (getD numbers x 0) c)
-    (λ d. let s = sum-in g numbers c x d in let q = pick-in (getD numbers x 0) c (g x) d in omega arith)
-    (λ d. let s = sum-out g numbers c x d in let q = pick-out (getD numbers x 0) c (g x) d in omega arith)
+    (λ d. let s = sum-in g numbers c x d in let q = pick-in (getD numbers x 0) c (g x) 0 d in omega arith)
+    (λ d. let s = sum-out g numbers c x d in let q = pick-out (getD numbers x 0) c (g x) 0 d in omega arith)
 
 raised-kept : (n j v : ℕ) (l m o : List ℕ) → o ≡ raised m j v → j < n → UntouchedOutside 0 n l m → UntouchedOutside 0 n l o
 raised-kept n j v l m o q h k = rw q (kept-store 0 n j (getD m j 0 + v) l m (omega arith) (omega arith) k)
@@ -55,14 +41,14 @@ raised-own :
 raised-own c i n l m o b j v p q h =
     by-cases (ℕ-discrete i j)
     (λ e.
-    let d = pick-in c (suc j) v (n ∙ ap suc e) in
+    let d = pick-in c (suc j) v 0 (n ∙ ap suc e) in
     let r : b + j ≡ o = omega arith in
     let s = ap (λ (k : List ℕ). getD k o 0) q ∙ getD-set-same l o (getD l o 0 + v) 0 h in
     let x = ap (λ (z : ℕ). getD m z 0) r in
     let y = ap (λ (z : ℕ). getD l z 0) r in
     omega arith)
     (λ e.
-    let d = pick-out c (suc j) v (λ f. e (omega arith)) in
+    let d = pick-out c (suc j) v 0 (λ f. e (omega arith)) in
     let s = raised-apart l m o (b + j) v q (λ f. e (omega arith)) in
     omega arith)
 
@@ -70,7 +56,7 @@ pub added-none : (n c : ℕ) (t : Figure → ℕ) (l : List ℕ) → c ≡ 0 →
 added-none n c t l e =
     record {
       kept = kept-refl 0 (3 * n) l;
-      sum = λ k i h. let q = pick-out c (suc i) (t k) (λ d. absurd (omega arith)) in omega arith;
+      sum = λ k i h. let q = pick-out c (suc i) (t k) 0 (λ d. absurd (omega arith)) in omega arith;
     }
 
 -- the entries of the number c raised one after the other
@@ -155,7 +141,7 @@ module _ (n c u v : ℕ) (run : Run) (l : List ℕ) where
         number = λ m a b. b;
         size = omega arith;
         columns = omega arith;
-        sum = λ k i h. let q = pick-out c (suc i) (term 1 u v k) (λ d. absurd (omega arith)) in omega arith;
+        sum = λ k i h. let q = pick-out c (suc i) (term 1 u v k) 0 (λ d. absurd (omega arith)) in omega arith;
       }
 
   pub next-same : c ≡ run .number → RunAfter n c u v run l (record { number = c; size = run .size + 1; columns = run .columns + u }) l
@@ -169,7 +155,7 @@ module _ (n c u v : ℕ) (run : Run) (l : List ℕ) where
             λ k i h.
             let s = ap (λ (d : ℕ). pick (eqb d (suc i)) (terms run v k) 0) e in
             let p = ap (λ (z : ℕ). pick (eqb c (suc i)) z 0) (longer k) in
-            let q = pick-add c (suc i) (terms run v k) (term 1 u v k) in
+            let q = pick-add (eqb c (suc i)) (terms run v k) (term 1 u v k) in
             omega arith;
       }
 
@@ -260,7 +246,7 @@ module _ (w n : ℕ) (numbers : List ℕ) (f : NumberedRows w n numbers) where
             columns = omega arith;
             sum =
                 λ k i h.
-                let q = pick-out 0 (suc i) (terms (record { number = 0; size = 0; columns = 0 }) v k) (λ d. absurd (omega arith)) in
+                let q = pick-out 0 (suc i) (terms (record { number = 0; size = 0; columns = 0 }) v k) 0 (λ d. absurd (omega arith)) in
                 let e : v * w ≡ v * w + 0 = omega arith in
                 let x = ap (sumAt (termAt w k) numbers (suc i)) e in
                 let sum = s .sum k i h in
@@ -280,7 +266,7 @@ module _ (w n : ℕ) (numbers : List ℕ) (f : NumberedRows w n numbers) where
               room =
                   λ k i e.
                   let sum = s .sum k i (omega arith) in
-                  let q = pick-in (run .number) (suc i) (terms run v k) e in
+                  let q = pick-in (run .number) (suc i) (terms run v k) 0 e in
                   let bound = sum-most (termAt w k) numbers (suc i) 39 (v * w + u) (λ y d. term-most y (omega arith) k) in
                   omega arith;
             }

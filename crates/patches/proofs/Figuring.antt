@@ -15,8 +15,8 @@ use Rattle.picture.specs.Pictures.{Picture, places, isPicture}
 use Rattle.picture.specs.Patches.{patches, patchAt, lineCount}
 use Rattle.tree.specs.Arrays.{TreeIn}
 use Rattle.tree.specs.Built.{Built}
-use Rattle.lists.proofs.Lists.{tally-same, range-mem, tally-length, length-range}
-use Rattle.lists.proofs.Positions.{tally-next-in, tally-next-out}
+use Rattle.lists.proofs.Lists.{tally-same, range-mem}
+use Rattle.lists.proofs.Positions.{tally-next-in, tally-next-out, tally-bound}
 use Rattle.topology.proofs.Accepted.{Accepted, accepted-is}
 use Rattle.topology.proofs.Nodes.{nodes-few}
 use Rattle.topology.proofs.PatchFigures.{patches-count}
@@ -49,9 +49,6 @@ module _ (p : Picture) (count : ℕ) (work : List ℕ) (t : TreeInWork p count w
   pub tree-few : count ≤ places p
   tree-few = let a = t .number in let b = nodes-few p in omega arith
 
-  pub tree-pixels : length (p .pixels) ≡ places p
-  tree-pixels = ok .size
-
   module _ (r : ℕ) (a : List ℕ) (l : Leaves (places p) count work r a) where
     numbered-tree : TreeIn p a
     numbered-tree = tree-kept p (l .cleared) a (l .numbers .kept) (tree-kept p work (l .cleared) (l .kept) (t .tree))
@@ -76,9 +73,9 @@ module _ (p : Picture) (count : ℕ) (work : List ℕ) (t : TreeInWork p count w
       pub patched-frame : NumberedRows (p .width) (places p) cells
       patched-frame =
           record {
-            some = ok .wide;
-            wide = ok .narrow;
-            high = mul-le-mul-left (p .width) (ok .short);
+            some = ok .some;
+            wide = ok .wide;
+            high = mul-le-mul-left (p .width) (ok .high);
             size = long;
             most = λ x h. let q = same x h in let u = patch-most p ok x h in omega arith;
           }
@@ -115,10 +112,7 @@ onLine l x = tally (λ y. eqb (getD l y 0) 0) (range 0 x)
 
 module _ (l : List ℕ) (x : ℕ) where
   pub line-few : onLine l x ≤ x
-  line-few =
-      let a = tally-length (λ y. eqb (getD l y 0) 0) (range 0 x) in
-      let c = length-range 0 x in
-      omega arith
+  line-few = tally-bound (λ y. eqb (getD l y 0) 0) x
 
   pub line-in : getD l x 0 ≡ 0 → onLine l (x + 1) ≡ onLine l x + 1
   line-in e =

@@ -3,14 +3,13 @@ use mathlib.Core.Path.{_≡_, refl, sym, ap, subst, _∙_}
 use mathlib.Core.Bool.{true}
 use mathlib.Core.Logic.{_≢_, by-cases}
 use mathlib.Core.List.{List}
-use Prim.Native.Nat.{ℕ, suc, _+_, _-_, _*_, _≤_, _<_}
+use Prim.Native.Nat.{ℕ, suc, _+_, _*_, _≤_, _<_}
 use native.Mathlib.Decide.{ℕ-discrete}
 use native.Mathlib.Numerals.{add-one}
 use native.Mathlib.Omega.{arith}
-use lib.Dec.{leb}
-use lib.ListN.{length, getD, set, drop, length-set}
-use lib.Seq.{getD-set-same, getD-set-other, drop-cons}
-use Rattle.lists.specs.Lists.{pick, tally, range, highest}
+use lib.ListN.{length, getD, set, length-set}
+use lib.Seq.{getD-set-same, getD-set-other}
+use Rattle.lists.specs.Lists.{tally, range, highest}
 use Rattle.picture.specs.Pictures.{Picture, places}
 use Rattle.picture.specs.Trees.{mapOf}
 use Rattle.picture.specs.Patches.{patches}
@@ -28,18 +27,6 @@ use Rattle.patches.specs.Figures.{depthIn, PatchPut, passed, begun, noPa
 use Rattle.lists.proofs.Blocks.{kept-refl, kept-store}
 use Rattle.patch_numbers.proofs.Numbering.{kept-row}
 use Rattle.patches.proofs.Charting.{arrays, depth-is, depth-kept}
-
--- the largest of one pixel more
-pub highest-next :
-    (l : List ℕ) (i most r : ℕ) → 1 ≤ i → i ≤ length l → most ≡ highest (drop i l) →
-    r ≡ pick (leb most (getD l (i - 1) 0)) (getD l (i - 1) 0) most → r ≡ highest (drop (i - 1) l)
-highest-next l i most r some h e q =
-    let up : suc (i - 1) ≡ i = omega arith in
-    let v = getD l (i - 1) 0 in
-    let b : i - 1 < length l = omega arith in
-    q ∙
-    (ap (λ (m : ℕ). pick (leb m v) v m) (e ∙ ap (λ (k : ℕ). highest (drop k l)) (sym up)) ∙
-    sym (ap highest (drop-cons l (i - 1) 0 b)))
 
 module _ (n : ℕ) (pixels numbers : List ℕ) (most : ℕ) (work : List ℕ) where
   pub patched-start : Patched n pixels numbers most 0 work 0 work

@@ -10,16 +10,18 @@ use lib.Dec.{eqb, ltb, leb}
 use lib.ListN.{length, getD}
 use borrow.Author.Tests.{eqb-true, leb-true, ltb-true, eq-eqb, le-leb, lt-ltb}
 use Rattle.picture.specs.Pictures.{Picture, places, withPixels, sideFits, allBytes, isPicture}
+use Rattle.picture.specs.Geometry.{Placed}
 use Rattle.picture.specs.Kept.{nowhereAbove}
 use Rattle.lists.proofs.Tests.{and-left, and-right, and-both, or-cases, or-left, or-right, clash}
+use Rattle.lists.proofs.Members.{all-at}
 
 -- what the test of an accepted picture says
 pub record Accepted (p : Picture) : Type 0 where
   pub adjacency : (p .adjacency ≡ 4) ⊎ (p .adjacency ≡ 8)
-  pub wide : 1 ≤ p .width
-  pub narrow : p .width ≤ 40
+  pub some : 1 ≤ p .width
+  pub wide : p .width ≤ 40
   pub tall : 1 ≤ p .height
-  pub short : p .height ≤ 40
+  pub high : p .height ≤ 40
   pub size : length (p .pixels) ≡ places p
   pub bytes : allBytes (p .pixels) ≡ true
 
@@ -36,10 +38,10 @@ accepted-is p h =
       adjacency =
           ⊎-elim (λ e. inl (eqb-true (p .adjacency) 4 e)) (λ e. inr (eqb-true (p .adjacency) 8 e))
           (or-cases (eqb (p .adjacency) 4) (eqb (p .adjacency) 8) a);
-      wide = leb-true 1 (p .width) (and-left (leb 1 (p .width)) (leb (p .width) 40) w);
-      narrow = leb-true (p .width) 40 (and-right (leb 1 (p .width)) (leb (p .width) 40) w);
+      some = leb-true 1 (p .width) (and-left (leb 1 (p .width)) (leb (p .width) 40) w);
+      wide = leb-true (p .width) 40 (and-right (leb 1 (p .width)) (leb (p .width) 40) w);
       tall = leb-true 1 (p .height) (and-left (leb 1 (p .height)) (leb (p .height) 40) t);
-      short = leb-true (p .height) 40 (and-right (leb 1 (p .height)) (leb (p .height) 40) t);
+      high = leb-true (p .height) 40 (and-right (leb 1 (p .height)) (leb (p .height) 40) t);
       size = eqb-true (length (p .pixels)) (places p) (and-left (eqb (length (p .pixels)) (places p)) _ h₃);
       bytes = and-right (eqb (length (p .pixels)) (places p)) (allBytes (p .pixels)) h₃;
     }
@@ -53,33 +55,35 @@ is-accepted p a =
     (λ e. or-right (eqb (p .adjacency) 4) (eq-eqb (p .adjacency) 8 e))
     (a .adjacency))
     (and-both
-    (and-both (le-leb 1 (p .width) (a .wide)) (le-leb (p .width) 40 (a .narrow)))
+    (and-both (le-leb 1 (p .width) (a .some)) (le-leb (p .width) 40 (a .wide)))
     (and-both
-    (and-both (le-leb 1 (p .height) (a .tall)) (le-leb (p .height) 40 (a .short)))
+    (and-both (le-leb 1 (p .height) (a .tall)) (le-leb (p .height) 40 (a .high)))
     (and-both
     (eq-eqb (length (p .pixels)) (places p) (a .size))
     (a .bytes))))
 
 pub places-bound : (p : Picture) → Accepted p → places p ≤ 1600
-places-bound p a = mul-le-mul (a .narrow) (a .short)
+places-bound p a = mul-le-mul (a .wide) (a .high)
+
+-- a place of it
+pub placed : (p : Picture) → Accepted p → (x : ℕ) → x < places p → Placed (p .width) (p .height) x
+placed p a x h = record { some = a .some; wide = a .wide; high = a .high; inside = h }
 
 -- other pixels in the same frame
 pub accepted-with : (p : Picture) (xs : List ℕ) → Accepted p → length xs ≡ places p → allBytes xs ≡ true → Accepted (withPixels p xs)
 accepted-with p xs a e b =
     record {
       adjacency = a .adjacency;
+      some = a .some;
       wide = a .wide;
-      narrow = a .narrow;
       tall = a .tall;
-      short = a .short;
+      high = a .high;
       size = e;
       bytes = b;
     }
 
 pub byte-at : (xs : List ℕ) → allBytes xs ≡ true → (i : ℕ) → getD xs i 0 ≤ 255
-byte-at [] h i = omega arith
-byte-at (x ∷ xs) h zero = let q = ltb-true x 256 (and-left (ltb x 256) (allBytes xs) h) in omega arith
-byte-at (x ∷ xs) h (suc i) = byte-at xs (and-right (ltb x 256) (allBytes xs) h) i
+byte-at xs h i = let q = ltb-true (getD xs i 0) 256 (all-at (λ b. ltb b 256) xs 0 refl h i) in omega arith
 
 pub at-byte : (xs : List ℕ) → ((i : ℕ) → getD xs i 0 ≤ 255) → allBytes xs ≡ true
 at-byte [] f = refl

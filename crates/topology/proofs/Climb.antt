@@ -111,7 +111,7 @@ module _ (p : Picture) (ok : Accepted p) where
       let l = n .low in
       let all-in : (z : ℕ) → z < places p → valueAt p z ≤ 255 = λ z c. byte-at (p .pixels) (ok .bytes) z in
       sym
-      (under-same p (grid-joined p (ok .wide) 255 all-in y (n .place .within)) ∙
+      (under-same p (grid-joined p (ok .some) 255 all-in y (n .place .within)) ∙
       under-root i (255 - k) k (omega arith) e y (n .place) (under-node i b))
 
   -- every node but the last has a father among the nodes, and the last is the one root

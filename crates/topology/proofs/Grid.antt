@@ -118,8 +118,8 @@ pass-byte p a x y bx by =
     let all-in : (z : ℕ) → z < places p → valueAt p z ≤ 255 = λ z b. byte-at (p .pixels) (a .bytes) z in
     pass-most p x y 255 (omega arith)
     (conn-trans
-    (joined-sym p 255 (grid-joined p (a .wide) 255 all-in x bx))
-    (grid-joined p (a .wide) 255 all-in y by))
+    (joined-sym p 255 (grid-joined p (a .some) 255 all-in x bx))
+    (grid-joined p (a .some) 255 all-in y by))
 
 -- at the pass both places are joined
 pass-from-joined : (p : Picture) (x y : ℕ) → x < places p → (l k : ℕ) → passFrom l k p x y < k + l → Joined p (passFrom l k p x y) x y

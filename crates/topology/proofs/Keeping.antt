@@ -1,13 +1,10 @@
 -- Sections of value functions, what it is to keep their connected parts, and what lowering one vertex keeps.
-use mathlib.Core.Path.{_≡_, refl, sym, ap, subst}
-use mathlib.Core.Bool.{Bool}
+use mathlib.Core.Path.{_≡_, refl, sym, subst}
 use mathlib.Core.Logic.{_⊎_, inl, inr, _↔_, _≢_, by-cases}
 use Prim.Native.Nat.{ℕ, suc, _≤_, _<_}
 use native.Mathlib.Decide.{ℕ-discrete, decLe}
 use native.Mathlib.Omega.{arith}
-use lib.Dec.{eqb}
-use borrow.Author.Tests.{eq-eqb, ne-eqb}
-use Rattle.lists.specs.Lists.{pick}
+use Rattle.lists.proofs.Updates.{put, put-same, put-other}
 use Rattle.topology.proofs.Connected.{Conn, start, step, conn-target, conn-trans, conn-sym, conn-edge, conn-mono, conn-closed}
 
 -- y is in the section of v at height k
@@ -34,18 +31,6 @@ pub record Lowers (n : ℕ) (R : ℕ → ℕ → Type 0) (v : ℕ → ℕ) (x k 
 pub record Fallen (v w : ℕ → ℕ) (x s : ℕ) : Type 0 where
   pub at : w x ≡ s
   pub other : (y : ℕ) → y ≢ x → w y ≡ v y
-
--- v with the value s at x
-pub put : (ℕ → ℕ) → ℕ → ℕ → ℕ → ℕ
-put v x s y = pick (eqb y x) s (v y)
-
-pub put-same : (v : ℕ → ℕ) (x s y : ℕ) → y ≡ x → put v x s y ≡ s
-unfolding put
-put-same v x s y e = ap (λ (b : Bool). pick b s (v y)) (eq-eqb y x e)
-
-pub put-other : (v : ℕ → ℕ) (x s y : ℕ) → y ≢ x → put v x s y ≡ v y
-unfolding put
-put-other v x s y d = ap (λ (b : Bool). pick b s (v y)) (ne-eqb y x d)
 
 pub put-fallen : (v : ℕ → ℕ) (x s : ℕ) → Fallen v (put v x s) x s
 put-fallen v x s = record { at = put-same v x s x refl; other = put-other v x s }

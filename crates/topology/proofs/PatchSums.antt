@@ -1,6 +1,6 @@
 -- The figures of the patches as sums over the places by their patch numbers, and the first place of each patch by its number.
 use mathlib.Core.Path.{_≡_, refl, sym, ap, subst, _∙_}
-use mathlib.Core.Bool.{Bool, true}
+use mathlib.Core.Bool.{true}
 use mathlib.Core.Logic.{by-cases}
 use mathlib.Core.List.{List, [], _∷_, map}
 use Prim.Native.Nat.{ℕ, suc, _+_, _-_, _*_, _≤_, _<_}
@@ -8,20 +8,19 @@ use native.Mathlib.Decide.{ℕ-discrete}
 use native.Mathlib.Omega.{arith}
 use lib.Dec.{eqb}
 use lib.ListN.{length, getD}
-use borrow.Author.Tests.{eq-eqb, ne-eqb}
 use Rattle.lists.specs.Lists.{pick, tally, range, total}
 use Rattle.picture.specs.Pictures.{Picture, places, valueAt, column, row}
 use Rattle.picture.specs.Trees.{nodeAt, componentOf, mapOf}
 use Rattle.picture.specs.Patches.{Patch, patchOf, patches, patchAt, depthOf}
-use Rattle.lists.proofs.Tests.{on-test, on-pick}
-use Rattle.lists.proofs.Lists.{range-mem, tally-length, length-range}
+use Rattle.lists.proofs.Tests.{on-test, on-pick, pick-in, pick-out}
+use Rattle.lists.proofs.Lists.{range-mem}
 use Rattle.topology.proofs.Connected.{start}
 use Rattle.topology.proofs.Adjacency.{At}
 use Rattle.topology.proofs.Accepted.{Accepted}
 use Rattle.topology.proofs.Reached.{firstAt, first-least, first-at}
 use Rattle.lists.proofs.Numbers.{map-same}
 use Rattle.topology.proofs.Leaves.{leafAt, bottom, leaf, is-bottom}
-use Rattle.lists.proofs.Positions.{tally-range, tally-reach}
+use Rattle.lists.proofs.Positions.{tally-range, tally-bound, tally-reach}
 use Rattle.lists.proofs.Sums.{total-select, total-next, total-most}
 use Rattle.topology.proofs.PatchNumbers.{patch-in, patch-out}
 use Rattle.topology.proofs.PatchFigures.{bottom-number, patch-members, patches-count, patch-record}
@@ -42,7 +41,7 @@ module _ (g : ℕ → ℕ) (numbers : List ℕ) (c : ℕ) where
       let z : 0 + m ≡ m = omega arith in
       total-next term 0 m ∙
       ap (λ (v : ℕ). total (map term (range 0 m)) + v)
-      (ap term z ∙ ap (λ (b : Bool). pick b (g m) 0) (eq-eqb (getD numbers m 0) c e))
+      (ap term z ∙ pick-in (getD numbers m 0) c (g m) 0 e)
     where
       term : ℕ → ℕ
       term x = pick (eqb (getD numbers x 0) c) (g x) 0
@@ -51,7 +50,7 @@ module _ (g : ℕ → ℕ) (numbers : List ℕ) (c : ℕ) where
   unfolding sumAt
   sum-out m d =
       let z : 0 + m ≡ m = omega arith in
-      let q = ap term z ∙ ap (λ (b : Bool). pick b (g m) 0) (ne-eqb (getD numbers m 0) c d) in
+      let q = ap term z ∙ pick-out (getD numbers m 0) c (g m) 0 d in
       let r = total-next term 0 m in
       omega arith
     where
@@ -93,8 +92,7 @@ module _ (p : Picture) (ok : Accepted p) where
   pub count-few : length (patches p) ≤ places p
   count-few =
       let a = patches-count p ok in
-      let b = tally-length (bottom p) (range 0 (places p)) in
-      let c = length-range 0 (places p) in
+      let b = tally-bound (bottom p) (places p) in
       omega arith
 
   pub patch-most : (x : ℕ) → x < places p → patchAt p x ≤ places p
@@ -105,8 +103,7 @@ module _ (p : Picture) (ok : Accepted p) where
       let s : At p k x = record { within = b; low = omega arith } in
       let z = firstAt p k x in
       let w = first-at p k x s .within in
-      let t = tally-length (bottom p) (range 0 (suc z)) in
-      let c = length-range 0 (suc z) in
+      let t = tally-bound (bottom p) (suc z) in
       let n = patch-in p ok x b l in
       omega arith)
       (λ l. let o = patch-out p ok x b l in omega arith)

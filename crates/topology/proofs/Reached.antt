@@ -12,7 +12,8 @@ use Rattle.lists.specs.Lists.{tally, select, range, isIn, headOf}
 use Rattle.picture.specs.Pictures.{Picture, places, touch}
 use Rattle.picture.specs.Components.{inSection, touchesSome, grown, spread, componentAt}
 use Rattle.lists.proofs.Tests.{and-left, and-right, and-both, or-left, or-right, or-cases, on-elim, same-test, clash}
-use Rattle.lists.proofs.Lists.{any-mem, mem-any, select-mem, mem-select, length-select, tally-length, tally-stronger, tally-equal, in-mem, mem-in, length-range, range-mem, mem-range}
+use Rattle.lists.proofs.Lists.{any-mem, mem-any, select-mem, mem-select, length-select, tally-stronger, tally-equal, in-mem, mem-in, range-mem, mem-range}
+use Rattle.lists.proofs.Positions.{tally-bound}
 use Rattle.lists.proofs.Rising.{Rising, none, more, rising-select, rising-equal, head-in}
 use Rattle.topology.proofs.Connected.{start, step, conn-source, conn-target, conn-trans, conn-closed}
 use Rattle.topology.proofs.Adjacency.{Adj, At, Joined, adj-sym, joined-sym, section-at, at-section}
@@ -52,8 +53,7 @@ module _ (p : Picture) (k : ℕ) where
     length-places : length c ≤ places p
     length-places =
         let a = length-tally in
-        let b = tally-length (λ y. isIn y c) (range 0 (places p)) in
-        let d = length-range 0 (places p) in
+        let b = tally-bound (λ y. isIn y c) (places p) in
         omega arith
 
     stays : (y : ℕ) → isIn y c ≡ true → grows c y ≡ true

@@ -14,6 +14,7 @@ use Rattle.lists.specs.Lists.{pick, range, total}
 use Rattle.picture.specs.Pictures.{Picture, places, valueAt, withPixels}
 use Rattle.picture.specs.Watersheds.{lowerable, bestFrom, best, lowered, waterFrom, watershed}
 use Rattle.lists.proofs.Tests.{and-left, and-right, and-both, or-cases, or-right, on-test, on-pick, on-elim, clash}
+use Rattle.lists.proofs.Numbers.{below-suc}
 use Rattle.lists.proofs.Sums.{total-lowered}
 use Rattle.topology.proofs.Keeping.{Keeps, Lowers, Fallen, keeps-refl, keeps-compose, lowering-keeps}
 use Rattle.topology.proofs.Adjacency.{Adj, adj-sym}
@@ -35,10 +36,6 @@ module _ (p : Picture) where
   leads-trans x y z h (ties e g) = less (omega arith)
 
   -- one place more
-  below-suc : (x : ℕ) (P : ℕ → Type 0) → ((y : ℕ) → y < x → P y) → P x → (y : ℕ) → y < suc x → P y
-  below-suc x P f g y h =
-      by-cases (ℕ-discrete y x) (λ e. subst P (sym e) g) (λ d. f y (omega arith))
-
   best-step : (x b : ℕ) → Best p x b → Best p (suc x) (pick (lowerable p x && (eqb b 0 || ltb (valueAt p x) (valueAt p (b - 1)))) (suc x) b)
   best-step x b (nobody f) =
       on-pick (Best p (suc x)) (lowerable p x && (eqb 0 0 || ltb (valueAt p x) (valueAt p (0 - 1))))

@@ -15,7 +15,8 @@ use Rattle.topology.proofs.Adjacency.{Adj, At, Joined, adj-sym, joined-sym}
 use Rattle.topology.proofs.Accepted.{Accepted, byte-at, places-bound}
 use Rattle.topology.proofs.Nodes.{nodes-few}
 use Rattle.tree_laws.proofs.Beneath.{Low, beneath, beneath-number}
-use Rattle.tree_laws.proofs.Levels.{put, relink, relink-moved, relink-kept, relink-same, State, nothing, single, several, Level, Upto, Edges, edges-lower, Merged, merged-exchange, met, met-number, linked}
+use Rattle.lists.proofs.Updates.{put}
+use Rattle.tree_laws.proofs.Levels.{relink, relink-moved, relink-kept, relink-same, State, nothing, single, several, Level, Upto, Edges, edges-lower, Merged, merged-exchange, met, met-number, linked}
 use Rattle.tree_laws.proofs.Counts.{soFar}
 use Rattle.tree_laws.proofs.Forests.{Forest, Found, root-cell, Ordered, ordered-less, in-order, forest-link}
 use Rattle.tree_laws.proofs.Marks.{Names}
@@ -116,7 +117,7 @@ module _ (p : Picture) (ok : Accepted p) (k x : ℕ) where
 
       done : (y : ℕ) → Upto p k x y → Adj p x y → n .root y ≡ n .root x
       done y u t =
-          let (i, b, e) = neighbour-index p x y (ok .wide) (u .within) t in
+          let (i, b, e) = neighbour-index p x y (ok .some) (u .within) t in
           ap (n .root) (sym e) ∙ n .seen i b (subst (Upto p k x) (sym e) u)
 
   module _ (j r : ℕ) (l : List ℕ) (fa : ℕ → ℕ) (n : Near p k x j r l fa) where

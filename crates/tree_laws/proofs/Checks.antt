@@ -11,7 +11,8 @@ use Rattle.picture.specs.Pictures.{Picture, places}
 use Rattle.picture.specs.Trees.{nodes, nodeAt, fatherOf, mapOf}
 use Rattle.lists.proofs.Tests.{clash}
 use Rattle.topology.proofs.Accepted.{Accepted}
-use Rattle.tree_laws.proofs.Levels.{put, put-same, put-other, Merged, left, right, both}
+use Rattle.lists.proofs.Updates.{put, put-same, put-other}
+use Rattle.tree_laws.proofs.Levels.{Merged, left, right, both}
 use Rattle.tree_laws.proofs.Forests.{Found, ordered, ordered-most, Hung, hung-size, Parents, forest-parents}
 use Rattle.tree_laws.proofs.Marks.{Names}
 use Rattle.tree_laws.proofs.Absorbing.{Classes, Near, Edge, Linkable, edge-touch, edge-within, near-skip, near-same, near-linkable, near-linked, near-met}

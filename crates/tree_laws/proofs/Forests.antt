@@ -7,7 +7,8 @@ use native.Mathlib.Decide.{ℕ-discrete, decLt}
 use native.Mathlib.Omega.{arith}
 use lib.ListN.{length, getD, set, length-set}
 use lib.Seq.{getD-set-same, getD-set-other}
-use Rattle.tree_laws.proofs.Levels.{put, put-same, put-other, relink, relink-moved, relink-kept, relink-same}
+use Rattle.lists.proofs.Updates.{put, put-same, put-other}
+use Rattle.tree_laws.proofs.Levels.{relink, relink-moved, relink-kept, relink-same}
 
 -- every parent is a smaller place
 pub record Parents (l : List ℕ) : Type 0 where

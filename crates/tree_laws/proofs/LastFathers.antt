@@ -23,7 +23,7 @@ last-father p ok root st f i b (unmet z h l q t) =
     let all-in : (y : ℕ) → y < places p → valueAt p y ≤ 255 = λ y g. byte-at (p .pixels) (ok .bytes) y in
     let last : ℕ = length (nodes p) - 1 in
     let top = root-is p ok last (omega arith) (last-root p ok last (omega arith)) in
-    let same = under-same p (grid-joined p (ok .wide) 255 all-in z (l .within)) in
+    let same = under-same p (grid-joined p (ok .some) 255 all-in z (l .within)) in
     let w = beneath-next p 255 z in
     let e : last ≡ i = omega arith in
     missing h (ap (λ (j : ℕ). fatherOf p (nodeAt p j)) (sym e) ∙ last-root p ok last (omega arith))

@@ -1,17 +1,16 @@
 -- The classes of places while the pixels of one height are joined: what their roots say of the components beneath, and what a link keeps.
 use mathlib.Core.Path.{_≡_, refl, sym, ap, subst, _∙_}
-use mathlib.Core.Bool.{Bool}
 use mathlib.Core.Logic.{_⊎_, inl, inr, ⊎-elim, by-cases, _≢_, ⊎-swap}
 use Prim.Native.Nat.{ℕ, zero, suc, _+_, _≤_, _<_}
 use native.Mathlib.Decide.{ℕ-discrete}
 use native.Mathlib.Omega.{arith}
 use lib.Dec.{eqb}
 use lib.ListN.{length}
-use borrow.Author.Tests.{eq-eqb, ne-eqb}
 use Rattle.lists.specs.Lists.{pick}
 use Rattle.picture.specs.Pictures.{Picture, places, valueAt}
 use Rattle.picture.specs.Trees.{nodes, nodeAt, fatherOf, mapOf}
-pub use Rattle.topology.proofs.Keeping.{put, put-same, put-other}
+use Rattle.lists.proofs.Tests.{pick-in, pick-out}
+use Rattle.lists.proofs.Updates.{put, put-same, put-other}
 use Rattle.topology.proofs.Connected.{conn-source, conn-target, conn-trans, conn-closed}
 use Rattle.topology.proofs.Adjacency.{Adj, At, Joined, joined-sym}
 use Rattle.topology.proofs.Accepted.{Accepted, places-bound}
@@ -24,11 +23,11 @@ relink root lo hi z = pick (eqb (root z) hi) lo (root z)
 
 pub relink-moved : (root : ℕ → ℕ) (lo hi z : ℕ) → root z ≡ hi → relink root lo hi z ≡ lo
 unfolding relink
-relink-moved root lo hi z e = ap (λ (b : Bool). pick b lo (root z)) (eq-eqb (root z) hi e)
+relink-moved root lo hi z e = pick-in (root z) hi lo (root z) e
 
 pub relink-kept : (root : ℕ → ℕ) (lo hi z : ℕ) → root z ≢ hi → relink root lo hi z ≡ root z
 unfolding relink
-relink-kept root lo hi z d = ap (λ (b : Bool). pick b lo (root z)) (ne-eqb (root z) hi d)
+relink-kept root lo hi z d = pick-out (root z) hi lo (root z) d
 
 pub relink-same : (root : ℕ → ℕ) (lo hi y z : ℕ) → root y ≡ root z → relink root lo hi y ≡ relink root lo hi z
 relink-same root lo hi y z e =

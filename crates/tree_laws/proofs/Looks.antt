@@ -11,7 +11,7 @@ use lib.ListN.{length, getD}
 use Rattle.picture.specs.Pictures.{Picture, valueAt}
 use Rattle.picture.specs.Geometry.{neighboursIn, Placed}
 use Rattle.lists.proofs.Tests.{clash}
-use Rattle.topology.proofs.Accepted.{Accepted}
+use Rattle.topology.proofs.Accepted.{Accepted, placed}
 use Rattle.tree_laws.proofs.Levels.{Upto}
 use Rattle.tree_laws.proofs.Forests.{Found, Parents, forest-parents}
 use Rattle.tree_laws.proofs.Marks.{Names}
@@ -41,7 +41,7 @@ passed-not p k x l fs m d = record { yes = λ e. absurd (clash e refl); never = 
 module _ (p : Picture) (k x : ℕ) where
   pub checking-placed : (l fs m : List ℕ) → Checking p k x l fs m → x < length l → Placed (p .width) (p .height) x
   checking-placed l fs m c b =
-      record { some = c .ok .wide; wide = c .ok .narrow; high = c .ok .short; inside = let e = c .classes .size in omega arith }
+      placed p (c .ok) x (let e = c .classes .size in omega arith)
 
   pub checking-parents : (l fs m : List ℕ) → Checking p k x l fs m → Parents l
   checking-parents l fs m c = forest-parents (c .classes .forest)

@@ -63,7 +63,7 @@ pub name-start : (k c d : ℕ) (l w : List ℕ) → NameReady k c d l w → Name
 name-start k c d l w r =
     record {
       from = omega arith;
-      most = r .listing .order;
+      most = r .listing .roots .order;
       size = refl;
       same = refl;
       naming = λ p s. naming-start p k c d (places p) l w s (omega arith);
@@ -78,7 +78,7 @@ name-bounds k c d i l w m v r s h = by (r .p) (s .naming (r .p) (r .listing))
         let a = places-bound p (n .ok) in
         let e = n .size in
         let z = n .room in
-        let f = n .listed .place i (s .from) h .within in
+        let f = n .listed .roots .place i (s .from) h .within in
         let q = n .rest (3 * places p + i) (λ t. omega arith) (λ t. omega arith) in
         let at : getD v (3 * length m + i) 0 ≡ getD v (3 * places p + i) 0 = ap (λ (t : ℕ). getD v (3 * t + i) 0) e in
         record { few = omega arith; within = omega arith; room = omega arith; root = omega arith }

@@ -13,7 +13,8 @@ use Rattle.topology.proofs.Adjacency.{At}
 use Rattle.topology.proofs.Accepted.{Accepted}
 use Rattle.topology.proofs.Nodes.{nodes-few}
 use Rattle.topology.proofs.Descent.{under}
-use Rattle.tree_laws.proofs.Levels.{put, put-same, put-other, Level, Edges}
+use Rattle.lists.proofs.Updates.{put, put-same, put-other}
+use Rattle.tree_laws.proofs.Levels.{Level, Edges}
 use Rattle.tree_laws.proofs.Counts.{soFar, so-few}
 use Rattle.tree_laws.proofs.Numbering.{Member, RootsListed, Numbered, number-new, count-next, next-level, named-all, edges-next}
 use Rattle.tree_laws.proofs.Forests.{Forest, forest-state}
@@ -157,13 +158,13 @@ module _ (p : Picture) (k c d : ℕ) where
       other y q = put-other (s .new) r (2048 + i) y q
 
       differ : (j : ℕ) → c ≤ j → j < i → firstsIn p w j ≢ firstsIn p w i
-      differ j g h q = let o = s .listed .rising j i g h b in omega arith
+      differ j g h q = let o = s .listed .roots .rising j i g h b in omega arith
 
       forest′ : Forest (set l r (2048 + i)) (s .root) (put (s .new) r (2048 + i))
       forest′ =
           forest-state l r (2048 + i) (s .root) (s .new) (s .forest)
-          (let z = s .listed .place i a b .within in let g = s .size in omega (arith, is-r))
-          (ap (s .root) is-r ∙ (s .listed .fixed i a b ∙ sym is-r))
+          (let z = s .listed .roots .place i a b .within in let g = s .size in omega (arith, is-r))
+          (ap (s .root) is-r ∙ (s .listed .roots .fixed i a b ∙ sym is-r))
           (omega arith)
 
       cell-far : (j : ℕ) → j < places p → getD (set (set v i k) (places p + i) 65535) j 0 ≡ getD (set v i k) j 0
@@ -176,7 +177,7 @@ module _ (p : Picture) (k c d : ℕ) where
         named = s .named;
         others = s .others;
         fresh = s .fresh;
-        old = λ i h. s .rest (places p + i) (λ a. omega (arith, s .listed .order)) (λ a. omega arith);
+        old = λ i h. s .rest (places p + i) (λ a. omega (arith, s .listed .roots .order)) (λ a. omega arith);
       }
 
   pub naming-end : (x : ℕ) (l w v : List ℕ) → Naming p k c d d l w v → NextOfValue p k 0 x → Mapping p k d x l v

@@ -34,14 +34,28 @@ pub record Member (f : ℕ → ℕ) (c d y : ℕ) : Type 0 where
   pub to : at < d
   pub is : f at ≡ y
 
--- f lists the roots that no branch has, rising, from c on, before d
-pub record RootsListed (p : Picture) (k c d : ℕ) (f root st : ℕ → ℕ) : Type 0 where
+-- from c on, before d, f has roots that no branch has, rising
+pub record NewRoots (p : Picture) (k c d : ℕ) (f root st : ℕ → ℕ) : Type 0 where
   pub order : c ≤ d
   pub rising : (i j : ℕ) → c ≤ i → i < j → j < d → f i < f j
   pub place : (i : ℕ) → c ≤ i → i < d → At p k (f i)
   pub fixed : (i : ℕ) → c ≤ i → i < d → root (f i) ≡ f i
   pub free : (i : ℕ) → c ≤ i → i < d → 65534 ≤ st (f i)
+
+-- all of them
+pub record RootsListed (p : Picture) (k c d : ℕ) (f root st : ℕ → ℕ) : Type 0 where
+  pub roots : NewRoots p k c d f root st
   pub complete : (y : ℕ) → At p k y → root y ≡ y → 65534 ≤ st y → Member f c d y
+
+pub roots-none : (p : Picture) (k c : ℕ) (f root st : ℕ → ℕ) → NewRoots p k c c f root st
+roots-none p k c f root st =
+    record {
+      order = omega arith;
+      rising = λ i j a b h. absurd (omega arith);
+      place = λ i a b. absurd (omega arith);
+      fixed = λ i a b. absurd (omega arith);
+      free = λ i a b. absurd (omega arith);
+    }
 
 -- the listed roots have their numbers, the other states and fathers are as they were
 pub record Numbered (p : Picture) (c d : ℕ) (f root st new fa fb : ℕ → ℕ) : Type 0 where
@@ -132,10 +146,10 @@ module _ (p : Picture) (ok : Accepted p) (k c : ℕ) (low : k ≤ 255) (root st 
 
   -- a list of some new roots that lacks one is shorter than the definition's
   pub nodes-more :
-      (d : ℕ) (f : ℕ → ℕ) → c ≤ d → ((i j : ℕ) → c ≤ i → i < j → j < d → f i < f j) → ((i : ℕ) → c ≤ i → i < d → At p k (f i)) →
-      ((i : ℕ) → c ≤ i → i < d → root (f i) ≡ f i) → ((i : ℕ) → c ≤ i → i < d → 65534 ≤ st (f i)) →
+      (d : ℕ) (f : ℕ → ℕ) → NewRoots p k c d f root st →
       (r : ℕ) → At p k r → root r ≡ r → 65534 ≤ st r → (Member f c d r → ⊥) → d - c < length (nodesAt p k)
-  nodes-more d f order rising place fixed free r s q g lacks =
+  nodes-more d f l r s q g lacks =
+      let order = l .order in
       let all = range 0 (places p) in
       let size = ap length (nodes-at p k) ∙ (length-map defined (node k) ∙ length-select (isNode p k) all) in
       let part = sym (length-range c (d - c)) ∙ (sym (length-map (range c (d - c)) f) ∙ (ap length as-select ∙ length-select here all)) in
@@ -162,6 +176,7 @@ module _ (p : Picture) (ok : Accepted p) (k c : ℕ) (low : k ≤ 255) (root st 
 
       member-of : (y : ℕ) → List·Memᴰ y listed → Member f c d y
       member-of y m =
+          let order = l .order in
           let (i, n, e) = Memᴰ·of-map f (range c (d - c)) m in
           let (a, b) = range-mem c (d - c) n in
           record { at = i; from = a; to = omega arith; is = e }
@@ -170,17 +185,18 @@ module _ (p : Picture) (ok : Accepted p) (k c : ℕ) (low : k ≤ 255) (root st 
       sound y h =
           let t = member-of y (in-mem y listed h) in
           subst (λ (z : ℕ). isNode p k z ≡ true) (t .is)
-          (node-test (f (t .at)) (place (t .at) (t .from) (t .to)) (fixed (t .at) (t .from) (t .to)) (free (t .at) (t .from) (t .to)))
+          (node-test (f (t .at)) (l .place (t .at) (t .from) (t .to)) (l .fixed (t .at) (t .from) (t .to)) (l .free (t .at) (t .from) (t .to)))
 
       within : (y : ℕ) → here y ≡ true → y < places p
       within y h =
           let t = member-of y (in-mem y listed h) in
-          subst (λ (z : ℕ). z < places p) (t .is) (place (t .at) (t .from) (t .to) .within)
+          subst (λ (z : ℕ). z < places p) (t .is) (l .place (t .at) (t .from) (t .to) .within)
 
       as-select : listed ≡ select here (range 0 (places p))
       as-select =
+          let order = l .order in
           rising-equal
-          (rising-map f 0 c (d - c) (λ i a b. omega arith) (λ i j a b h. rising i j a b (omega arith)))
+          (rising-map f 0 c (d - c) (λ i a b. omega arith) (λ i j a b h. l .rising i j a b (omega arith)))
           (rising-select here 0 (places p))
           (λ y.
           same-test (isIn y listed) (isIn y (select here (range 0 (places p))))
@@ -196,22 +212,22 @@ module _ (p : Picture) (ok : Accepted p) (k c : ℕ) (low : k ≤ 255) (root st 
 
     list-same : listed ≡ defined
     list-same =
-        let o = l .order in
+        let o = l .roots .order in
         rising-equal
-        (rising-map f 0 c (d - c) (λ i a b. omega arith) (λ i j a b q. l .rising i j a b (omega arith)))
+        (rising-map f 0 c (d - c) (λ i a b. omega arith) (λ i j a b q. l .roots .rising i j a b (omega arith)))
         (rising-select (isNode p k) 0 (places p))
         (λ y. same-test (isIn y listed) (isIn y defined) (λ h. mem-in y defined (forth y (in-mem y listed h))) (λ h. mem-in y listed (back y (in-mem y defined h))))
       where
         forth : (y : ℕ) → List·Memᴰ y listed → List·Memᴰ y defined
         forth y m =
-            let o = l .order in
+            let o = l .roots .order in
             let (i, n, q) = Memᴰ·of-map f (range c (d - c)) m in
             let (a, b) = range-mem c (d - c) n in
             let b : i < d = omega arith in
             subst (λ (z : ℕ). List·Memᴰ z defined) q
             (mem-select (isNode p k) (range 0 (places p))
-            (mem-range 0 (places p) (omega arith) (omega (arith, l .place i a b .within)))
-            (node-test (f i) (l .place i a b) (l .fixed i a b) (l .free i a b)))
+            (mem-range 0 (places p) (omega arith) (omega (arith, l .roots .place i a b .within)))
+            (node-test (f i) (l .roots .place i a b) (l .roots .fixed i a b) (l .roots .free i a b)))
 
         back : (y : ℕ) → List·Memᴰ y defined → List·Memᴰ y listed
         back y m =
@@ -234,7 +250,7 @@ module _ (p : Picture) (ok : Accepted p) (k c : ℕ) (low : k ≤ 255) (root st 
     module _ (n : c ≡ soFar p k) where
       pub count-next : d ≡ soFar p (suc k)
       count-next =
-          let o = l .order in
+          let o = l .roots .order in
           let a = so-next p k in
           let b = count-listed in
           omega arith
@@ -272,7 +288,7 @@ module _ (p : Picture) (ok : Accepted p) (k c : ℕ) (low : k ≤ 255) (root st 
                 let q = ap new-st (t .is) in
                 omega arith
             by (old h b) =
-                m .others y (s .within) r (λ t. let g = l .free (t .at) (t .from) (t .to) in let q = ap st (t .is) in omega arith) ∙ h
+                m .others y (s .within) r (λ t. let g = l .roots .free (t .at) (t .from) (t .to) in let q = ap st (t .is) in omega arith) ∙ h
 
         -- every place of the section has a root that says its node
         pub named-all : (y : ℕ) → At p k y → new-st (root y) ≡ 2048 + under p k y
@@ -285,7 +301,7 @@ module _ (p : Picture) (ok : Accepted p) (k c : ℕ) (low : k ≤ 255) (root st 
             let bound : i < 1600 = let a = v .few in let u = nodes-few p in let w = places-bound p ok in omega arith in
             let stays : new-st (root z) ≡ 2048 + i =
             m .others (root z) (root-at z (low-at p g) .within) (v .fixed z (g .within))
-            (λ r. let u = l .free (r .at) (r .from) (r .to) in let w = ap st (r .is) in omega arith) ∙
+            (λ r. let u = l .roots .free (r .at) (r .from) (r .to) in let w = ap st (r .is) in omega arith) ∙
             t
             in
             let all = named-all z (low-at p g) in
@@ -293,14 +309,14 @@ module _ (p : Picture) (ok : Accepted p) (k c : ℕ) (low : k ≤ 255) (root st 
 
         father-fresh : (i : ℕ) → c ≤ i → i < d → Father p (suc k) root new-st (fb i) i
         father-fresh i a b =
-            let s = l .place i a b in
-            let says : new-st (root (f i)) ≡ 2048 + i = ap new-st (l .fixed i a b) ∙ m .named i a b in
+            let s = l .roots .place i a b in
+            let says : new-st (root (f i)) ≡ 2048 + i = ap new-st (l .roots .fixed i a b) ∙ m .named i a b in
             let all = named-all (f i) s in
             unmet (f i) (m .fresh i a b) (at-low p s) (beneath-next p k (f i) ∙ omega arith) says
 
         not-listed : (y : ℕ) → k < valueAt p y → Member f c d y → ⊥
         not-listed y h t =
-            let s = l .place (t .at) (t .from) (t .to) .low in let q = ap (valueAt p) (t .is) in omega arith
+            let s = l .roots .place (t .at) (t .from) (t .to) .low in let q = ap (valueAt p) (t .is) in omega arith
 
         pub next-level : Level p (suc k) d root new-st fb
         next-level =

@@ -8,7 +8,7 @@ use native.Mathlib.Omega.{arith}
 use lib.ListN.{length, getD}
 use Rattle.picture.specs.Pictures.{Picture, places, valueAt}
 use Rattle.picture.specs.Geometry.{neighboursIn, Placed}
-use Rattle.topology.proofs.Accepted.{Accepted}
+use Rattle.topology.proofs.Accepted.{Accepted, placed}
 use Rattle.tree_laws.proofs.Levels.{Upto}
 use Rattle.lists.specs.Blocks.{UntouchedOutside}
 use Rattle.lists.proofs.Blocks.{kept-refl, kept-trans}
@@ -118,13 +118,7 @@ module _ (p : Picture) (k x : ℕ) where
       }
 
 pub ready-placed : (p : Picture) (k x : ℕ) (l w : List ℕ) → WalkReady p k x l w → x < length l → Placed (p .width) (p .height) x
-ready-placed p k x l w r b =
-    record {
-      some = r .ok .wide;
-      wide = r .ok .narrow;
-      high = r .ok .short;
-      inside = let e = r .classes .size in omega arith;
-    }
+ready-placed p k x l w r b = placed p (r .ok) x (let e = r .classes .size in omega arith)
 
 -- the chain of a height is done
 pub ready-end : (p : Picture) (k x : ℕ) (l w : List ℕ) → WalkReady p k x l w → places p ≤ x → WalkReady p k (places p) l w

@@ -22,8 +22,8 @@ use Rattle.tree_laws.proofs.Numbering.{level-start, edges-start}
 use Rattle.tree_laws.proofs.Checks.{Checking}
 use Rattle.tree_laws.proofs.Looks.{Passed}
 use Rattle.verify.specs.Checked.{Says}
-use Rattle.verify_nodes.specs.Steps.{Run, Counted, Matched, CountReady, NodesChecked, LentMapReady, MapChecked, Verified}
-use Rattle.verify.specs.Heights.{ListsLong, LevelChecked}
+use Rattle.verify_nodes.specs.Steps.{SameHeights, Counted, Matched, CountReady, NodesChecked, LentMapReady, MapChecked}
+use Rattle.verify.specs.Heights.{ListsLong, Verified, LevelChecked}
 use Rattle.verify_nodes.proofs.Counted.{counted-start}
 use Rattle.verify_nodes.proofs.Matched.{matched-start}
 use Rattle.verify.proofs.Verified.{differs-tree, verified-next, verified-tree, tree-ends}
@@ -84,7 +84,7 @@ module _ (p : Picture) (count : ℕ) (hs fs ss m : List ℕ) where
       pub level-count : CountReady (p .pixels) k c o ss
       level-count = record { p = p; fs = fs; m = m; is = refl; counted = counted }
 
-      module _ (d : ℕ) (run : Run k c d count hs) (u : List ℕ) (a : Bool) (n : NodesChecked (p .pixels) k c d o ss u a) where
+      module _ (d : ℕ) (run : SameHeights k c d count hs) (u : List ℕ) (a : Bool) (n : NodesChecked (p .pixels) k c d o ss u a) where
         pub level-nodes : (z : ℕ) → z ≡ count + 1 → a ≡ false → LevelChecked p k count u hs fs ss m z
         level-nodes z e g =
             record { yes = λ h. absurd (omega arith); never = λ h t. n .never g p fs m refl counted count hs run t }
@@ -126,7 +126,7 @@ module _ (p : Picture) (count : ℕ) (hs fs ss m : List ℕ) where
         never =
             λ q t.
             let a = accepted-is p ok in
-            let some = under-is p 255 0 (omega arith) (record { within = mul-pos (a .wide) (a .tall); low = byte-at (p .pixels) (a .bytes) 0 }) .number in
+            let some = under-is p 255 0 (omega arith) (record { within = mul-pos (a .some) (a .tall); low = byte-at (p .pixels) (a .bytes) 0 }) .number in
             let total = t .total in
             omega arith;
       }
@@ -159,8 +159,8 @@ module _ (p : Picture) (count : ℕ) (hs fs ss m : List ℕ) where
       says-tree q =
           record { yes = λ z. verified-tree p count l hs fs ss m verified q; never = λ z. absurd (clash refl z) }
 
-pub sizes-at : (n : ℕ) (xs hs fs ss m o l : List ℕ) → length l ≡ length o → ListsLong n xs hs fs ss m o → ListsLong n xs hs fs ss m l
-sizes-at n xs hs fs ss m o l e s =
+pub lists-long-at : (n : ℕ) (xs hs fs ss m o l : List ℕ) → length l ≡ length o → ListsLong n xs hs fs ss m o → ListsLong n xs hs fs ss m l
+lists-long-at n xs hs fs ss m o l e s =
     record {
       count = let a = s .count in omega arith;
       few = let a = s .few in omega arith;
@@ -171,10 +171,10 @@ sizes-at n xs hs fs ss m o l e s =
       map = let a = s .map in omega arith;
     }
 
-pub sizes-of :
+pub lists-long-of :
     (p : Picture) (n : ℕ) (hs fs ss m l : List ℕ) → isPicture p ≡ true → length l ≡ places p → n ≤ length l → places p ≤ length hs → places p ≤ length fs →
     places p ≤ length ss → places p ≤ length m → ListsLong n (p .pixels) hs fs ss m l
-sizes-of p n hs fs ss m l ok e h a b c d =
+lists-long-of p n hs fs ss m l ok e h a b c d =
     let k = accepted-is p ok in
     let few = places-bound p k in
     let size = k .size in

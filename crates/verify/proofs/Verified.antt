@@ -21,7 +21,8 @@ use Rattle.tree_laws.proofs.Numbering.{Member, joined-root, free-fork}
 use Rattle.tree_laws.proofs.LastFathers.{LastFather, missing, pixel, last-father}
 use Rattle.tree_laws.proofs.Checks.{Differs}
 use Rattle.lent_tree.specs.Lent.{HoldsTree}
-use Rattle.verify_nodes.specs.Steps.{Run, Matched, Verified}
+use Rattle.verify_nodes.specs.Steps.{SameHeights, Matched}
+use Rattle.verify.specs.Heights.{Verified}
 use Rattle.verify_nodes.proofs.Matched.{says, count-is, node-new, checking-next}
 
 -- a lent node whose father and a pixel's node differ is no tree's
@@ -45,7 +46,7 @@ matched-complete p k c d x l fs ss m s h y at r g =
 
 -- the next height
 pub verified-next :
-    (p : Picture) (k c d count : ℕ) (o l hs fs ss m : List ℕ) → Verified p k c count o hs fs ss m → Run k c d count hs →
+    (p : Picture) (k c d count : ℕ) (o l hs fs ss m : List ℕ) → Verified p k c count o hs fs ss m → SameHeights k c d count hs →
     (x : ℕ) → Matched p k c d x l fs ss m → places p ≤ x → Verified p (suc k) d count l hs fs ss m
 verified-next p k c d count o l hs fs ss m v run x s h =
     let g = s .counted in
@@ -131,4 +132,4 @@ tree-ends p c count l hs fs ss m v t =
     ok = v .checking .ok
 
     first : 0 < places p
-    first = mul-pos (ok .wide) (ok .tall)
+    first = mul-pos (ok .some) (ok .tall)

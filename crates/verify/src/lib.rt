@@ -12,8 +12,7 @@ ghost use Prim.Native.Nat.{_<_, _≤_, _+_, _*_};
 ghost use lib.ListN.{length, drop};
 ghost use Rattle.picture.specs.Pictures.{isPicture, pictureOf};
 ghost use Rattle.verify.specs.Checked.{Says};
-ghost use Rattle.verify_nodes.specs.Steps.{Verified};
-ghost use Rattle.verify.specs.Heights.{ListsLong, LevelChecked};
+ghost use Rattle.verify.specs.Heights.{ListsLong, Verified, LevelChecked};
 
 // The height k: answers the number of nodes up to it, or more than the count if the lists are not the tree.
 fn check_level(

@@ -14,13 +14,14 @@ use Rattle.picture.specs.Trees.{isBranch, nodes, nodeAt}
 use Rattle.topology.proofs.Adjacency.{At}
 use Rattle.topology.proofs.Reached.{firstAt}
 use Rattle.topology.proofs.Nodes.{node-is}
-use Rattle.tree_laws.proofs.Levels.{put, put-same, put-other, Level}
+use Rattle.lists.proofs.Updates.{put, put-same, put-other}
+use Rattle.tree_laws.proofs.Levels.{Level}
 use Rattle.tree_laws.proofs.Counts.{soFar}
-use Rattle.tree_laws.proofs.Numbering.{root-first, fork-free}
+use Rattle.tree_laws.proofs.Numbering.{roots-none, root-first, fork-free}
 use Rattle.tree_laws.proofs.Forests.{root-cell, forest-state}
 use Rattle.tree_laws.proofs.Checks.{Checking}
 use Rattle.lent_tree.specs.Lent.{HoldsTree}
-use Rattle.verify_nodes.specs.Steps.{Run, Counted, NodeFits}
+use Rattle.verify_nodes.specs.Steps.{SameHeights, Counted, NodeFits}
 use Rattle.verify_nodes.proofs.Places.{firsts-rise}
 
 pub counted-start : (p : Picture) (k c : ℕ) (l fs ss m : List ℕ) → k ≤ 255 → c ≡ soFar p k → Checking p k (places p) l fs m → Counted p k c c l fs ss m
@@ -38,11 +39,7 @@ counted-start p k c l fs ss m low e s =
       forest = s .classes .forest;
       level = subst (λ (j : ℕ). Level p k j (s .classes .root) (s .classes .st) (s .fa)) (sym e) (s .classes .level);
       edges = s .classes .edges;
-      order = omega arith;
-      rising = λ a b h g i. absurd (omega arith);
-      place = λ j h g. absurd (omega arith);
-      fixed = λ j h g. absurd (omega arith);
-      free = λ j h g. absurd (omega arith);
+      roots = roots-none p k c (λ j. getD ss j 0) (s .classes .root) (s .classes .st);
       named = λ j h g. absurd (omega arith);
       either = λ y b r. inr refl;
     }
@@ -64,15 +61,18 @@ module _ (p : Picture) (k c i : ℕ) (l fs ss m : List ℕ) (s : Counted p k c i
         forest = forest-state l r (2048 + i) (s .root) (s .new) (s .forest) inside root-r (omega arith);
         level = s .level;
         edges = s .edges;
-        order = let o = s .order in omega arith;
-        rising =
-            λ a b h g q.
-            by-cases (ℕ-discrete b i)
-            (λ e. subst (λ (z : ℕ). getD ss a 0 < getD ss z 0) (sym e) (below a h (omega arith)))
-            (λ e. s .rising a b h g (omega arith));
-        place = λ j h g. each (At p k) (record { within = t .within; low = t .low }) (s .place) j h g;
-        fixed = λ j h g. each (λ y. s .root y ≡ y) root-r (s .fixed) j h g;
-        free = λ j h g. each (λ y. 65534 ≤ s .st y) free-r (s .free) j h g;
+        roots =
+            record {
+              order = let o = s .roots .order in omega arith;
+              rising =
+                  λ a b h g q.
+                  by-cases (ℕ-discrete b i)
+                  (λ e. subst (λ (z : ℕ). getD ss a 0 < getD ss z 0) (sym e) (below a h (omega arith)))
+                  (λ e. s .roots .rising a b h g (omega arith));
+              place = each (At p k) (record { within = t .within; low = t .low }) (s .roots .place);
+              fixed = each (λ y. s .root y ≡ y) root-r (s .roots .fixed);
+              free = each (λ y. 65534 ≤ s .st y) free-r (s .roots .free);
+            };
         named =
             λ j h g.
             by-cases (ℕ-discrete j i)
@@ -83,7 +83,7 @@ module _ (p : Picture) (k c i : ℕ) (l fs ss m : List ℕ) (s : Counted p k c i
         either =
             λ y b q.
             by-cases (ℕ-discrete y r)
-            (λ e. inl (record { at = i; from = s .order; to = omega arith; is = sym e }))
+            (λ e. inl (record { at = i; from = s .roots .order; to = omega arith; is = sym e }))
             (λ e.
             ⊎-elim
             (λ z. let to = z .to in inl (record { at = z .at; from = z .from; to = omega arith; is = z .is }))
@@ -118,13 +118,13 @@ module _ (p : Picture) (k c i : ℕ) (l fs ss m : List ℕ) (s : Counted p k c i
           let q = t .above (omega arith) in
           by-cases (ℕ-discrete a (i - 1))
           (λ e. subst (λ (z : ℕ). getD ss z 0 < getD ss i 0) (sym e) q)
-          (λ e. let o = s .rising a (i - 1) h (omega arith) (omega arith) in omega arith)
+          (λ e. let o = s .roots .rising a (i - 1) h (omega arith) (omega arith) in omega arith)
 
       each : (P : ℕ → Type 0) → P (getD ss i 0) → ((j : ℕ) → c ≤ j → j < i → P (getD ss j 0)) → (j : ℕ) → c ≤ j → j < suc i → P (getD ss j 0)
       each P a f j h g =
           by-cases (ℕ-discrete j i) (λ e. subst (λ (z : ℕ). P (getD ss z 0)) (sym e) a) (λ e. f j h (omega arith))
 
-  module _ (d count : ℕ) (hs : List ℕ) (run : Run k c d count hs) (below : i < d) (tree : HoldsTree p count hs fs ss m) where
+  module _ (d count : ℕ) (hs : List ℕ) (run : SameHeights k c d count hs) (below : i < d) (tree : HoldsTree p count hs fs ss m) where
     number : i < length (nodes p)
     number = let a = run .most in let b = tree .total in omega arith
 
@@ -139,7 +139,7 @@ module _ (p : Picture) (k c i : ℕ) (l fs ss m : List ℕ) (s : Counted p k c i
     pub tree-fits : NodeFits p k c i l ss
     tree-fits =
         let n = node-is p i number in
-        let hk = height-is i (s .order) below in
+        let hk = height-is i (s .roots .order) below in
         let fi = first-is i below in
         let at : At p k (getD ss i 0) =
         subst (λ (y : ℕ). At p k y) (sym fi) (subst (λ (j : ℕ). At p j (nodeAt p i .first)) hk (n .place)) in
@@ -159,7 +159,7 @@ module _ (p : Picture) (k c i : ℕ) (l fs ss m : List ℕ) (s : Counted p k c i
       where
         rises : (j : ℕ) → c ≤ j → j < i → getD ss j 0 < getD ss i 0
         rises j h g =
-            let a = firsts-rise p k j i g number (height-is j h (omega arith)) (height-is i (s .order) below) in
+            let a = firsts-rise p k j i g number (height-is j h (omega arith)) (height-is i (s .roots .order) below) in
             let b = first-is j (omega arith) in
             let e = first-is i below in
             omega arith

@@ -24,7 +24,7 @@ use Rattle.tree_laws.proofs.Numbering.{Member, RootsListed, Numbered, root-firs
 use Rattle.tree_laws.proofs.Forests.{Found}
 use Rattle.tree_laws.proofs.Checks.{Checking}
 use Rattle.lent_tree.specs.Lent.{HoldsTree}
-use Rattle.verify_nodes.specs.Steps.{Run, Counted, Matched}
+use Rattle.verify_nodes.specs.Steps.{SameHeights, Counted, Matched}
 use Rattle.verify_nodes.proofs.Places.{height-least, before-is}
 
 pub matched-start : (p : Picture) (k c d : ℕ) (l fs ss m : List ℕ) → Counted p k c d l fs ss m → Matched p k c d 0 l fs ss m
@@ -60,11 +60,7 @@ module _ (p : Picture) (k c d x r : ℕ) (l o fs ss m : List ℕ) (s : Matched p
         forest = f .keeps (g .root) (g .new) (g .forest);
         level = g .level;
         edges = g .edges;
-        order = g .order;
-        rising = g .rising;
-        place = g .place;
-        fixed = g .fixed;
-        free = g .free;
+        roots = g .roots;
         named = g .named;
         either = g .either;
       }
@@ -113,8 +109,7 @@ module _ (p : Picture) (k c d : ℕ) (l fs ss m : List ℕ) (s : Counted p k c d
       }
 
   listed : ((y : ℕ) → At p k y → s .root y ≡ y → 65534 ≤ s .st y → Member (λ j. getD ss j 0) c d y) → RootsListed p k c d (λ j. getD ss j 0) (s .root) (s .st)
-  listed f =
-      record { order = s .order; rising = s .rising; place = s .place; fixed = s .fixed; free = s .free; complete = f }
+  listed f = record { roots = s .roots; complete = f }
 
   module _ (complete : (y : ℕ) → At p k y → s .root y ≡ y → 65534 ≤ s .st y → Member (λ j. getD ss j 0) c d y) where
     pub says : (y : ℕ) → At p k y → s .new (s .root y) ≡ 2048 + under p k y
@@ -161,7 +156,7 @@ module _ (p : Picture) (k c d : ℕ) (l fs ss m : List ℕ) (s : Counted p k c d
 
 -- the tree's own lists are complete
 pub tree-complete :
-    (p : Picture) (k c d count : ℕ) (l hs fs ss m : List ℕ) (s : Counted p k c d l fs ss m) → Run k c d count hs → HoldsTree p count hs fs ss m →
+    (p : Picture) (k c d count : ℕ) (l hs fs ss m : List ℕ) (s : Counted p k c d l fs ss m) → SameHeights k c d count hs → HoldsTree p count hs fs ss m →
     (y : ℕ) → At p k y → s .root y ≡ y → 65534 ≤ s .st y → Member (λ j. getD ss j 0) c d y
 tree-complete p k c d count l hs fs ss m s run tree y at r h =
     let fork = free-fork p (s .ok) k c (s .low) (s .root) (s .st) (s .fa) (s .level) (s .edges) y at r h in
@@ -203,7 +198,7 @@ tree-complete p k c d count l hs fs ss m s run tree y at r h =
 -- under the tree a pixel's root says its lent node
 pub matched-cell :
     (p : Picture) (k c d x r : ℕ) (l o fs ss m : List ℕ) (s : Matched p k c d x l fs ss m) (f : Found l x r o) (b : x < places p) (value : valueAt p x ≡ k) →
-    (count : ℕ) (hs : List ℕ) → Run k c d count hs → HoldsTree p count hs fs ss m → (getD o r 0 ≡ 2048 + getD m x 0) × (getD m x 0 < 1600)
+    (count : ℕ) (hs : List ℕ) → SameHeights k c d count hs → HoldsTree p count hs fs ss m → (getD o r 0 ≡ 2048 + getD m x 0) × (getD m x 0 < 1600)
 matched-cell p k c d x r l o fs ss m s f b value count hs run tree =
     let g = s .counted in
     let e = says p k c d l fs ss m g (tree-complete p k c d count l hs fs ss m g run tree) x (record { within = b; low = omega arith }) in

@@ -11,7 +11,7 @@ use Rattle.picture.specs.Pictures.{Picture, places, valueAt}
 use Rattle.lists.proofs.Tests.{clash}
 use Rattle.tree_laws.proofs.Forests.{Found, Parents, forest-parents}
 use Rattle.lent_tree.specs.Lent.{HoldsTree}
-use Rattle.verify_nodes.specs.Steps.{Run, Counted, Matched, Fit, CountReady, NodesChecked, LentMapReady, MapChecked}
+use Rattle.verify_nodes.specs.Steps.{SameHeights, Counted, Matched, Fit, CountReady, NodesChecked, LentMapReady, MapChecked}
 use Rattle.verify_nodes.proofs.Counted.{counted-turn, tree-fits}
 use Rattle.verify_nodes.proofs.Matched.{matched-pass, matched-turn, matched-cell}
 
@@ -31,11 +31,11 @@ run-turn k c i v hs s e q =
       same = λ j a b. by-cases (ℕ-discrete j i) (λ z. ap (λ (y : ℕ). getD hs y 0) z ∙ (sym e ∙ q)) (λ z. s .same j a (omega arith));
     }
 
-pub run-stop : (k c i v count : ℕ) (hs : List ℕ) → RunTo k c i hs → i < count → v ≡ getD hs i 0 → (v ≡ k → ⊥) → Run k c i count hs
+pub run-stop : (k c i v count : ℕ) (hs : List ℕ) → RunTo k c i hs → i < count → v ≡ getD hs i 0 → (v ≡ k → ⊥) → SameHeights k c i count hs
 run-stop k c i v count hs s b e d =
     record { order = s .order; most = omega arith; same = s .same; ends = λ h q. d (e ∙ q) }
 
-pub run-end : (k c i count : ℕ) (hs : List ℕ) → RunTo k c i hs → i ≤ count → count ≤ i → Run k c i count hs
+pub run-end : (k c i count : ℕ) (hs : List ℕ) → RunTo k c i hs → i ≤ count → count ≤ i → SameHeights k c i count hs
 run-end k c i count hs s a b = record { order = s .order; most = a; same = s .same; ends = λ h. absurd (omega arith) }
 
 module _ (pixels : List ℕ) (k c i f : ℕ) (l ss : List ℕ) (e : f ≡ getD ss i 0) where
@@ -155,7 +155,7 @@ module _ (pixels : List ℕ) (k x v : ℕ) (l m : List ℕ) (b : x < length l) (
 
     -- under the tree the cell says the lent node
     tree-cell :
-        (p : Picture) (c d : ℕ) (fs ss : List ℕ) → p .pixels ≡ pixels → Matched p k c d x l fs ss m → (count : ℕ) (hs : List ℕ) → Run k c d count hs →
+        (p : Picture) (c d : ℕ) (fs ss : List ℕ) → p .pixels ≡ pixels → Matched p k c d x l fs ss m → (count : ℕ) (hs : List ℕ) → SameHeights k c d count hs →
         HoldsTree p count hs fs ss m → (getD o r 0 ≡ 2048 + getD m x 0) × (getD m x 0 < 1600)
     tree-cell p c d fs ss g s count hs run tree =
         let size = s .counted .size in

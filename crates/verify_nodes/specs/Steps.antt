@@ -7,18 +7,16 @@ use mathlib.Core.List.{List}
 use Prim.Native.Nat.{ℕ, _+_, _-_, _≤_, _<_}
 use lib.ListN.{length, getD}
 use Rattle.picture.specs.Pictures.{Picture, places, valueAt}
-use Rattle.picture.specs.Trees.{nodeAt, mapOf}
-use Rattle.topology.proofs.Adjacency.{At}
 use Rattle.topology.proofs.Accepted.{Accepted}
 use Rattle.tree_laws.proofs.Levels.{Level, Edges}
 use Rattle.tree_laws.proofs.Counts.{soFar}
-use Rattle.tree_laws.proofs.Numbering.{Member}
+use Rattle.tree_laws.proofs.Numbering.{Member, NewRoots}
 use Rattle.tree_laws.proofs.Forests.{Forest}
-use Rattle.tree_laws.proofs.Checks.{Agree, Checking}
+use Rattle.tree_laws.proofs.Checks.{Agree}
 use Rattle.lent_tree.specs.Lent.{HoldsTree}
 
 -- the lent heights from c on, before d, are k, and d is the count or has another
-pub record Run (k c d count : ℕ) (hs : List ℕ) : Type 0 where
+pub record SameHeights (k c d count : ℕ) (hs : List ℕ) : Type 0 where
   pub order : c ≤ d
   pub most : d ≤ count
   pub same : (i : ℕ) → c ≤ i → i < d → getD hs i 0 ≡ k
@@ -38,11 +36,7 @@ pub record Counted (p : Picture) (k c i : ℕ) (l fs ss m : List ℕ) : Type 0 w
   pub forest : Forest l root new
   pub level : Level p k c root st fa
   pub edges : Edges p k (places p) root
-  pub order : c ≤ i
-  pub rising : (a b : ℕ) → c ≤ a → a < b → b < i → getD ss a 0 < getD ss b 0
-  pub place : (j : ℕ) → c ≤ j → j < i → At p k (getD ss j 0)
-  pub fixed : (j : ℕ) → c ≤ j → j < i → root (getD ss j 0) ≡ getD ss j 0
-  pub free : (j : ℕ) → c ≤ j → j < i → 65534 ≤ st (getD ss j 0)
+  pub roots : NewRoots p k c i (λ j. getD ss j 0) root st
   pub named : (j : ℕ) → c ≤ j → j < i → new (getD ss j 0) ≡ 2048 + j
   pub either : (y : ℕ) → y < places p → root y ≡ y → Member (λ j. getD ss j 0) c i y ⊎ (new y ≡ st y)
 
@@ -82,7 +76,7 @@ pub record NodesChecked (pixels : List ℕ) (k c d : ℕ) (o ss l : List ℕ) (b
   pub yes : b ≡ true → (p : Picture) (fs m : List ℕ) → p .pixels ≡ pixels → Counted p k c c o fs ss m → Counted p k c d l fs ss m
   pub never :
       b ≡ false → (p : Picture) (fs m : List ℕ) → p .pixels ≡ pixels → Counted p k c c o fs ss m →
-      (count : ℕ) (hs : List ℕ) → Run k c d count hs → HoldsTree p count hs fs ss m → ⊥
+      (count : ℕ) (hs : List ℕ) → SameHeights k c d count hs → HoldsTree p count hs fs ss m → ⊥
 
 -- some picture's lent map can be checked from x on
 pub record LentMapReady (pixels : List ℕ) (k x : ℕ) (l m : List ℕ) : Type 0 where
@@ -100,13 +94,4 @@ pub record MapChecked (pixels : List ℕ) (k x z : ℕ) (l m o : List ℕ) (b : 
       b ≡ true → (p : Picture) (c d : ℕ) (fs ss : List ℕ) → p .pixels ≡ pixels → Matched p k c d x l fs ss m → Matched p k c d z o fs ss m
   pub never :
       b ≡ false → (p : Picture) (c d : ℕ) (fs ss : List ℕ) → p .pixels ≡ pixels → Matched p k c d x l fs ss m →
-      (count : ℕ) (hs : List ℕ) → Run k c d count hs → HoldsTree p count hs fs ss m → ⊥
-
--- the heights below k are checked: c nodes
-pub record Verified (p : Picture) (k c count : ℕ) (l hs fs ss m : List ℕ) : Type 0 where
-  pub checking : Checking p k 0 l fs m
-  pub number : c ≡ soFar p k
-  pub most : c ≤ count
-  pub heights : (i : ℕ) → i < c → getD hs i 0 ≡ nodeAt p i .height
-  pub firsts : (i : ℕ) → i < c → getD ss i 0 ≡ nodeAt p i .first
-  pub map : (x : ℕ) → x < places p → valueAt p x < k → getD m x 0 ≡ mapOf p x
+      (count : ℕ) (hs : List ℕ) → SameHeights k c d count hs → HoldsTree p count hs fs ss m → ⊥

@@ -7,12 +7,12 @@ use union_find::find;
 ghost use Prim.Native.Nat.{_<_, _≤_, _+_};
 ghost use lib.ListN.{length};
 ghost use Rattle.tree_laws.proofs.Forests.{Parents};
-ghost use Rattle.verify_nodes.specs.Steps.{Run, Fit, CountReady, NodesChecked, LentMapReady, MapChecked};
+ghost use Rattle.verify_nodes.specs.Steps.{SameHeights, Fit, CountReady, NodesChecked, LentMapReady, MapChecked};
 
 // The end of the lent heights k from c on.
 pub fn run_end(heights: &[u8], k: usize, c: usize, count: usize) -> usize
     requires { ⌜ (c ≤ count) × (count ≤ length (now heights)) ⌝ }
-    ensures { λ d. ⌜ Run k c d count (now (heights .entry)) ⌝ }
+    ensures { λ d. ⌜ SameHeights k c d count (now (heights .entry)) ⌝ }
 {
     let mut i = c;
     while i < count {

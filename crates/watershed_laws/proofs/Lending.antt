@@ -11,8 +11,8 @@ use Rattle.topology.proofs.Accepted.{Accepted}
 use Rattle.watershed_laws.proofs.WinnerTree.{Winner}
 use Rattle.watershed_laws.proofs.WinnerSteps.{Assigned, Building, Waking}
 use Rattle.watershed_laws.proofs.Stopping.{Lowest, Stopped, Around}
-use Rattle.watershed_laws.proofs.Running.{Running, Nobody, TurnOf, Settled, Turning, Turned, settle-falls, settle-woken}
-use Rattle.watershed_laws.proofs.Turns.{Holds, running-start, turn-settling, turn-done}
+use Rattle.watershed_laws.proofs.Running.{Running, NoPlace, TurnOf, Settled, Turning, Turned, settle-falls, settle-woken}
+use Rattle.watershed_laws.proofs.Turns.{Holds, running-start, turn-of, turn-done}
 
 -- the cells from e on, lent and back
 module _ (l : List ℕ) (e : ℕ) where
@@ -42,7 +42,7 @@ module _ (f : Picture) (g l : List ℕ) where
 
   pub start-back :
       (t : List ℕ) → length l ≡ 5 * places f → Accepted (withPixels f g) → Holds (withPixels f g) (take e l) → Building (places f) g t 1 →
-      Running f g (take e (putMid e (length l - e) l t)) (drop e (putMid e (length l - e) l t)) Nobody
+      Running f g (take e (putMid e (length l - e) l t)) (drop e (putMid e (length l - e) l t)) NoPlace
   start-back t size ok h b =
       let i : e ≤ length l = omega arith in
       rw (back-take l e t i, back-drop l e t i) (running-start f g (take e l) t ok h b)
@@ -60,7 +60,7 @@ module _ (f : Picture) (g l : List ℕ) where
         TurnOf f g (take e (putMid e (length l - e) l t)) (drop e (putMid e (length l - e) l t)) x
     turn-back t a =
         let i : e ≤ length l = omega arith in
-        rw (back-take l e t i, back-drop l e t i) (turn-settling f g (take e l) (drop e l) x p t (assigned t a))
+        rw (back-take l e t i, back-drop l e t i) (turn-of f g (take e l) (drop e l) x p t (assigned t a))
 
     pub turn-over :
         (t : List ℕ) → Assigned (places f) g (midOf e (length l - e) l) x 65535 t →

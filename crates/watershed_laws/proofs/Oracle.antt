@@ -5,7 +5,8 @@ use Prim.Native.Nat.{ℕ, suc, _≤_, _<_}
 use native.Mathlib.Decide.{ℕ-discrete, decLe, decLt}
 use native.Mathlib.Omega.{arith}
 use Rattle.topology.proofs.Connected.{Conn, start, conn-trans, conn-sym, conn-edge, conn-mono}
-use Rattle.topology.proofs.Keeping.{Sec, Keeps, Lowers, Fallen, put, put-fallen, keeps-compose, keeps-same, lowering-keeps}
+use Rattle.lists.proofs.Updates.{put}
+use Rattle.topology.proofs.Keeping.{Sec, Keeps, Lowers, Fallen, put-fallen, keeps-compose, keeps-same, lowering-keeps}
 
 -- sections of values that differ at x alone agree at a height where x is in both or in neither
 same-sections :

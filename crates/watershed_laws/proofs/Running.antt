@@ -61,10 +61,10 @@ running-with r leaves winner awake =
     }
 
 -- no place is exempt
-pub data Nobody (y : ℕ) : Type 0 where
+pub data NoPlace (y : ℕ) : Type 0 where
 
-pub nobody : {C : Type 0} {y : ℕ} → Nobody y → C
-nobody = elim [ ]
+pub no-place : {C : Type 0} {y : ℕ} → NoPlace y → C
+no-place = elim [ ]
 
 -- the place x alone is exempt, is no candidate, and leads the lowerable places
 pub record TurnOf (f : Picture) (g tree t : List ℕ) (x : ℕ) : Type 0 where
@@ -81,13 +81,13 @@ pub record Window (f : Picture) (g : List ℕ) (x s k y : ℕ) : Type 0 where
 
 -- the run goes on with the same watershed; something has fallen, or all is as it was
 pub record Settled (f : Picture) (g t g₁ tree₁ t₁ : List ℕ) : Type 0 where
-  pub running : Running f g₁ tree₁ t₁ Nobody
+  pub running : Running f g₁ tree₁ t₁ NoPlace
   pub water : watershed (withPixels f g₁) ≡ watershed (withPixels f g)
   pub less : (total g₁ < total g) ⊎ ((g₁ ≡ g) × (t₁ ≡ t))
 
 -- the place x is the winner
 pub record Turning (f : Picture) (g tree t : List ℕ) (x : ℕ) : Type 0 where
-  pub running : Running f g tree t Nobody
+  pub running : Running f g tree t NoPlace
   pub top : x ≡ getD t 1 0
   pub candidate : x ≢ 65535
 
@@ -97,7 +97,7 @@ measure n g t = 1601 * total g + candidates n t n
 
 -- after a turn r is the winner, the watershed is the same, and the measure is less
 pub record Turned (f : Picture) (g t g₁ tree₁ t₁ : List ℕ) (r : ℕ) : Type 0 where
-  pub running : Running f g₁ tree₁ t₁ Nobody
+  pub running : Running f g₁ tree₁ t₁ NoPlace
   pub water : watershed (withPixels f g₁) ≡ watershed (withPixels f g)
   pub less : measure (places f) g₁ t₁ < measure (places f) g t
   pub top : r ≡ getD t₁ 1 0

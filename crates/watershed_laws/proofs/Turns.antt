@@ -25,7 +25,7 @@ use Rattle.watershed_laws.proofs.TreeOracle.{tree-oracle}
 use Rattle.watershed_laws.proofs.Falls.{First, watershed-end}
 use Rattle.watershed_laws.proofs.WinnerTree.{Beats, last, less as beats-less, ties as beats-ties, winner-beats, winner-place, candidates, candidates-most, candidates-fewer}
 use Rattle.watershed_laws.proofs.WinnerSteps.{Assigned, Building}
-use Rattle.watershed_laws.proofs.Running.{Running, Nobody, nobody, TurnOf, Settled, Turning, Turned, measure, running-with}
+use Rattle.watershed_laws.proofs.Running.{Running, NoPlace, no-place, TurnOf, Settled, Turning, Turned, measure, running-with}
 
 -- the cells hold heights, fathers and map of the tree of p
 pub record Holds (p : Picture) (tree : List ℕ) : Type 0 where
@@ -39,13 +39,13 @@ module _ (f : Picture) (g tree t : List ℕ) where
   p = withPixels f g
 
   -- at the start
-  pub running-start : Accepted p → Holds p tree → Building (places f) g t 1 → Running f g tree t Nobody
+  pub running-start : Accepted p → Holds p tree → Building (places f) g t 1 → Running f g tree t NoPlace
   running-start ok h b =
       record {
-        filled = mul-le-mul (ok .wide) (ok .tall);
-        some = ok .wide;
-        wide = ok .narrow;
-        high = ok .short;
+        filled = mul-le-mul (ok .some) (ok .tall);
+        some = ok .some;
+        wide = ok .wide;
+        high = ok .high;
         size = ok .size;
         bytes = byte-at g (ok .bytes);
         climbs =
@@ -74,7 +74,7 @@ module _ (f : Picture) (g tree t : List ℕ) where
         awake = λ y l e. inl (b .full y l);
       }
 
-  module _ (run : Running f g tree t Nobody) where
+  module _ (run : Running f g tree t NoPlace) where
     most : places f ≤ 1600
     most = area-most (f .width) (f .height) (run .wide) (run .high)
 
@@ -83,7 +83,7 @@ module _ (f : Picture) (g tree t : List ℕ) where
     running-end e = watershed-end (withPixels f g) none
       where
         none : (y : ℕ) → y < places f → lowerable (withPixels f g) y ≡ true → ⊥
-        none y b l = ⊎-elim (λ q. beaten q (winner-beats (places f) g t (run .winner) y b)) (λ (n : Nobody y). nobody n) (run .awake y b l)
+        none y b l = ⊎-elim (λ q. beaten q (winner-beats (places f) g t (run .winner) y b)) (λ (n : NoPlace y). no-place n) (run .awake y b l)
           where
             beaten : getD t (places f + y) 0 ≡ y → Beats g (getD t 1 0) (getD t (places f + y) 0) → ⊥
             beaten q (last h) = let k = most in omega arith
@@ -91,7 +91,7 @@ module _ (f : Picture) (g tree t : List ℕ) where
             beaten q (beats-ties d h i) = d e
 
   module _ (x : ℕ) (p : Turning f g tree t x) where
-    abbrev run₁ : Running f g tree t Nobody
+    abbrev run₁ : Running f g tree t NoPlace
     run₁ = p .running
 
     place : (x < places f) × (getD t (places f + x) 0 ≡ x)
@@ -109,7 +109,7 @@ module _ (f : Picture) (g tree t : List ℕ) where
     leads y b l =
         ⊎-elim
         (λ q. before q (winner-beats (places f) g t (run₁ .winner) y b))
-        (λ (n : Nobody y). nobody n)
+        (λ (n : NoPlace y). no-place n)
         (run₁ .awake y b l)
       where
         before : getD t (places f + y) 0 ≡ y → Beats g (getD t 1 0) (getD t (places f + y) 0) → Leads (withPixels f g) x y
@@ -126,15 +126,15 @@ module _ (f : Picture) (g tree t : List ℕ) where
             (omega arith)
 
     -- the winner is taken away
-    pub turn-settling : (t₁ : List ℕ) → Assigned (places f) g t x 65535 t₁ → TurnOf f g tree t₁ x
-    turn-settling t₁ a =
+    pub turn-of : (t₁ : List ℕ) → Assigned (places f) g t x 65535 t₁ → TurnOf f g tree t₁ x
+    turn-of t₁ a =
         record {
           running =
               running-with run₁ (a .size) (a .winner)
               (λ y b l.
               by-cases (ℕ-discrete y x)
               (λ q. inr q)
-              (λ q. ⊎-elim (λ e. inl (a .other y b q ∙ e)) (λ (n : Nobody y). nobody n) (run₁ .awake y b l)));
+              (λ q. ⊎-elim (λ e. inl (a .other y b q ∙ e)) (λ (n : NoPlace y). no-place n) (run₁ .awake y b l)));
           within = turn-place;
           unset = a .own;
           first = leads;

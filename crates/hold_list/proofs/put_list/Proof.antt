@@ -60,8 +60,8 @@ put-head-requires c κs =
     let k = ok s in
     let m = most s in
     let l = c .before .count-line .ensures (pictured s) (mapped s) in (
-      omega (arith, k .narrow, k .short),
-      omega (arith, k .narrow, k .short),
+      omega (arith, k .wide, k .high),
+      omega (arith, k .wide, k .high),
       omega (arith, m .0, m .1),
       omega (arith, l, line-few (pictured s), k .size, m .1),
       omega (arith, s .pre .3),

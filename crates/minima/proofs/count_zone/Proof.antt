@@ -2,7 +2,8 @@
 use native.Mathlib.Omega.{arith}
 use borrow.Author.Needs.{needs}
 use Rattle.picture.specs.Pictures.{pictureOf}
-use Rattle.minima.proofs.Floods.{counting-few, counting-pixels, counting-placed, counting-sizes, counting-seed, counting-seen, counting-lower, counting-minimum}
+use Rattle.topology.proofs.Accepted.{accepted-is}
+use Rattle.minima.proofs.Floods.{counting-few, counting-placed, counting-sizes, counting-seed, counting-seen, counting-lower, counting-minimum}
 use Rattle.minima.proofs.count_zone.Statement.{statement}
 use Rattle.minima.proofs.count_zone.Tie as tie
 
@@ -21,7 +22,7 @@ flood-requires c κs =
     let p = pictureOf (s .args .a) (s .args .w) (s .args .h) (s .args .pixels .now) in (
       counting-placed p _ _ _ (s .pre .0) (s .pre .1),
       counting-sizes p _ _ _ (s .pre .0) (s .pre .1),
-      counting-pixels p _ _ _ (s .pre .0) (s .pre .1),
+      accepted-is p (s .pre .0 .accepted) .size,
       counting-seed p _ _ _ (s .pre .0) (s .pre .1) (c .before .if1 .left),
     )
 

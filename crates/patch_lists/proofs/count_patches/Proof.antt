@@ -1,7 +1,8 @@
 -- `patch_lists::count_patches` meets its contract: the local array has a cell for each pixel.
 use mathlib.Core.Path.{sym, _∙_}
 use Rattle.picture.specs.Pictures.{Picture, pictureOf}
-use Rattle.patch_lists.proofs.PatchLists.{pixels-few, cells-lent, pixels-places}
+use Rattle.topology.proofs.Accepted.{accepted-is}
+use Rattle.patch_lists.proofs.PatchLists.{pixels-few, cells-lent}
 use borrow.Author.Needs.{needs}
 use Rattle.patch_lists.proofs.count_patches.Statement.{statement}
 use Rattle.patch_lists.proofs.count_patches.Tie as tie
@@ -19,7 +20,7 @@ slice-aggregate-count-minima c = let s = c .before .before in cells-lent (pictur
 count-minima-requires : tie.Need-count-minima-requires
 count-minima-requires c κs =
     let s = c .before .before in
-    (s .pre, sym (cells-lent (pictured s) (s .pre)) ∙ pixels-places (pictured s) (s .pre))
+    (s .pre, sym (cells-lent (pictured s) (s .pre)) ∙ accepted-is (pictured s) (s .pre) .size)
 
 returns : tie.Need-returns
 returns c = search needs

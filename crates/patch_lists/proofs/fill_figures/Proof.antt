@@ -5,7 +5,8 @@ use native.Mathlib.Omega.{arith}
 use lib.ListN.{length}
 use Rattle.picture.specs.Pictures.{Picture, pictureOf}
 use Rattle.answers.proofs.Shell.{lent-length}
-use Rattle.patch_lists.proofs.PatchLists.{pixels-few, cells-lent, pixels-places, figured}
+use Rattle.topology.proofs.Accepted.{accepted-is}
+use Rattle.patch_lists.proofs.PatchLists.{pixels-few, cells-lent, figured}
 use borrow.Author.Needs.{needs}
 use Rattle.patch_lists.proofs.fill_figures.Statement.{statement}
 use Rattle.patch_lists.proofs.fill_figures.Tie as tie
@@ -34,7 +35,7 @@ patch-figures-requires c κs =
     let s = c .before .before .before .before in
     let p = pictured s in
     let h = s .pre .0 in
-    let n = pixels-places p h in
+    let n = accepted-is p h .size in
     let a = lent-length (5 * length (p .pixels)) (s .args .work .now) (s .pre .1) in
     (h, record { few = omega (arith, pixels-few p h, n); blocks = omega (arith, a, n); beside = sym (cells-lent p h) ∙ n })
 
@@ -48,7 +49,7 @@ returns c =
     let t = c .before .before .before .patch-figures in
     let a = lent-length (5 * length (p .pixels)) (s .args .work .now) (s .pre .1) in
     figured p (s .pre .0) _ (s .args .work .now) (t .last .1 .1 .1 .1 .0) _ (s .pre .1)
-    (omega (arith, a, pixels-places p (s .pre .0), t .kept .1 .1 .1 .1 .0)) (t .ensures)
+    (omega (arith, a, accepted-is p (s .pre .0) .size, t .kept .1 .1 .1 .1 .0)) (t .ensures)
 
 pub fill-figures-spec : {M : Type 1} → statement M
 fill-figures-spec =

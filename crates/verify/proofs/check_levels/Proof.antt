@@ -1,6 +1,6 @@
 -- `verify::check_levels` meets its contract.
-use Rattle.verify.proofs.Heights.{sizes-at, level-stop, level-all}
-use Rattle.verify_nodes.specs.Steps.{Verified}
+use Rattle.verify.proofs.Heights.{lists-long-at, level-stop, level-all}
+use Rattle.verify.specs.Heights.{Verified}
 use Rattle.picture.specs.Pictures.{pictureOf}
 use mathlib.Core.Path.{sym, _∙_}
 use native.Mathlib.Omega.{arith}
@@ -21,7 +21,7 @@ loop-holds c = (search needs, c .before .before .before .before .before .before 
 check-level-requires : tie.Need-check-level-requires Inv-loop μ-loop
 check-level-requires c κs = let i = c .before .before .loop .inv in
     let b = c .before .loop-test .taken in
-    ((i .1, b), sizes-at _ _ _ _ _ _ _ _ (i .1 .checking .classes .size ∙ sym (c .before .before .before .before .before .before .before .before .before .pre .0 .checking .classes .size)) (c .before .before .before .before .before .before .before .before .before .pre .1))
+    ((i .1, b), lists-long-at _ _ _ _ _ _ _ _ (i .1 .checking .classes .size ∙ sym (c .before .before .before .before .before .before .before .before .before .pre .0 .checking .classes .size)) (c .before .before .before .before .before .before .before .before .before .pre .1))
 
 same-length : tie.Need-same-length Inv-loop μ-loop
 same-length c = let i = c .before .before .before .before .before .before .loop .inv in

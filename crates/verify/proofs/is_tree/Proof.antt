@@ -1,5 +1,5 @@
 -- `verify::is_tree` meets its contract: the first n cells are checked with, the others kept.
-use Rattle.verify.proofs.Heights.{verified-start, sizes-of, says-none, says-many, says-count, says-father, says-tree}
+use Rattle.verify.proofs.Heights.{verified-start, lists-long-of, says-none, says-many, says-count, says-father, says-tree}
 use Rattle.picture.specs.Pictures.{pictureOf}
 use lib.ListN.{length, take, drop}
 use lib.Seq.{length-take-le, drop-at}
@@ -46,7 +46,7 @@ check-levels-requires c κs =
     let f = c .before .before .fill .ensures in
     let e = length-take-le _ _ (s .pre .1 .0) in (
       verified-start _ _ _ _ _ _ _ _ _ (s .pre .0) e f refl,
-      sizes-of (pictureOf (s .args .a) (s .args .w) (s .args .h) (s .args .pixels .now)) _ _ _ _ _ _ (s .pre .0) (f .kept .size ∙ e)
+      lists-long-of (pictureOf (s .args .a) (s .args .w) (s .args .h) (s .args .pixels .now)) _ _ _ _ _ _ (s .pre .0) (f .kept .size ∙ e)
           (omega (arith, f .kept .size, e, c .before .before .before .before .before .if2 .left)) (s .pre .1 .1) (s .pre .1 .2) (s .pre .1 .3) (s .pre .1 .4),
     )
 

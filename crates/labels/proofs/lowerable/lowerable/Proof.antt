@@ -3,7 +3,7 @@ use Prim.Native.Nat.{ℕ}
 use native.Mathlib.Omega.{arith}
 use lib.ListN.{length-replicate}
 use Rattle.picture.specs.Pictures.{Picture, pictureOf}
-use Rattle.labels.proofs.Scans.{picture-size, picture-placed}
+use Rattle.topology.proofs.Accepted.{accepted-is, placed}
 use Rattle.labels.proofs.Lowering.{stack-ready, labels-small, value-none, lower-end}
 use borrow.Author.Needs.{needs}
 use Rattle.labels.proofs.lowerable.lowerable.Statement.{statement}
@@ -16,7 +16,7 @@ pictured s = pictureOf (s .args .a) (s .args .w) (s .args .h) (s .args .pixels .
 shared-slice-read-value : tie.Need-shared-slice-read-value
 shared-slice-read-value c =
     let s = c .before .before .before in
-    omega (arith, picture-size (pictured s) (s .pre .0))
+    omega (arith, accepted-is (pictured s) (s .pre .0) .size)
 
 returns : tie.Need-returns
 returns c =
@@ -38,7 +38,7 @@ common-label-requires : tie.Need-common-label-requires
 common-label-requires c κs =
     let s = c .before .before .before .before .before .before .before .before .before .before .before in
     let f = c .before .before .before .before .label in (
-      picture-placed (pictured s) (s .pre .0) _ (s .pre .2),
+      placed (pictured s) (accepted-is (pictured s) (s .pre .0)) _ (s .pre .2),
       search needs,
       labels-small (pictured s) (s .pre .0) _ _ (f .ensures .labels),
     )

@@ -6,7 +6,8 @@ use native.Mathlib.Omega.{arith}
 use lib.ListN.{length}
 use Rattle.picture.specs.Pictures.{Picture, pictureOf}
 use Rattle.labels.specs.Labels.{LabelsBefore}
-use Rattle.labels.proofs.Scans.{picture-size, scan-start, scan-ready, scan-turn, scan-end}
+use Rattle.topology.proofs.Accepted.{accepted-is}
+use Rattle.labels.proofs.Scans.{scan-start, scan-ready, scan-turn, scan-end}
 use Rattle.labels.proofs.scan.label.Statement.{statement}
 use Rattle.labels.proofs.scan.label.Tie as tie
 
@@ -24,14 +25,14 @@ pictured s = pictureOf (s .args .a) (s .args .w) (s .args .h) (s .args .pixels .
 clear-requires : tie.Need-clear-requires Inv-loop μ-loop
 clear-requires c κs =
     let s = c .before .before .before .before in
-    omega (arith, picture-size (pictured s) (s .pre .accepted), s .pre .label)
+    omega (arith, accepted-is (pictured s) (s .pre .accepted) .size, s .pre .label)
 
 loop-holds : tie.Need-loop-holds Inv-loop μ-loop
 loop-holds c =
     let s = c .before .before .before .before .before .before .before in (
       search needs,
       search needs,
-      scan-start (pictured s) _ _ _ _ _ (s .pre .label) (picture-size (pictured s) (s .pre .accepted)) (c .before .before .clear .ensures),
+      scan-start (pictured s) _ _ _ _ _ (s .pre .label) (accepted-is (pictured s) (s .pre .accepted) .size) (c .before .before .clear .ensures),
     )
 
 label-place-requires : tie.Need-label-place-requires Inv-loop μ-loop
@@ -41,7 +42,7 @@ label-place-requires c κs =
     let inv = top .loop .inv in (
       scan-ready (pictured s) _ _ _ _ _ _ _ (s .pre) (inv .1) (inv .2),
       inv .2 .labelled,
-      omega (arith, picture-size (pictured s) (s .pre .accepted)),
+      omega (arith, accepted-is (pictured s) (s .pre .accepted) .size),
     )
 
 add-x : tie.Need-add-x Inv-loop μ-loop
@@ -69,7 +70,7 @@ returns : tie.Need-returns Inv-loop μ-loop
 returns c =
     let top = c .before in
     let s = top .before .before .before .before .before .before .before .before in
-    let n = picture-size (pictured s) (s .pre .accepted) in
+    let n = accepted-is (pictured s) (s .pre .accepted) .size in
     scan-end (pictured s) _ _ _ _ _ _ (omega arith) (top .loop .inv .2)
 
 pub label-spec : {M : Type 1} → statement M

@@ -3,7 +3,8 @@ use mathlib.Core.Path.{sym, _∙_}
 use native.Mathlib.Omega.{arith}
 use borrow.Author.Tests.{not-true, not-false}
 use Rattle.picture.specs.Pictures.{Picture, pictureOf}
-use Rattle.labels.proofs.Scans.{picture-size, picture-placed, ready-room, scan-outside, scan-labelled, scan-count, scan-seed, scan-flood}
+use Rattle.topology.proofs.Accepted.{accepted-is, placed}
+use Rattle.labels.proofs.Scans.{ready-room, scan-outside, scan-labelled, scan-count, scan-seed, scan-flood}
 use borrow.Author.Needs.{needs}
 use Rattle.labels.proofs.scan.label_place.Statement.{statement}
 use Rattle.labels.proofs.scan.label_place.Tie as tie
@@ -15,7 +16,7 @@ pictured s = pictureOf (s .args .a) (s .args .w) (s .args .h) (s .args .pixels .
 shared-slice-read-in-section : tie.Need-shared-slice-read-in-section
 shared-slice-read-in-section c =
     let s = c .before .before .before .before in
-    omega (arith, picture-size (pictured s) (s .pre .0 .accepted))
+    omega (arith, accepted-is (pictured s) (s .pre .0 .accepted) .size)
 
 in-section-requires : tie.Need-in-section-requires
 in-section-requires c κs = search needs
@@ -47,7 +48,7 @@ flood-requires c κs =
     let e = c .before .before in
     let s = c .before .before .before .before .before .before .before .before .before .before in
     let t = e .before .before .before .in-section in (
-      picture-placed (pictured s) (s .pre .0 .accepted) _ (s .pre .2),
+      placed (pictured s) (accepted-is (pictured s) (s .pre .0 .accepted)) _ (s .pre .2),
       ready-room (pictured s) _ _ (s .pre .0),
       scan-seed (pictured s) _ _ (s .pre .0) _ _ _ (s .pre .2) (s .pre .1)
           (sym (t .ensures) ∙ not-false (t .result) (e .before .before .if1 .left))

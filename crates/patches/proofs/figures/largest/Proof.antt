@@ -6,7 +6,7 @@ use lib.ListN.{length, drop}
 use lib.Seq.{drop-length}
 use borrow.Author.Needs.{needs}
 use Rattle.lists.specs.Lists.{highest}
-use Rattle.patches.proofs.Patching.{highest-next}
+use Rattle.lists.proofs.Sums.{highest-next}
 use Rattle.patches.proofs.figures.largest.Statement.{statement}
 use Rattle.patches.proofs.figures.largest.Tie as tie
 

@@ -2,7 +2,8 @@
 use mathlib.Core.Path.{_∙_}
 use borrow.Author.Needs.{needs}
 use Rattle.picture.specs.Pictures.{pictureOf}
-use Rattle.patches.proofs.Figuring.{tree-mapped, tree-few, tree-pixels, numbered-mapped, numbered-size, numbered-patch}
+use Rattle.topology.proofs.Accepted.{accepted-is}
+use Rattle.patches.proofs.Figuring.{tree-mapped, tree-few, numbered-mapped, numbered-size, numbered-patch}
 use Rattle.patches.proofs.places.patch_of.Statement.{statement}
 use Rattle.patches.proofs.places.patch_of.Tie as tie
 
@@ -23,7 +24,7 @@ patch-at-requires c κs =
       record {
         few = s .pre .1 .few;
         blocks = numbered-size p _ _ (s .pre .0) _ _ l ∙ s .pre .1 .blocks;
-        beside = tree-pixels p _ _ (s .pre .0);
+        beside = accepted-is p (s .pre .0 .accepted) .size;
       },
       numbered-mapped p _ _ (s .pre .0) _ _ l,
       s .pre .2,

@@ -9,7 +9,7 @@ use lib.Seq.{getD-drop}
 use Rattle.picture.specs.Pictures.{Picture, places, pictureOf}
 use Rattle.picture.specs.Watersheds.{watershed}
 use Rattle.topology.proofs.Accepted.{accepted-is, places-bound}
-use Rattle.watershed_laws.proofs.Running.{Running, Nobody, measure}
+use Rattle.watershed_laws.proofs.Running.{Running, NoPlace, measure}
 use Rattle.watershed_laws.proofs.Turns.{running-end}
 use Rattle.watershed_laws.proofs.Lending.{start-lent, start-back, size-back}
 use Rattle.watershed.proofs.Held.{tree-holds}
@@ -18,7 +18,7 @@ use Rattle.watershed.proofs.run.lower_all.Statement.{statement}
 use Rattle.watershed.proofs.run.lower_all.Tie as tie
 
 abbrev Inv-loop : tie.InvT-loop
-Inv-loop a w h out₀ work₀ n e x₀ out work x = Running (pictureOf a w h []) out (take (3 * (w * h)) work) (drop (3 * (w * h)) work) Nobody ×
+Inv-loop a w h out₀ work₀ n e x₀ out work x = Running (pictureOf a w h []) out (take (3 * (w * h)) work) (drop (3 * (w * h)) work) NoPlace ×
     (x ≡ getD (drop (3 * (w * h)) work) 1 0) ×
     (watershed (pictureOf a w h out) ≡ watershed (pictureOf a w h out₀)) ×
     (length work ≡ 5 * (w * h))
@@ -49,7 +49,7 @@ build-requires c κs = let s = c .before .before .before .before in
     let f = pictureOf (s .args .a) (s .args .w) (s .args .h) (s .args .out .now) in
     let ok = accepted-is f (s .pre .0) in (
       start-lent f (s .args .out .now) (s .args .work .now) (s .pre .1),
-      mul-le-mul (ok .wide) (ok .tall),
+      mul-le-mul (ok .some) (ok .tall),
       places-bound f ok,
       ok .size,
     )
@@ -64,7 +64,7 @@ slice-read-wide : tie.Need-slice-read-wide Inv-loop μ-loop
 slice-read-wide c = let s = c .before .before .before .before .before .before .before .before in
     let f = pictureOf (s .args .a) (s .args .w) (s .args .h) (s .args .out .now) in
     let ok = accepted-is f (s .pre .0) in
-    let filled : 1 ≤ places f = mul-le-mul (ok .wide) (ok .tall) in
+    let filled : 1 ≤ places f = mul-le-mul (ok .some) (ok .tall) in
     omega
     (arith, size-back f (s .args .out .now) (s .args .work .now) (c .before .before .before .build .last .1 .0) (s .pre .1) (c .before .before .before .build .ensures .size))
 
