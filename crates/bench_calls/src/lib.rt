@@ -1,23 +1,12 @@
 // The calls for measurements and tests from C: numbers and memory as they are, the answer as one number. They promise nothing but safety.
 use board::Answer;
-use board::Ground;
+use board::patch_number;
 use faults::work_fault;
 use patch_lists::fill_figures;
-ghost use Prim.Native.Nat.{_≤_};
 
 // The refusal's number above 32 bits of value.
 fn as_number(answer: Answer) -> u64 {
     answer.number as u64 * 4294967296 + answer.value as u64
-}
-
-// The number of a patch, 0 for the line.
-fn patch_of(ground: Ground) -> u64
-    ensures { λ r. ⌜ r ≤ 65535 ⌝ }
-{
-    match ground {
-        Ground::Line => 0,
-        Ground::Patch(number) => number as u64,
-    }
 }
 
 #[no_mangle]
@@ -131,7 +120,7 @@ pub extern "C" fn bench_query_place(
 ) -> u64 {
     let answer = board::query_place(a, w, h, pixels, place, work);
     let ground = answer.ground;
-    answer.number as u64 * 4294967296 + answer.value as u64 * 65536 + patch_of(ground)
+    answer.number as u64 * 4294967296 + answer.value as u64 * 65536 + patch_number(ground) as u64
 }
 
 // The figures of all patches left in work; 0 for a refusal.

@@ -25,7 +25,7 @@ use Rattle.lent_tree.specs.Passes.{PassReady}
 use Rattle.faults.specs.Faults.{outputFault}
 use Rattle.answers.specs.Answers.{over, afterCall}
 use Rattle.board.specs.Trees.{begins, isTree, shortest, treeFaultOf, placesFaultOf, checkedFault, TreeLent}
-use Rattle.faults.proofs.Laws.{Admitted, admitted, output-enough, first-some, first-none, first-zero, when-zero}
+use Rattle.faults.proofs.Laws.{Admitted, admitted, output-enough, first-some, first-none, first-zero, then-none}
 use Rattle.answers.proofs.Shell.{written-left}
 
 -- a list begins with another: entry by entry
@@ -103,8 +103,7 @@ module _ (p : Picture) (count : ℕ) (hs fs ss m : List ℕ) where
   pub no-checked-fault : (f : ℕ) → checkedFault f p count hs fs ss m ≡ 0 → (f ≡ 0) × (isTree p count hs fs ss m ≡ true)
   unfolding checkedFault
   no-checked-fault f e =
-      let z = first-zero f (when (not (isTree p count hs fs ss m)) 11) e in
-      (z .0, not-false (isTree p count hs fs ss m) (when-zero 10 (not (isTree p count hs fs ss m)) (z .1)))
+      let z = then-none f 10 (not (isTree p count hs fs ss m)) _ refl e in (z .0, not-false (isTree p count hs fs ss m) (z .1))
 
 -- the fault of two places
 module _ (n x y : ℕ) where

@@ -1,24 +1,20 @@
 -- The laws of a call that lends output and work: its refusal, what is known without one, and its end.
 use mathlib.Core.Path.{_≡_, sym, _∙_}
-use mathlib.Core.Bool.{true}
 use mathlib.Core.Logic.{_≢_}
 use mathlib.Core.List.{List, _++_}
 use Prim.Native.Nat.{ℕ, _*_, _≤_}
 use lib.ListN.{length, getD, drop}
-use Rattle.picture.specs.Pictures.{Picture, places, isPicture}
-use Rattle.faults.proofs.Laws.{output-enough, admitted}
+use Rattle.picture.specs.Pictures.{Picture, places}
+use Rattle.faults.proofs.Laws.{Admitted, output-enough, admitted}
 use Rattle.answers.specs.declared.Answer.{Answer}
 use Rattle.answers.specs.Answers.{IsRefusal, Finished}
 use Rattle.answers.proofs.Shell.{refused-answer, refused-left, accepted-answer, written-over, cleared-left}
 use Rattle.board.specs.Calls.{outputFaultOf, OutputSays}
 
--- an accepted picture, with an entry a place of output and five of work
+-- what a core is lent, with an entry a place of output
 pub record OutputLent (p : Picture) (o q : List ℕ) : Type 0 where
-  pub picture : isPicture p ≡ true
-  pub size : length (p .pixels) ≡ places p
-  pub few : places p ≤ 1600
+  pub core : Admitted p (length q)
   pub out : places p ≤ length o
-  pub room : 5 * length (p .pixels) ≤ length q
 
 -- g is the fault of the call
 module _ (p : Picture) (o q : List ℕ) (g : ℕ) (e : g ≡ outputFaultOf p o q) where
@@ -34,8 +30,7 @@ module _ (p : Picture) (o q : List ℕ) (g : ℕ) (e : g ≡ outputFaultOf p o q
     pub output-lent : OutputLent p o q
     output-lent =
         let h = output-enough (p .adjacency) (p .width) (p .height) (length (p .pixels)) (length q) (length o) (sym e ∙ z) in
-        let a = admitted p (length q) (h .0) bytes in
-        record { picture = a .picture; size = a .size; few = a .few; out = h .1; room = a .room }
+        record { core = admitted p (length q) (h .0) bytes; out = h .1 }
 
     -- the core has written the list new to a part of n entries of the output, and work is lent to it and cleared
     pub output-done :
@@ -47,5 +42,5 @@ module _ (p : Picture) (o q : List ℕ) (g : ℕ) (e : g ≡ outputFaultOf p o q
         record {
           answer = accepted-answer (outputFaultOf p o q) v u r n w (f .answer);
           output = written-over (outputFaultOf p o q) (length (p .pixels)) new o ys n l s;
-          work = cleared-left (outputFaultOf p o q) (length (p .pixels)) p q lent q′ n (output-lent .size) d (f .work);
+          work = cleared-left (outputFaultOf p o q) (length (p .pixels)) p q lent q′ n (output-lent .core .size) d (f .work);
         }

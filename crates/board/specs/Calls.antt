@@ -51,6 +51,11 @@ abbrev pub groundOf : ℕ → Ground
 groundOf zero = G.Line
 groundOf (suc n) = G.Patch (suc n)
 
+-- the patch number of where a place lies, 0 for the line
+abbrev pub patchNumber : Ground → ℕ
+patchNumber G.Line = 0
+patchNumber (G.Patch n) = n
+
 -- the record of a place query: number, value, and the line or the patch
 abbrev pub QueryIs : ℕ → ℕ → ℕ → Queried → Type 0
 QueryIs f v n r = r ≡ record { number = f; value = v; ground = groundOf n }

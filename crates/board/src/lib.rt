@@ -31,7 +31,7 @@ ghost use Rattle.picture.specs.Pictures.{pictureOf};
 ghost use Rattle.answers.specs.Answers.{cleared};
 ghost use Rattle.reading.specs.Reads.{ReadSays};
 ghost use Rattle.board.specs.Pixels.{PixelsSay};
-ghost use Rattle.board.specs.Calls.{LabelsSay, LowerSays, WaterSays, groundOf, Admits, QueryIs, QuerySays};
+ghost use Rattle.board.specs.Calls.{LabelsSay, LowerSays, WaterSays, groundOf, patchNumber, Admits, QueryIs, QuerySays};
 ghost use Rattle.board.specs.Trees.{TreeSays, CheckSays, PassSays};
 ghost use Rattle.picture.specs.Patches.{patchAt};
 ghost use Rattle.board.specs.PatchLists.{PatchesSay};
@@ -201,6 +201,16 @@ pub fn watershed_of(
 pub enum Ground {
     Line,
     Patch(u16),
+}
+
+// The patch number of where a place lies, 0 for the line.
+pub fn patch_number(ground: Ground) -> u16
+    ensures { λ r. ⌜ r ≡ patchNumber ground ⌝ }
+{
+    match ground {
+        Ground::Line => 0,
+        Ground::Patch(number) => number,
+    }
 }
 
 // The number of a refusal, or 0 with the pixel's value and where it lies.

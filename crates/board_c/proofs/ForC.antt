@@ -8,7 +8,7 @@ use native.Mathlib.Omega.{arith}
 use lib.Dec.{eqb, ltb, leb}
 use lib.ListN.{length, take, drop, replicate, length-replicate}
 use lib.Seq.{take-at}
-use borrow.Author.Tests.{eq-eqb, ltb-true, ltb-false, lt-ltb, le-ltb, le-leb, lt-leb, leb-false}
+use borrow.Author.Tests.{eq-eqb, ltb-true, ltb-false, lt-ltb, le-ltb, lt-leb, leb-false}
 use Rattle.lists.specs.Lists.{pick}
 use Rattle.picture.specs.Pictures.{Picture, places, valueAt}
 use Rattle.faults.specs.PictureFault.{firstOf, when, faultOf, pictureFault}
@@ -21,10 +21,10 @@ use Rattle.answers.specs.declared.Answer.{Answer}
 use Rattle.board.specs.declared.Queried.{Queried}
 use Rattle.faults.specs.Faults.{workFault, outputFault}
 use Rattle.answers.specs.Answers.{over, afterCall, workAfter}
-use Rattle.board.specs.Calls.{outputFaultOf, placeFaultOf, groundOf, WaterSays, QuerySays}
-use Rattle.faults.proofs.Laws.{first-some, first-none, first-zero, when-zero, place-fine, workFaultOf, work-size, fault-size, fault-few, work-enough, work-none, output-none, output-enough, place-behind}
+use Rattle.board.specs.Calls.{outputFaultOf, placeFaultOf, groundOf, patchNumber, WaterSays, QuerySays}
+use Rattle.faults.proofs.Laws.{first-some, first-none, first-zero, when-zero, then-failed, then-none, workFaultOf, work-size, fault-size, fault-few, work-enough, work-none, output-none, output-enough, place-behind}
 use Rattle.answers.proofs.Shell.{refused-left, written-left}
-use Rattle.board_c.specs.CalledByC.{pair, readFaultForC, headerBytes, ReadForC, waterFaultForC, bytesAfter, WaterForC, placeFaultForC, placeFaultForCOf, patchNumber, PlaceForC}
+use Rattle.board_c.specs.CalledByC.{pair, readFaultForC, headerBytes, ReadForC, waterFaultForC, bytesAfter, WaterForC, placeFaultForC, placeFaultForCOf, PlaceForC}
 use Rattle.packing.specs.Packing.{packed}
 use Rattle.packing.proofs.Packed.{written-front, packed-zeros}
 
@@ -194,27 +194,20 @@ module _ (a w h l out work x : ℕ) where
         sym (first-none (workFault a w h l (work / 2)) rest-of z ∙ ap (λ (t : Bool). firstOf (when t 9) (when (leb (w * h) x) 10)) (lt-ltb out 16 b)) ∙
         place-is
 
-    tail : 16 ≤ out → (t : Bool) → leb (w * h) x ≡ t → when t 10 ≡ placeFaultForC a w h l out work x
+    pub place-last : 16 ≤ out → when (leb l x) 10 ≡ placeFaultForC a w h l out work x
     unfolding rest-of
-    tail b t e =
-        sym
-        (first-none (workFault a w h l (work / 2)) rest-of z ∙
-        ap₂ (λ (u v : Bool). firstOf (when u 9) (when v 10)) (le-ltb out 16 b) e) ∙
-        place-is
-
-    pub place-beyond : 16 ≤ out → l ≤ x → 10 ≡ placeFaultForC a w h l out work x
-    place-beyond b c = tail b true (le-leb (w * h) x (let s = work-size a w h l (work / 2) z in omega arith))
-
-    pub place-none : 16 ≤ out → x < l → 0 ≡ placeFaultForC a w h l out work x
-    place-none b c = tail b false (lt-leb (w * h) x (let s = work-size a w h l (work / 2) z in omega arith))
+    place-last b =
+        ap (λ (n : ℕ). when (leb n x) 10) (work-size a w h l (work / 2) z) ∙
+        (sym (first-none (workFault a w h l (work / 2)) rest-of z ∙ ap (λ (t : Bool). firstOf (when t 9) (when (leb (w * h) x) 10)) (le-ltb out 16 b)) ∙
+        place-is)
 
   -- no fault of a place query: each cause is absent
   pub place-enough : placeFaultForC a w h l out work x ≡ 0 → (workFault a w h l (work / 2) ≡ 0) × (16 ≤ out) × (x < w * h)
   unfolding rest-of
   place-enough e =
       let z = first-zero (workFault a w h l (work / 2)) rest-of (place-is ∙ e) in
-      let y = first-zero (when (ltb out 16) 9) (when (leb (w * h) x) 10) (z .1) in
-      (z .0, ltb-false out 16 (when-zero 8 (ltb out 16) (y .0)), leb-false (w * h) x (when-zero 9 (leb (w * h) x) (y .1)))
+      let y = then-none (when (ltb out 16) 9) 9 (leb (w * h) x) _ refl (z .1) in
+      (z .0, ltb-false out 16 (when-zero 8 (ltb out 16) (y .0)), leb-false (w * h) x (y .1))
 
 -- the number of a ground is the one that it was made of
 ground-number : (n : ℕ) → patchNumber (groundOf n) ≡ n
@@ -259,8 +252,8 @@ module _ (p : Picture) (x : ℕ) (o q : List ℕ) where
     place-inner cells e =
         let n = length (p .pixels) in
         sym
-        (place-fine (workFaultOf p (length cells)) n x (local-work p q place-lent cells e) (omega (arith, place-lent .size, absent .2)) ∙
-        place-behind (p .adjacency) (p .width) (p .height) n (length cells) x)
+        (then-failed _ 9 (leb n x) _ (place-behind (p .adjacency) (p .width) (p .height) n (length cells) x)
+        (local-work p q place-lent cells e) (lt-leb n x (omega (arith, place-lent .size, absent .2))))
 
     -- no fault: what the public call answered and left with the unpacked entries, and what was written and packed of it
     pub place-done :

@@ -11,8 +11,6 @@ use Rattle.picture.specs.Watersheds.{watershed}
 use Rattle.picture.specs.Patches.{patchAt}
 use Rattle.p5.specs.Files.{readFile, numberOf, headerOf}
 use Rattle.text.specs.Little.{littleEndian}
-use Rattle.board.specs.declared.Ground.{Ground}
-use Rattle.board.specs.declared.Ground.the-variants as G
 use Rattle.answers.specs.Answers.{over, afterCall}
 
 -- two numbers as eight bytes each, lowest first
@@ -59,11 +57,6 @@ placeFaultForC a w h l out work x =
 abbrev pub placeFaultForCOf : Picture → ℕ → List ℕ → List ℕ → ℕ
 placeFaultForCOf p x o q =
     placeFaultForC (p .adjacency) (p .width) (p .height) (length (p .pixels)) (length o) (length q) x
-
--- the patch number of where a place lies, 0 for the line
-abbrev pub patchNumber : Ground → ℕ
-patchNumber G.Line = 0
-patchNumber (G.Patch n) = n
 
 -- the result of the place query for C, and what it leaves: the value and the patch's number, 0 for the line
 pub record PlaceForC (p : Picture) (x : ℕ) (o o′ q q′ : List ℕ) (r : ℕ) : Type 0 where

@@ -1,9 +1,10 @@
 // The calls for C: numbers and byte memory only.
-use board::Ground;
+use board::patch_number;
 use board::query_place;
 use board::read_file;
 use board::watershed_of;
 use faults::output_fault;
+use faults::place_after;
 use faults::work_fault;
 use packing::pack;
 use packing::unpack;
@@ -13,7 +14,7 @@ ghost use Prim.Native.Nat.{_+_, _≤_};
 ghost use lib.ListN.{length};
 ghost use Rattle.picture.specs.Pictures.{pictureOf};
 ghost use Rattle.text.specs.Writing.{Written};
-ghost use Rattle.board_c.specs.CalledByC.{pair, ReadForC, WaterForC, placeFaultForC, patchNumber, PlaceForC};
+ghost use Rattle.board_c.specs.CalledByC.{pair, ReadForC, WaterForC, placeFaultForC, PlaceForC};
 
 // Writes two numbers as eight bytes each, lowest first, and answers the place behind them.
 fn put_pair(out: &mut [u8], at: usize, x: u64, y: u64) -> usize
@@ -92,20 +93,7 @@ fn place_fault_for_c(
     if out < 16 {
         return 9;
     }
-    if length <= place as usize {
-        return 10;
-    }
-    0
-}
-
-// The patch number of where a place lies, 0 for the line.
-fn patch_number(ground: Ground) -> u16
-    ensures { λ r. ⌜ r ≡ patchNumber ground ⌝ }
-{
-    match ground {
-        Ground::Line => 0,
-        Ground::Patch(number) => number,
-    }
+    place_after(0, length, place)
 }
 
 // The value of the pixel at a place and the number of its patch, 0 for the line.

@@ -6,7 +6,7 @@ use Prim.Native.Nat.{ℕ, zero, suc, _*_, _≤_, _<_}
 use native.Mathlib.Omega.{arith}
 use lib.Dec.{ltb, leb}
 use lib.ListN.{length, getD}
-use borrow.Author.Tests.{eqb-true, ltb-false, leb-false, lt-ltb, le-ltb, le-leb, lt-leb}
+use borrow.Author.Tests.{eqb-true, ltb-false, leb-false, lt-ltb, le-ltb}
 use Rattle.picture.specs.Pictures.{Picture, places, sideFits, isPicture}
 use Rattle.faults.specs.PictureFault.{firstOf, when, faultOf, pictureFault}
 use Rattle.lists.proofs.Tests.{and-left, and-right}
@@ -45,12 +45,19 @@ pub when-zero : (n : ℕ) (b : Bool) → when b (suc n) ≡ 0 → b ≡ false
 when-zero n true e = absurd (omega arith)
 when-zero n false e = refl
 
--- a fault behind none: the place is n or more, or it is not
-pub place-late : (f n x : ℕ) → f ≡ 0 → n ≤ x → 10 ≡ firstOf f (when (leb n x) 10)
-place-late f n x z b = sym (first-none f _ z ∙ ap (λ (t : Bool). when t 10) (le-leb n x b))
+-- a fault f, then suc n where a test passes; g is the fault of both
+module _ (f n : ℕ) (t : Bool) (g : ℕ) (is : firstOf f (when t (suc n)) ≡ g) where
+  pub then-first : (r : ℕ) → r ≡ f → r ≢ 0 → r ≡ g
+  then-first r e d = first-some f _ r e d ∙ is
 
-pub place-fine : (f n x : ℕ) → f ≡ 0 → x < n → 0 ≡ firstOf f (when (leb n x) 10)
-place-fine f n x z b = sym (first-none f _ z ∙ ap (λ (t : Bool). when t 10) (lt-leb n x b))
+  pub then-passed : f ≡ 0 → t ≡ true → suc n ≡ g
+  then-passed z e = sym (first-none f _ z ∙ ap (λ (b : Bool). when b (suc n)) e) ∙ is
+
+  pub then-failed : f ≡ 0 → t ≡ false → 0 ≡ g
+  then-failed z e = sym (first-none f _ z ∙ ap (λ (b : Bool). when b (suc n)) e) ∙ is
+
+  pub then-none : g ≡ 0 → (f ≡ 0) × (t ≡ false)
+  then-none e = let z = first-zero f (when t (suc n)) (is ∙ e) in (z .0, when-zero n t (z .1))
 
 -- the fault of a picture's arguments and the length of work
 abbrev pub workFaultOf : Picture → ℕ → ℕ
@@ -66,32 +73,23 @@ module _ (a w h l : ℕ) where
       let s = no-fault a w h l e .sides in
       area-most w h (side-most w (and-left (sideFits w) _ s)) (side-most h (and-right (sideFits w) _ s))
 
-  -- the tests of the fault functions
   module _ (work : ℕ) where
-    pub work-first : (r : ℕ) → r ≡ faultOf a w h l → r ≢ 0 → r ≡ workFault a w h l work
+    work-is : firstOf (faultOf a w h l) (when (ltb work (5 * (w * h))) 9) ≡ workFault a w h l work
     unfolding workFault
-    work-first r e d = first-some (faultOf a w h l) _ r e d
+    work-is = refl
+
+    pub work-first : (r : ℕ) → r ≡ faultOf a w h l → r ≢ 0 → r ≡ workFault a w h l work
+    work-first = then-first _ 8 (ltb work (5 * (w * h))) _ work-is
 
     pub work-short : faultOf a w h l ≡ 0 → work < 5 * l → 9 ≡ workFault a w h l work
-    unfolding workFault
-    work-short e b =
-        let s = fault-size e in
-        let m : work < 5 * (w * h) = omega arith in
-        sym (first-none (faultOf a w h l) _ e ∙ ap (λ (t : Bool). when t 9) (lt-ltb work (5 * (w * h)) m))
+    work-short e b = then-passed _ 8 _ _ work-is e (lt-ltb work (5 * (w * h)) (let s = fault-size e in omega arith))
 
     pub work-none : faultOf a w h l ≡ 0 → 5 * l ≤ work → 0 ≡ workFault a w h l work
-    unfolding workFault
-    work-none e b =
-        let s = fault-size e in
-        let m : 5 * (w * h) ≤ work = omega arith in
-        sym (first-none (faultOf a w h l) _ e ∙ ap (λ (t : Bool). when t 9) (le-ltb work (5 * (w * h)) m))
+    work-none e b = then-failed _ 8 _ _ work-is e (le-ltb work (5 * (w * h)) (let s = fault-size e in omega arith))
 
     -- no fault of a picture's arguments and work
     pub work-enough : workFault a w h l work ≡ 0 → (faultOf a w h l ≡ 0) × (5 * (w * h) ≤ work)
-    unfolding workFault
-    work-enough e =
-        let z = first-zero (faultOf a w h l) (when (ltb work (5 * (w * h))) 9) e in
-        (z .0, ltb-false work (5 * (w * h)) (when-zero 8 (ltb work (5 * (w * h))) (z .1)))
+    work-enough e = let z = then-none _ 8 _ _ work-is e in (z .0, ltb-false work (5 * (w * h)) (z .1))
 
     pub work-size : workFault a w h l work ≡ 0 → l ≡ w * h
     work-size e = fault-size (work-enough e .0)
@@ -102,24 +100,16 @@ module _ (a w h l : ℕ) where
       output-is = first-either (faultOf a w h l) 8 (ltb out (w * h)) (ltb work (5 * (w * h)))
 
       pub output-first : (r : ℕ) → r ≡ workFault a w h l work → r ≢ 0 → r ≡ outputFault a w h l out work
-      output-first r e d = first-some (workFault a w h l work) _ r e d ∙ output-is
+      output-first = then-first _ 8 (ltb out (w * h)) _ output-is
 
       pub output-short : workFault a w h l work ≡ 0 → out < l → 9 ≡ outputFault a w h l out work
-      output-short e b =
-          let s = work-size e in
-          let m : out < w * h = omega arith in
-          sym (first-none (workFault a w h l work) _ e ∙ ap (λ (t : Bool). when t 9) (lt-ltb out (w * h) m)) ∙ output-is
+      output-short e b = then-passed _ 8 _ _ output-is e (lt-ltb out (w * h) (let s = work-size e in omega arith))
 
       pub output-none : workFault a w h l work ≡ 0 → l ≤ out → 0 ≡ outputFault a w h l out work
-      output-none e b =
-          let s = work-size e in
-          let m : w * h ≤ out = omega arith in
-          sym (first-none (workFault a w h l work) _ e ∙ ap (λ (t : Bool). when t 9) (le-ltb out (w * h) m)) ∙ output-is
+      output-none e b = then-failed _ 8 _ _ output-is e (le-ltb out (w * h) (let s = work-size e in omega arith))
 
       pub output-enough : outputFault a w h l out work ≡ 0 → (workFault a w h l work ≡ 0) × (w * h ≤ out)
-      output-enough e =
-          let z = first-zero (workFault a w h l work) (when (ltb out (w * h)) 9) (output-is ∙ e) in
-          (z .0, ltb-false out (w * h) (when-zero 8 (ltb out (w * h)) (z .1)))
+      output-enough e = let z = then-none _ 8 _ _ output-is e in (z .0, ltb-false out (w * h) (z .1))
 
     module _ (x : ℕ) where
       place-is : firstOf (workFault a w h l work) (when (leb (w * h) x) 10) ≡ placeFault a w h l work x
@@ -135,9 +125,7 @@ module _ (a w h l : ℕ) where
           counted (suc f) e = refl
 
       pub place-enough : placeFault a w h l work x ≡ 0 → (workFault a w h l work ≡ 0) × (x < w * h)
-      place-enough e =
-          let z = first-zero (workFault a w h l work) (when (leb (w * h) x) 10) (place-is ∙ e) in
-          (z .0, leb-false (w * h) x (when-zero 9 (leb (w * h) x) (z .1)))
+      place-enough e = let z = then-none _ 9 _ _ place-is e in (z .0, leb-false (w * h) x (z .1))
 
 -- a picture without a fault is accepted, since its pixels come from a slice of bytes
 pub shell-picture : (p : Picture) → pictureFault p ≡ 0 → ((i : ℕ) → getD (p .pixels) i 0 ≤ 255) → isPicture p ≡ true

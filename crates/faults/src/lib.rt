@@ -39,7 +39,7 @@ pub fn output_fault(a: u32, w: u32, h: u32, length: usize, out: usize, work: usi
 }
 
 // A fault, then 10 for a place that is n or more.
-fn place_after(fault: u8, n: usize, place: u32) -> u8
+pub fn place_after(fault: u8, n: usize, place: u32) -> u8
     ensures { λ r. ⌜ r ≡ firstOf fault (when (leb n place) 10) ⌝ }
 {
     if fault != 0 {

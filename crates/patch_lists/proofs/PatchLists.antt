@@ -28,7 +28,7 @@ use Rattle.answers.specs.declared.Answer.{Answer}
 use Rattle.faults.specs.Faults.{workFault}
 use Rattle.answers.specs.Answers.{IsRefusal, IsValue}
 use Rattle.patch_lists.specs.PatchLists.{listFault, recordOf, Figured, Gathered}
-use Rattle.faults.proofs.Laws.{first-some, first-none, first-zero, first-either, when-zero, workFaultOf}
+use Rattle.faults.proofs.Laws.{first-either, then-first, then-passed, then-failed, then-none, workFaultOf}
 use Rattle.answers.proofs.Shell.{refused-answer, refused-left, accepted-answer, cleared-left, lent-length, behind-lent}
 
 -- the fault, after that of the picture and of work
@@ -38,20 +38,16 @@ module _ (p : Picture) (room work : ℕ) where
   list-is = first-either (pictureFault p) 8 (ltb room (length (patches p))) (ltb work (5 * places p))
 
   pub list-first : (r : ℕ) → r ≡ workFaultOf p work → r ≢ 0 → r ≡ listFault p room work
-  list-first r e d = first-some (workFaultOf p work) _ r e d ∙ list-is
+  list-first = then-first _ 8 (ltb room (length (patches p))) _ list-is
 
   pub list-short : workFaultOf p work ≡ 0 → room < length (patches p) → 9 ≡ listFault p room work
-  list-short e b =
-      sym (first-none (workFaultOf p work) _ e ∙ ap (λ (t : Bool). when t 9) (lt-ltb room (length (patches p)) b)) ∙ list-is
+  list-short e b = then-passed _ 8 _ _ list-is e (lt-ltb room (length (patches p)) b)
 
   pub list-none : workFaultOf p work ≡ 0 → length (patches p) ≤ room → 0 ≡ listFault p room work
-  list-none e b =
-      sym (first-none (workFaultOf p work) _ e ∙ ap (λ (t : Bool). when t 9) (le-ltb room (length (patches p)) b)) ∙ list-is
+  list-none e b = then-failed _ 8 _ _ list-is e (le-ltb room (length (patches p)) b)
 
   pub list-enough : listFault p room work ≡ 0 → (workFaultOf p work ≡ 0) × (length (patches p) ≤ room)
-  list-enough e =
-      let z = first-zero (workFaultOf p work) (when (ltb room (length (patches p))) 9) (list-is ∙ e) in
-      (z .0, ltb-false room (length (patches p)) (when-zero 8 (ltb room (length (patches p))) (z .1)))
+  list-enough e = let z = then-none _ 8 _ _ list-is e in (z .0, ltb-false room (length (patches p)) (z .1))
 
 -- an accepted picture has at most 1,600 places, and heights and depths of its patches are bytes
 module _ (p : Picture) (h : isPicture p ≡ true) where

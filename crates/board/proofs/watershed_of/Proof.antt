@@ -39,25 +39,25 @@ returns c =
     output-refused _ _ _ _ (c .before .before .output-fault .ensures) (c .before .if1 .taken) _ _ _ (c .refused .ensures)
 
 mul-whole : tie.Need-mul-whole
-mul-whole c = omega (arith, lends c .size, lends c .few)
+mul-whole c = omega (arith, lends c .core .size, lends c .core .few)
 
 slice-relend-prefix-watershed-core : tie.Need-slice-relend-prefix-watershed-core
-slice-relend-prefix-watershed-core c = omega (arith, lends c .size, lends c .out)
+slice-relend-prefix-watershed-core c = omega (arith, lends c .core .size, lends c .out)
 
 slice-aggregate-watershed-core : tie.Need-slice-aggregate-watershed-core
 slice-aggregate-watershed-core c =
-    lent-length _ _ (omega (arith, lends (c .before) .size, lends (c .before) .out))
+    lent-length _ _ (omega (arith, lends (c .before) .core .size, lends (c .before) .out))
 
 slice-relend-prefix-watershed-core-2 : tie.Need-slice-relend-prefix-watershed-core-2
-slice-relend-prefix-watershed-core-2 c = omega (arith, lends (c .before) .room)
+slice-relend-prefix-watershed-core-2 c = omega (arith, lends (c .before) .core .room)
 
 slice-aggregate-watershed-core-2 : tie.Need-slice-aggregate-watershed-core-2
-slice-aggregate-watershed-core-2 c = lent-length _ _ (omega (arith, lends (c .before .before) .room))
+slice-aggregate-watershed-core-2 c = lent-length _ _ (omega (arith, lends (c .before .before) .core .room))
 
 watershed-core-requires : tie.Need-watershed-core-requires
 watershed-core-requires c κs =
     let e = c .before .before in
-    let a = lends e in
+    let a = lends e .core in
     let s = origin e in
     let n = lent-length (size s) (s .args .out .now) (omega (arith, a .size, lends e .out)) in
     let m = lent-length (5 * size s) (s .args .work .now) (a .room) in
@@ -68,7 +68,7 @@ finish-requires c κs =
     let t = c .before .before .before .before .before in
     let e = t .before .before .before in
     let s = origin e in
-    let a = lends e in (
+    let a = lends e .core in (
       omega (arith, a .size, a .few),
       back-room (5 * size s) (5 * size s) (t .watershed-core .last .1 .1 .1 .1 .1 .0) (s .args .work .now) (t .watershed-core .kept .1 .1 .1 .1 .1 .0) (a .room),
     )
@@ -84,7 +84,7 @@ returns-2 c =
     let t = c .before .before .before .before .before .before .before .before in
     let e = t .before .before .before in
     let s = origin e in
-    let a = lends e in
+    let a = lends e .core in
     output-done _ _ _ _ (e .before .output-fault .ensures) (e .if1 .left) (bytes e) _ _ _ _ _ _ _ refl
     (watershed-watered (pictured s) (a .size) .size)
     (t .watershed-core .ensures)
