@@ -12,20 +12,17 @@ use Rattle.text.specs.Decimal.{decimal, fields}
 use Rattle.hold_lines.specs.Figures.{concatMap, lineOf}
 use Rattle.text.specs.Writing.{Written}
 use Rattle.answers.proofs.Shell.{lent-length}
-use Rattle.text.proofs.Decimals.{tens, decimal-length}
+use Rattle.text.proofs.Decimals.{decimal-length}
 use Rattle.text.proofs.Writings.{written-then}
 
 -- a number below a power of ten has no more digits than the power
 pub four-digits : (n : ℕ) → n < 10000 → length (decimal n) ≤ 4
-unfolding tens
 four-digits n h = decimal-length 3 n h
 
 pub five-digits : (n : ℕ) → n < 100000 → length (decimal n) ≤ 5
-unfolding tens
 five-digits n h = decimal-length 4 n h
 
 pub six-digits : (n : ℕ) → n < 1000000 → length (decimal n) ≤ 6
-unfolding tens
 six-digits n h = decimal-length 5 n h
 
 pub last-length : (n : ℕ) → length (fields (n ∷ [])) ≡ suc (length (decimal n))

@@ -12,14 +12,13 @@ use Rattle.reading.specs.declared.Read.{Read}
 use Rattle.reading.specs.Reads.{ReadSays}
 use Rattle.read_report.specs.Reports.{report}
 use Rattle.text.specs.Decimal.{decimal, fields}
-use Rattle.text.proofs.Decimals.{tens, decimal-length}
+use Rattle.text.proofs.Decimals.{decimal-length}
 
 -- what is known of a record by its fields' types
 abbrev pub Known : Read → Type 0
 Known w = Fits w8 (w .number) × (Fits w64 (w .place) × (Fits w32 (w .width) × (Fits w32 (w .height) × (Fits w32 (w .largest) × (Fits w64 (w .offset) × Unit {0})))))
 
 number-fits : (n : ℕ) → n < 2 ^ 32 → length (decimal n) ≤ 10
-unfolding tens
 number-fits n l = decimal-length 9 n (omega arith)
 
 module _ (f : List ℕ) (w : Read) (s : ReadSays f w) where

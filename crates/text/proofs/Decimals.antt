@@ -2,7 +2,8 @@
 use mathlib.Core.Path.{_≡_, refl, sym, ap, _∙_}
 use mathlib.Core.Logic.{by-cases}
 use mathlib.Core.List.{List, [], _∷_, _++_, append-nil, append-assoc}
-use Prim.Native.Nat.{ℕ, zero, suc, _+_, _*_, _/_, _%_, _≤_, _<_}
+use Prim.Native.Nat.{ℕ, zero, suc, _+_, _*_, _/_, _%_, _^_, _≤_, _<_}
+use native.Mathlib.Nat.{pow-suc}
 use native.Mathlib.Decide.{decLt}
 use native.Mathlib.Omega.{arith}
 use lib.Dec.{ltb}
@@ -47,17 +48,13 @@ decimal-more n h =
     ap (λ (d : List ℕ). d ++ ((48 + n % 10) ∷ [])) (digits-enough n (suc (n / 10)) (n / 10) (omega arith) (omega arith))
 
 -- at most as many digits as the power of ten above the number
-unfoldable pub tens : ℕ → ℕ
-tens zero = 1
-tens (suc l) = 10 * tens l
-
-pub decimal-length : (l n : ℕ) → n < tens (suc l) → length (decimal n) ≤ suc l
-unfolding tens
+pub decimal-length : (l n : ℕ) → n < 10 ^ suc l → length (decimal n) ≤ suc l
 decimal-length zero n h = let e = ap length (decimal-one n h) in omega arith
 decimal-length (suc l) n h =
     by-cases (decLt n 10)
     (λ b. let e = ap length (decimal-one n b) in omega arith)
     (λ b.
+    let p = pow-suc 10 (suc l) in
     let r = decimal-length l (n / 10) (omega arith) in
     let e = ap length (decimal-more n (omega arith)) ∙ length-append (decimal (n / 10)) ((48 + n % 10) ∷ []) in
     omega arith)
