@@ -1,11 +1,10 @@
 -- The files of the edge cases.
-use mathlib.Core.List.{List, [], _∷_, _++_}
+use mathlib.Core.List.{List, [], _∷_, _++_, flatMap}
 use Prim.Native.Nat.{ℕ, _+_, _*_, _%_}
 use lib.Dec.{ltb}
 use lib.ListN.{replicate}
 use Rattle.lists.specs.Lists.{pick, range}
 use Rattle.text.specs.Decimal.{fields}
-use Rattle.hold_lines.specs.Figures.{concatMap}
 
 -- how many values a pixel can have at a largest sample: one more than it, at most 256
 abbrev pub valuesOf : ℕ → ℕ
@@ -17,7 +16,7 @@ edgePixel v i = (i * i * 31 + i * 17) % v
 
 -- as many pixels, each one of v values
 abbrev pub edgePixels : ℕ → ℕ → List ℕ
-edgePixels v count = concatMap (λ i. edgePixel v i ∷ []) (range 0 count)
+edgePixels v count = flatMap (λ i. edgePixel v i ∷ []) (range 0 count)
 
 -- the line of the sides and that of the largest sample
 abbrev pub numberLines : ℕ → ℕ → ℕ → List ℕ

@@ -1,14 +1,9 @@
 -- Lines of patches from lists of their figures.
-use mathlib.Core.List.{List, [], _∷_, _++_}
+use mathlib.Core.List.{List, [], _∷_}
 use Prim.Native.Nat.{ℕ, suc, _≤_, _<_}
 use lib.ListN.{length, getD}
 use Rattle.picture.specs.Patches.{centre}
 use Rattle.text.specs.Decimal.{fields}
-
--- the texts of the numbers of a list, one behind the other
-abbrev pub concatMap : (ℕ → List ℕ) → List ℕ → List ℕ
-concatMap f [] = []
-concatMap f (x ∷ xs) = f x ++ concatMap f xs
 
 -- the line of the patch i: number, size, height, depth, centres from the sums of columns and rows
 abbrev pub lineOf : ℕ → ℕ → ℕ → ℕ → ℕ → ℕ → List ℕ

@@ -4,12 +4,12 @@ use text::put_bytes;
 use text::put_fields;
 use text::put_number;
 ghost use mathlib.Core.Path.{_≡_};
-ghost use mathlib.Core.List.{_++_};
+ghost use mathlib.Core.List.{_++_, flatMap};
 ghost use Prim.Native.Nat.{_+_, _*_, _<_, _≤_};
 ghost use lib.ListN.{length};
 ghost use Rattle.lists.specs.Lists.{range};
 ghost use Rattle.text.specs.Writing.{Written};
-ghost use Rattle.hold_lines.specs.Figures.{concatMap, lineOf, lineAt, Lists};
+ghost use Rattle.hold_lines.specs.Figures.{lineOf, lineAt, Lists};
 ghost use Rattle.hold_lines.specs.Lines.{patchesWord, headLines, refusedLine};
 ghost use Rattle.text.specs.Decimal.{decimal, fields};
 
@@ -52,7 +52,7 @@ pub fn put_lines(
     rows: &[u16],
 ) -> usize
     requires { ⌜ Lists count (now sizes) (now heights) (now depths) (now columns) (now rows) × (at + 37 * count ≤ length (now out)) ⌝ }
-    ensures { λ r. ⌜ Written at (concatMap (lineAt (now (sizes .entry)) (now (heights .entry)) (now (depths .entry)) (now (columns .entry)) (now (rows .entry))) (range 0 count)) (now (out .entry)) r (now (out .exit)) ⌝ }
+    ensures { λ r. ⌜ Written at (flatMap (lineAt (now (sizes .entry)) (now (heights .entry)) (now (depths .entry)) (now (columns .entry)) (now (rows .entry))) (range 0 count)) (now (out .entry)) r (now (out .exit)) ⌝ }
 {
     let mut to = at;
     let mut i = 0;

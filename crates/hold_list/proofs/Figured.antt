@@ -1,7 +1,7 @@
 -- The lines of the patches of a picture are those of the lists of its figures.
 use mathlib.Core.Path.{_≡_, refl, sym, ap, ap₂, _∙_}
 use mathlib.Core.Logic.{by-cases}
-use mathlib.Core.List.{List, [], _∷_, _++_}
+use mathlib.Core.List.{List, [], _∷_, _++_, flatMap}
 use Prim.Native.Nat.{ℕ, zero, suc, _+_, _-_, _*_, _≤_, _<_}
 use native.Mathlib.Decide.{ℕ-discrete}
 use native.Mathlib.Omega.{arith}
@@ -18,7 +18,7 @@ use Rattle.topology.proofs.PatchFigures.{bottom-number}
 use Rattle.topology.proofs.PatchSums.{sumAt, sum-in, sum-out, patch-begins, count-few, patch-size}
 use Rattle.lists.specs.Blocks.{blockEntry}
 use Rattle.patches.specs.Figures.{noPatch, Figures}
-use Rattle.hold_lines.specs.Figures.{concatMap, lineAt, Lists}
+use Rattle.hold_lines.specs.Figures.{lineAt, Lists}
 use Rattle.hold_lines.specs.Lines.{headLines}
 use Rattle.hold_list.specs.HoldText.{patchLine, patchLines, patchList}
 use Rattle.hold_lines.proofs.Lengths.{line-is}
@@ -26,7 +26,8 @@ use Rattle.hold_lines.proofs.Lengths.{line-is}
 -- lines one by one
 pub lines-from :
     (d : Patch) (f : ℕ → List ℕ) (qs : List Patch) (x : ℕ) → ((i : ℕ) → i < length qs → f (x + i) ≡ patchLine (getD qs i d)) →
-    concatMap f (range x (length qs)) ≡ patchLines qs
+    flatMap f (range x (length qs)) ≡ patchLines qs
+unfolding flatMap
 lines-from d f [] x h = refl
 lines-from d f (q ∷ qs) x h =
     let z : x + 0 ≡ x = omega arith in
@@ -127,12 +128,12 @@ module _ (p : Picture) (r n : ℕ) (work cells : List ℕ) (ok : Accepted p) (si
 
   -- the lines of the lists are those of the patches
   pub lines-are :
-      concatMap (lineAt (take n work) (from (4 * n) work) (from (3 * n) work) (from n work) (from (2 * n) work)) (range 0 r) ≡
+      flatMap (lineAt (take n work) (from (4 * n) work) (from (3 * n) work) (from n work) (from (2 * n) work)) (range 0 r) ≡
       patchLines (patches p)
   lines-are =
       let g = lineAt (take n work) (from (4 * n) work) (from (3 * n) work) (from n work) (from (2 * n) work) in
       let c = f .count in
-      ap (λ (m : ℕ). concatMap g (range 0 m)) c ∙
+      ap (λ (m : ℕ). flatMap g (range 0 m)) c ∙
       lines-from noPatch g (patches p) 0
       (λ i b. let z : 0 + i ≡ i = omega arith in ap g z ∙ line-at i (omega arith))
 
@@ -140,7 +141,7 @@ module _ (p : Picture) (r n : ℕ) (work cells : List ℕ) (ok : Accepted p) (si
   pub list-is :
       (line : ℕ) → line ≡ lineCount p →
       headLines (p .width) (p .height) r line ++
-      concatMap (lineAt (take n work) (from (4 * n) work) (from (3 * n) work) (from n work) (from (2 * n) work)) (range 0 r) ≡
+      flatMap (lineAt (take n work) (from (4 * n) work) (from (3 * n) work) (from n work) (from (2 * n) work)) (range 0 r) ≡
       patchList p
   unfolding patchList
   list-is line e =

@@ -2,7 +2,7 @@
 use mathlib.Core.Path.{_≡_, refl, sym, ap, subst, _∙_}
 use mathlib.Core.Bool.{Bool, true, false, _&&_, _||_, false≢true}
 use mathlib.Core.Logic.{_⊎_, inl, inr, ⊎-elim, _≢_, by-cases}
-use mathlib.Core.List.{List, [], _∷_, _++_, map, List·Memᴰ, List·Memᴰ·head, List·Memᴰ·tail, List·Memᴰ·not-nil, List·Memᴰ·cases-cons}
+use mathlib.Core.List.{List, [], _∷_, _++_, map, List·Memᴰ, List·Memᴰ·head, List·Memᴰ·tail, List·Memᴰ·not-nil, List·Memᴰ·cases-cons, flatMap, append-nil, append-assoc}
 use Prim.Native.Nat.{ℕ, zero, suc, _+_, _≤_, _<_}
 use native.Mathlib.Decide.{ℕ-discrete}
 use native.Mathlib.Omega.{arith}
@@ -275,3 +275,13 @@ any-append t (x ∷ xs) m =
 pub all-snoc : {A : Type 0} (t : A → Bool) (s : List A) (b : A) → all t s ≡ true → t b ≡ true → all t (s ++ b ∷ []) ≡ true
 all-snoc t [] b h e = and-both e refl
 all-snoc t (a ∷ s) b h e = and-both (and-left (t a) _ h) (all-snoc t s b (and-right (t a) _ h) e)
+
+-- the images of a range longer by one, behind one another
+pub flatMap-next : {A : Type 0} (f : ℕ → List A) (x l : ℕ) → flatMap f (range x (suc l)) ≡ flatMap f (range x l) ++ f (x + l)
+unfolding flatMap
+flatMap-next f x zero = let e : x ≡ x + 0 = omega arith in append-nil (f x) ∙ ap f e
+flatMap-next f x (suc l) =
+    let e : suc x + l ≡ x + suc l = omega arith in
+    ap (λ m. f x ++ m) (flatMap-next f (suc x) l) ∙
+    (sym (append-assoc (f x) (flatMap f (range (suc x) l)) (f (suc x + l))) ∙
+    ap (λ (y : ℕ). (f x ++ flatMap f (range (suc x) l)) ++ f y) e)

@@ -1,11 +1,13 @@
 -- Laws of writing: nothing, one byte, more behind it.
 use mathlib.Core.Path.{_≡_, refl, sym, ap, subst, _∙_}
-use mathlib.Core.List.{List, [], _∷_, _++_, append-assoc}
+use mathlib.Core.List.{List, [], _∷_, _++_, append-assoc, flatMap}
 use Prim.Native.Nat.{ℕ, suc, _+_, _-_, _/_, _%_, _≤_, _<_}
 use native.Mathlib.Omega.{arith}
 use native.Mathlib.Numerals.{add-one}
 use lib.ListN.{length, getD, take, drop, set, length-append, length-drop, take-append-drop}
 use lib.Seq.{set-split, take-suc, take-at, drop-at, length-take-le, drop-drop}
+use Rattle.lists.specs.Lists.{range}
+use Rattle.lists.proofs.Lists.{flatMap-next}
 use Rattle.text.specs.Decimal.{decimal, fields}
 use Rattle.text.specs.Little.{littleEndian}
 use Rattle.text.proofs.Decimals.{spaced, decimal-one, decimal-more, fields-last, spaced-next, spaced-room}
@@ -132,3 +134,21 @@ pub little-more :
 little-more l n {at} {m} {to} {a} {b} {c} h r v w =
     let e : suc (l - 1) ≡ l = omega arith in
     subst (λ (k : ℕ). Written at (littleEndian k n) a to c) e (written-then r v w)
+
+-- the text of one number more
+pub lines-next :
+    (f : ℕ → List ℕ) (a b c : List ℕ) (at to next i : ℕ) → at ≤ length a →
+    Written at (flatMap f (range 0 i)) a to b → Written to (f i) b next c → Written at (flatMap f (range 0 (i + 1))) a next c
+lines-next f a b c at to next i h v w =
+    let z : 0 + i ≡ i = omega arith in
+    subst (λ (xs : List ℕ). Written at xs a next c)
+    (sym (ap (λ (n : ℕ). flatMap f (range 0 n)) (add-one i) ∙ (flatMap-next f 0 i ∙ ap (λ (y : ℕ). flatMap f (range 0 i) ++ f y) z)))
+    (written-then h v w)
+
+-- a text written from the beginning lies within the memory
+pub text-within : {to : ℕ} {xs a b : List ℕ} → Written 0 xs a to b → (to ≤ length b) × (to ≡ length (take to b))
+text-within {to} {xs} {a} {b} w =
+    let e = w .end in
+    let l = ap length (w .whole) ∙ length-append xs (drop to a) in
+    let h : to ≤ length b = omega arith in
+    (h, sym (length-take-le to b h))

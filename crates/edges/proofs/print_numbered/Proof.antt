@@ -1,6 +1,6 @@
 -- `edges::print_numbered` is safe.
 use native.Mathlib.Omega.{arith}
-use Rattle.hold_lines.proofs.Lengths.{one-length}
+use Rattle.text.proofs.Decimals.{one-length}
 use borrow.Author.Needs.{needs}
 use Rattle.edges.proofs.print_numbered.Statement.{statement}
 use Rattle.edges.proofs.print_numbered.Tie as tie

@@ -1,7 +1,7 @@
 -- `edges::print_sides` is safe.
 use native.Mathlib.Omega.{arith}
 use native.Mathlib.Nat.{mul-le-mul}
-use Rattle.hold_lines.proofs.Lengths.{two-length}
+use Rattle.text.proofs.Decimals.{two-length}
 use borrow.Author.Needs.{needs}
 use Rattle.edges.proofs.print_sides.Statement.{statement}
 use Rattle.edges.proofs.print_sides.Tie as tie

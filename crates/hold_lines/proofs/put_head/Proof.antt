@@ -7,7 +7,8 @@ use Rattle.text.specs.Decimal.{decimal, fields}
 use Rattle.text.specs.Writing.{Written}
 use Rattle.text.proofs.Writings.{written-then, written-length}
 use Rattle.hold_lines.specs.Lines.{pictureWord, patchesWord, lineWord}
-use Rattle.hold_lines.proofs.Lengths.{one-length, two-length, head-is}
+use Rattle.hold_lines.proofs.Lengths.{head-is}
+use Rattle.text.proofs.Decimals.{one-length, two-length}
 use borrow.Author.Needs.{needs}
 use Rattle.hold_lines.proofs.put_head.Statement.{statement}
 use Rattle.hold_lines.proofs.put_head.Tie as tie

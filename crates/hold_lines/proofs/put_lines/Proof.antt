@@ -1,4 +1,5 @@
 -- `hold_lines::put_lines` meets its contract. The loop's invariant: the lines before i are written, 37 bytes each at most.
+use mathlib.Core.List.{flatMap}
 use mathlib.Core.Path.{_≡_, subst}
 use Prim.Native.Nat.{ℕ, _+_, _-_, _*_, _≤_}
 use native.Mathlib.Omega.{arith}
@@ -6,14 +7,14 @@ use borrow.Author.Needs.{needs}
 use Rattle.lists.specs.Lists.{range}
 use Rattle.text.specs.Writing.{Written}
 use Rattle.text.proofs.Writings.{written-none, written-length}
-use Rattle.hold_lines.specs.Figures.{concatMap, lineAt}
-use Rattle.hold_lines.proofs.Lengths.{lines-next}
+use Rattle.hold_lines.specs.Figures.{lineAt}
+use Rattle.text.proofs.Writings.{lines-next}
 use Rattle.hold_lines.proofs.put_lines.Statement.{statement}
 use Rattle.hold_lines.proofs.put_lines.Tie as tie
 
 abbrev Inv-loop : tie.InvT-loop
 Inv-loop out₀ at count sizes heights depths columns rows to₀ i₀ out to i =
-    (i ≤ count) × (to ≤ at + 37 * i) × Written at (concatMap (lineAt sizes heights depths columns rows) (range 0 i)) out₀ to out
+    (i ≤ count) × (to ≤ at + 37 * i) × Written at (flatMap (lineAt sizes heights depths columns rows) (range 0 i)) out₀ to out
 
 abbrev μ-loop : tie.MeasureT-loop
 μ-loop out₀ at count sizes heights depths columns rows to₀ i₀ out to i = count - i
@@ -91,7 +92,7 @@ returns c =
     let s = c .before .before .before .before .before .before .before .before in
     let f = lineAt (s .args .sizes .now) (s .args .heights .now) (s .args .depths .now) (s .args .columns .now) (s .args .rows .now) in
     let e : l .i ≡ s .args .count = omega arith in
-    subst (λ (m : ℕ). Written (s .args .at) (concatMap f (range 0 m)) (s .args .out .now) (l .to) (l .out)) e (l .inv .2)
+    subst (λ (m : ℕ). Written (s .args .at) (flatMap f (range 0 m)) (s .args .out .now) (l .to) (l .out)) e (l .inv .2)
 
 pub put-lines-spec : {M : Type 1} → statement M
 put-lines-spec =

@@ -1,6 +1,6 @@
 -- `hold_lines::put_refusal` meets its contract.
 use native.Mathlib.Omega.{arith}
-use Rattle.hold_lines.proofs.Lengths.{one-length}
+use Rattle.text.proofs.Decimals.{one-length}
 use borrow.Author.Needs.{needs}
 use Rattle.hold_lines.proofs.put_refusal.Statement.{statement}
 use Rattle.hold_lines.proofs.put_refusal.Tie as tie

@@ -5,7 +5,7 @@ use Prim.Native.Nat.{ℕ, _+_, _-_, _≤_}
 use native.Mathlib.Omega.{arith}
 use Rattle.text.specs.Writing.{Written}
 use Rattle.text.proofs.Writings.{written-none, written-length}
-use Rattle.hold_lines.proofs.Lengths.{lines-next}
+use Rattle.text.proofs.Writings.{lines-next}
 use Rattle.edges.specs.EdgeFiles.{edgePixel, edgePixels}
 use borrow.Author.Needs.{needs}
 use Rattle.edges.proofs.files.put_pixels.Statement.{statement}
