@@ -9,7 +9,7 @@ use verify_pixels::check_pixels;
 ghost use mathlib.Core.Path.{_≡_};
 ghost use mathlib.Core.Bool.{true};
 ghost use Prim.Native.Nat.{_<_, _≤_, _+_, _*_};
-ghost use lib.ListN.{length, drop};
+ghost use lib.ListN.{length};
 ghost use Rattle.picture.specs.Pictures.{isPicture, pictureOf};
 ghost use Rattle.verify.specs.Checked.{Says};
 ghost use Rattle.verify.specs.Heights.{ListsLong, Verified, LevelChecked};
@@ -105,7 +105,6 @@ pub fn is_tree(
     requires { ⌜ isPicture (pictureOf a w h (now pixels)) ≡ true ⌝ }
     requires { ⌜ (w * h ≤ length (now cells)) × (w * h ≤ length (now heights)) × (w * h ≤ length (now fathers)) × (w * h ≤ length (now firsts)) × (w * h ≤ length (now map)) ⌝ }
     ensures { λ r. ⌜ Says (pictureOf a w h (now (pixels .entry))) count (now (heights .entry)) (now (fathers .entry)) (now (firsts .entry)) (now (map .entry)) r ⌝ }
-    ensures { λ _. ⌜ drop (w * h) (now (cells .exit)) ≡ drop (w * h) (now (cells .entry)) ⌝ }
 {
     let n = w as usize * h as usize;
     if count == 0 {

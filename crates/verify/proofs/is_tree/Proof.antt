@@ -1,21 +1,15 @@
--- `verify::is_tree` meets its contract: the first n cells are checked with, the others kept.
+-- `verify::is_tree` meets its contract: the first n cells are checked with.
 use Rattle.verify.proofs.Heights.{verified-start, lists-long-of, says-none, says-many, says-count, says-father, says-tree}
 use Rattle.picture.specs.Pictures.{pictureOf}
-use lib.ListN.{length, take, drop}
-use lib.Seq.{length-take-le, drop-at}
-use mathlib.Core.Path.{_≡_, refl, sym, _∙_}
-use mathlib.Core.List.{List, _++_}
+use lib.ListN.{length, take}
+use lib.Seq.{length-take-le}
+use mathlib.Core.Path.{refl, sym, _∙_}
+use mathlib.Core.List.{List}
 use native.Mathlib.Omega.{arith}
 use Prim.Native.Nat.{ℕ, _+_, _≤_}
 use borrow.Author.Needs.{needs}
 use Rattle.verify.proofs.is_tree.Statement.{statement}
 use Rattle.verify.proofs.is_tree.Tie as tie
-
--- what stands behind the first n cells
-behind-kept :
-    (n : ℕ) {k : ℕ} (cells last : List ℕ) → n ≤ length cells → length last ≡ k → k ≡ length (take n cells) →
-    drop n (last ++ drop n cells) ≡ drop n cells
-behind-kept n cells last h a b = drop-at last _ n (a ∙ (b ∙ length-take-le n cells h))
 
 front-room : (n : ℕ) (cells : List ℕ) → n ≤ length cells → 0 + n ≤ length (take n cells)
 front-room n cells h = omega (arith, length-take-le n cells h)
@@ -24,12 +18,12 @@ mul-n : tie.Need-mul-n
 mul-n c = search needs
 
 returns : tie.Need-returns
-returns c = (says-none _ _ _ _ _ _ (c .before .before .before .before .before .before .before .pre .0) (c .if1 .taken), refl)
+returns c = says-none _ _ _ _ _ _ (c .before .before .before .before .before .before .before .pre .0) (c .if1 .taken)
 
 returns-2 : tie.Need-returns-2
 returns-2 c =
     let s = c .before .before .before .before .before .before .before .before in
-    (says-many (pictureOf (s .args .a) (s .args .w) (s .args .h) (s .args .pixels .now)) _ _ _ _ _ (c .if2 .taken), refl)
+    says-many (pictureOf (s .args .a) (s .args .w) (s .args .h) (s .args .pixels .now)) _ _ _ _ _ (c .if2 .taken)
 
 slice-relend-prefix-part : tie.Need-slice-relend-prefix-part
 slice-relend-prefix-part c = search needs
@@ -56,8 +50,7 @@ same-length c = search needs
 returns-3 : tie.Need-returns-3
 returns-3 c =
     let t = c .before .before .before .check-levels in
-    let kept = behind-kept _ _ (t .last .1 .1 .1 .1 .1 .1 .1 .1 .1 .0) (c .before .before .before .before .before .before .before .before .before .before .before .before .before .before .before .before .before .pre .1 .0) (t .kept .1 .1 .1 .1 .1 .1 .1 .1 .1 .0) (c .before .before .before .before .before .before .fill .ensures .kept .size) in
-    (says-count _ _ _ _ _ _ _ _ (t .ensures) (c .if3 .taken), kept)
+    says-count _ _ _ _ _ _ _ _ (t .ensures) (c .if3 .taken)
 
 sub-last : tie.Need-sub-last
 sub-last c = search needs
@@ -74,8 +67,7 @@ same-length-2 c = search needs
 returns-4 : tie.Need-returns-4
 returns-4 c =
     let t = c .before .before .before .before .before .check-levels in
-    let kept = behind-kept _ _ (t .last .1 .1 .1 .1 .1 .1 .1 .1 .1 .0) (c .before .before .before .before .before .before .before .before .before .before .before .before .before .before .before .before .before .before .before .pre .1 .0) (t .kept .1 .1 .1 .1 .1 .1 .1 .1 .1 .0) (c .before .before .before .before .before .before .before .before .fill .ensures .kept .size) in
-    (says-father _ _ _ _ _ _ _ _ (t .ensures) (c .before .before .if3 .left) (c .if4 .taken), kept)
+    says-father _ _ _ _ _ _ _ _ (t .ensures) (c .before .before .if3 .left) (c .if4 .taken)
 
 same-length-3 : tie.Need-same-length-3
 same-length-3 c = search needs
@@ -83,8 +75,7 @@ same-length-3 c = search needs
 returns-5 : tie.Need-returns-5
 returns-5 c =
     let t = c .before .before .before .before .before .check-levels in
-    let kept = behind-kept _ _ (t .last .1 .1 .1 .1 .1 .1 .1 .1 .1 .0) (c .before .before .before .before .before .before .before .before .before .before .before .before .before .before .before .before .before .before .before .pre .1 .0) (t .kept .1 .1 .1 .1 .1 .1 .1 .1 .1 .0) (c .before .before .before .before .before .before .before .before .fill .ensures .kept .size) in
-    (says-tree _ _ _ _ _ _ _ _ (t .ensures) (c .before .before .if3 .left) (c .if4 .left), kept)
+    says-tree _ _ _ _ _ _ _ _ (t .ensures) (c .before .before .if3 .left) (c .if4 .left)
 
 pub is-tree-spec : {M : Type 1} → statement M
 is-tree-spec =

@@ -22,14 +22,14 @@ returns-2 : tie.Need-returns-2
 returns-2 c =
     let s = c .before .before .before .before .before .before .before .before .before .before in
     let z = c .before .before .before .before .if1 .left in
-    let b = answer-tree _ _ _ _ _ _ (lent-none z (s .pre)) _ (c .before .before .is-tree .ensures .0) in
+    let b = answer-tree _ _ _ _ _ _ (lent-none z (s .pre)) _ (c .before .before .is-tree .ensures) in
     tree-checked _ _ _ _ _ _ _ _ true z (sym (c .if2 .taken) ∙ b) refl
 
 returns-3 : tie.Need-returns-3
 returns-3 c =
     let s = c .before .before .before .before .before .before .before .before .before .before in
     let z = c .before .before .before .before .if1 .left in
-    let b = answer-tree _ _ _ _ _ _ (lent-none z (s .pre)) _ (c .before .before .is-tree .ensures .0) in
+    let b = answer-tree _ _ _ _ _ _ (lent-none z (s .pre)) _ (c .before .before .is-tree .ensures) in
     tree-checked _ _ _ _ _ _ _ _ false z (sym (c .if2 .left) ∙ b) refl
 
 pub tree-fault-spec : {M : Type 1} → statement M
