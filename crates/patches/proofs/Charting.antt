@@ -12,7 +12,7 @@ use Rattle.lists.specs.Lists.{pick, tally, range, highest}
 use Rattle.picture.specs.Pictures.{Picture, places, valueAt}
 use Rattle.picture.specs.Trees.{Node, nodes, nodeAt, fatherOf, mapOf}
 use Rattle.picture.specs.Patches.{patchAt, depthOf}
-use Rattle.lists.specs.Blocks.{blockEntry}
+use Rattle.lists.specs.Blocks.{blockEntry, UntouchedOutside}
 use Rattle.tree.specs.Arrays.{TreeIn}
 use Rattle.lists.proofs.Tests.{on-test, same-test, clash}
 use Rattle.lists.proofs.Lists.{tally-same, range-mem}
@@ -22,7 +22,6 @@ use Rattle.topology.proofs.Fathers.{father-found, map-found, number-small}
 use Rattle.topology.proofs.Leaves.{bottom}
 use Rattle.topology.proofs.PatchFigures.{bottom-number}
 use Rattle.topology.proofs.LeafNodes.{leafNode, leaf-bottom, bottom-map, bottom-leaf, leaf-mapped, map-bottom, patch-leaf, patch-line, father-leaf, childless-leaf, depth-root, depth-father}
-use Rattle.lists.specs.Blocks.{UntouchedOutside}
 use Rattle.patch_numbers.specs.Numbers.{starts, Leaves, patchIn}
 use Rattle.patches.specs.Figures.{depthIn}
 use Rattle.patch_numbers.proofs.Numbering.{kept-row, starts-true, starts-is, patch-other, patch-node}

@@ -135,6 +135,11 @@ little-more l n {at} {m} {to} {a} {b} {c} h r v w =
     let e : suc (l - 1) ≡ l = omega arith in
     subst (λ (k : ℕ). Written at (littleEndian k n) a to c) e (written-then r v w)
 
+-- the texts of no number
+pub lines-none : (f : ℕ → List ℕ) (l : List ℕ) (at : ℕ) → Written at (flatMap f (range 0 0)) l at l
+unfolding flatMap
+lines-none f l at = written-none l at
+
 -- the text of one number more
 pub lines-next :
     (f : ℕ → List ℕ) (a b c : List ℕ) (at to next i : ℕ) → at ≤ length a →

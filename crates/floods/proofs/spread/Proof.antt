@@ -4,8 +4,7 @@ use Prim.Native.Nat.{_-_, _≤_}
 use native.Mathlib.Omega.{arith}
 use mathlib.Core.Path.{_≡_, _∙_}
 use lib.ListN.{drop, getD}
-use Rattle.picture.proofs.Neighbours.{neighbour-at}
-use Rattle.picture.proofs.Neighbours.{listed-at}
+use Rattle.picture.proofs.Neighbours.{neighbour-at, listed-at}
 use Rattle.floods.proofs.Floods.{spread-next, spread-end}
 use Rattle.picture.specs.Geometry.{neighboursOf}
 use Rattle.picture.specs.Pictures.{pictureOf}

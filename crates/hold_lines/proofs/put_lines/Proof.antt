@@ -6,9 +6,8 @@ use native.Mathlib.Omega.{arith}
 use borrow.Author.Needs.{needs}
 use Rattle.lists.specs.Lists.{range}
 use Rattle.text.specs.Writing.{Written}
-use Rattle.text.proofs.Writings.{written-none, written-length}
+use Rattle.text.proofs.Writings.{written-length, lines-none, lines-next}
 use Rattle.hold_lines.specs.Figures.{lineAt}
-use Rattle.text.proofs.Writings.{lines-next}
 use Rattle.hold_lines.proofs.put_lines.Statement.{statement}
 use Rattle.hold_lines.proofs.put_lines.Tie as tie
 
@@ -22,7 +21,7 @@ abbrev μ-loop : tie.MeasureT-loop
 loop-holds : tie.Need-loop-holds Inv-loop μ-loop
 loop-holds c =
     let s = c .before .before .before .before .before .before in
-    (search needs, omega arith, written-none (s .args .out .now) (s .args .at))
+    (search needs, omega arith, lines-none _ (s .args .out .now) (s .args .at))
 
 mul-put-line : tie.Need-mul-put-line Inv-loop μ-loop
 mul-put-line c = search needs

@@ -5,10 +5,9 @@ use native.Mathlib.Omega.{arith}
 use lib.ListN.{getD, drop}
 use borrow.Author.Needs.{needs}
 use Rattle.picture.specs.Geometry.{neighboursOf, Placed}
-use Rattle.picture.proofs.Neighbours.{neighbour-at}
+use Rattle.picture.proofs.Neighbours.{neighbour-at, listed-at}
 use Rattle.picture.specs.Pictures.{pictureOf}
 use Rattle.minima.specs.Minima.{ZoneSpread}
-use Rattle.picture.proofs.Neighbours.{listed-at}
 use Rattle.minima.proofs.Floods.{spread-none, spread-next, spread-room, spread-turn}
 use Rattle.minima.proofs.spread.Statement.{statement}
 use Rattle.minima.proofs.spread.Tie as tie

@@ -1,8 +1,7 @@
 -- `winner::replay` meets its contract. The invariant is Replaying: one cell may be wrong, the next to play.
 use mathlib.Core.Path.{_≡_, subst}
-use Rattle.watershed_laws.proofs.WinnerSteps.{played-less}
+use Rattle.watershed_laws.proofs.WinnerSteps.{played-less, Replaying, replay-turn, winner-cell}
 use native.Mathlib.Omega.{arith}
-use Rattle.watershed_laws.proofs.WinnerSteps.{Replaying, replay-turn, winner-cell}
 use borrow.Author.Needs.{needs}
 use Rattle.winner.proofs.replay.Statement.{statement}
 use Rattle.winner.proofs.replay.Tie as tie

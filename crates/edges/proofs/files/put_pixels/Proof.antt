@@ -4,8 +4,7 @@ use mathlib.Core.List.{[], _∷_}
 use Prim.Native.Nat.{ℕ, _+_, _-_, _≤_}
 use native.Mathlib.Omega.{arith}
 use Rattle.text.specs.Writing.{Written}
-use Rattle.text.proofs.Writings.{written-none, written-length}
-use Rattle.text.proofs.Writings.{lines-next}
+use Rattle.text.proofs.Writings.{written-length, lines-none, lines-next}
 use Rattle.edges.specs.EdgeFiles.{edgePixel, edgePixels}
 use borrow.Author.Needs.{needs}
 use Rattle.edges.proofs.files.put_pixels.Statement.{statement}
@@ -20,7 +19,7 @@ abbrev μ-loop : tie.MeasureT-loop
 loop-holds : tie.Need-loop-holds Inv-loop μ-loop
 loop-holds c =
     let s = c .before in
-    (search needs, omega arith, written-none (s .args .out .now) (s .args .at))
+    (search needs, omega arith, lines-none _ (s .args .out .now) (s .args .at))
 
 edge-pixel-requires : tie.Need-edge-pixel-requires Inv-loop μ-loop
 edge-pixel-requires c κs =

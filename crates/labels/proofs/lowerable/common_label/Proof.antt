@@ -6,10 +6,9 @@ use Prim.Native.Nat.{ℕ, _-_, _*_, _≤_, _<_}
 use native.Mathlib.Omega.{arith}
 use lib.ListN.{length, getD}
 use Rattle.picture.specs.Geometry.{neighboursOf}
-use Rattle.picture.proofs.Neighbours.{neighbour-at}
+use Rattle.picture.proofs.Neighbours.{neighbour-at, listed-at}
 use Rattle.labelling_laws.proofs.Agreeing.{Common, common-start, common-turn}
 use Rattle.picture.specs.Pictures.{pictureOf}
-use Rattle.picture.proofs.Neighbours.{listed-at}
 use Rattle.labels.proofs.lowerable.common_label.Statement.{statement}
 use Rattle.labels.proofs.lowerable.common_label.Tie as tie
 

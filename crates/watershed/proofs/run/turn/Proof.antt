@@ -1,13 +1,12 @@
 -- `watershed::run::turn` meets its contract: the winner's leaf is unset, and the winner settled.
 use Rattle.picture.specs.Pictures.{pictureOf}
-use Rattle.watershed_laws.proofs.Lending.{size-back}
+use Rattle.watershed_laws.proofs.Lending.{size-back, start-lent, turn-winner, turn-back, turn-over}
 use mathlib.Core.Path.{refl}
 use mathlib.Core.Logic.{inr}
 use mathlib.Core.List.{[]}
 use native.Mathlib.Omega.{arith}
 use Rattle.picture.proofs.Sides.{area-most}
 use Rattle.watershed_laws.proofs.Turns.{turn-place}
-use Rattle.watershed_laws.proofs.Lending.{start-lent, turn-winner, turn-back, turn-over}
 use borrow.Author.Needs.{needs}
 use Rattle.watershed.proofs.run.turn.Statement.{statement}
 use Rattle.watershed.proofs.run.turn.Tie as tie
