@@ -1,4 +1,4 @@
--- Laws of tests and lists: Booleans, selections, ranges, rising lists, indices, positions, copies.
+-- Laws of tests and lists: Booleans, selections, members, sums, parts, blocks, updates, rising lists, indices, positions, copies.
 pub mod Tests
 pub mod Lists
 pub mod Members

@@ -1,3 +1,3 @@
--- What the definitions of pictures and of memory share: functions on lists, blocks of cells.
+-- Functions on lists, which the definitions of pictures share; blocks of cells, for what is said of memory.
 pub mod Lists
 pub mod Blocks

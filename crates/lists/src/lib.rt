@@ -1,1 +1,1 @@
-// No code: laws of tests and lists, in proofs/.
+// No code: functions on lists in specs/, laws of tests and lists in proofs/.

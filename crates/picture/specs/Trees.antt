@@ -17,7 +17,7 @@ below p (suc k) c = select (λ d. isIn (headOf d) c) (components p k)
 unfoldable pub isBranch : Picture → ℕ → List ℕ → Bool
 isBranch p k c = eqb (length (below p k c)) 1
 
--- a node of the tree: the height and the first place of a leaf or a fork
+-- a node of the tree: the height and the first (smallest) place of a leaf or a fork; components are rising, so it is their first member
 pub record Node : Type 0 where
   pub height : ℕ
   pub first : ℕ
