@@ -1,2 +1,2 @@
 -- Laws that every call shares.
-pub mod Shell
+pub mod Calls

@@ -1,24 +1,24 @@
 -- The answer of a call, and what it leaves in each lent slice.
 use mathlib.Core.Path.{_≡_}
-use mathlib.Core.List.{List, _++_}
+use mathlib.Core.List.{List}
 use Prim.Native.Nat.{ℕ, _*_}
 use lib.Dec.{eqb}
-use lib.ListN.{length, drop, replicate}
-use Rattle.lists.specs.Lists.{pick}
+use lib.ListN.{replicate}
+use Rattle.lists.specs.Lists.{pick, over}
 use Rattle.picture.specs.Pictures.{Picture, places}
 use Rattle.answers.specs.declared.Answer.{Answer}
 
--- a list in front of what follows in another
-abbrev pub over : List ℕ → List ℕ → List ℕ
-over xs ys = xs ++ drop (length xs) ys
-
 -- what a call with the fault f leaves in a lent slice: the new content where there is no fault, else the old
-abbrev pub afterCall : ℕ → List ℕ → List ℕ → List ℕ
+abbrev pub afterCall : {A : Type 0} → ℕ → List A → List A → List A
 afterCall f new old = pick (eqb f 0) new old
+
+-- work with its first 5 n entries cleared
+abbrev pub cleared : ℕ → List ℕ → List ℕ
+cleared n q = over (replicate (5 * n) 0) q
 
 -- work is zero over its named length after success, and as it was after a refusal
 abbrev pub workAfter : ℕ → Picture → List ℕ → List ℕ
-workAfter f p q = afterCall f (over (replicate (5 * places p) 0) q) q
+workAfter f p q = afterCall f (cleared (places p) q) q
 
 -- the number of the refusal, or 0 with the value
 pub record Answered (f v : ℕ) (r : Answer) : Type 0 where
@@ -32,10 +32,6 @@ IsRefusal f r = r ≡ record { number = f; value = 0 }
 -- the record of an accepted call
 abbrev pub IsValue : ℕ → Answer → Type 0
 IsValue v r = r ≡ record { number = 0; value = v }
-
--- work with its first 5 n entries cleared
-abbrev pub cleared : ℕ → List ℕ → List ℕ
-cleared n q = replicate {A = ℕ} (5 * n) 0 ++ drop (5 * n) q
 
 -- the end of a call that is not refused: the value, and work cleared over 5 n entries
 pub record Finished (n v : ℕ) (q q′ : List ℕ) (r : Answer) : Type 0 where

@@ -5,9 +5,10 @@ use mathlib.Core.Logic.{⊎-elim, _↔_}
 use mathlib.Core.List.{List, [], _∷_, _++_, map}
 use Prim.Native.Nat.{ℕ, suc, _≤_, _<_}
 use native.Mathlib.Omega.{arith}
-use lib.ListN.{length, getD, drop, List·getD-append}
+use lib.ListN.{length, getD, drop}
 use borrow.Author.Tests.{eq-eqb}
-use Rattle.lists.specs.Lists.{pick, tally, range}
+use Rattle.lists.proofs.Cuts.{over-front}
+use Rattle.lists.specs.Lists.{pick, tally, range, over}
 use Rattle.picture.specs.Pictures.{Picture, places, allBytes, isPicture}
 use Rattle.picture.specs.Components.{pass}
 use Rattle.picture.specs.Trees.{nodes, nodeAt, fatherOf, treeOf}
@@ -21,7 +22,7 @@ use Rattle.topology.proofs.Accepted.{accepted-is}
 use Rattle.topology.proofs.Tree.{one-root}
 use Rattle.topology.proofs.TreeLists.{length-heights, length-fathers, length-firsts, heights-at, fathers-at, firsts-at}
 use Rattle.answers.specs.declared.Answer.{Answer}
-use Rattle.answers.specs.Answers.{over, afterCall}
+use Rattle.answers.specs.Answers.{afterCall}
 use Rattle.board.specs.Calls.{WaterSays}
 use Rattle.board.specs.Trees.{begins, isTree, treeFaultOf, placesFaultOf, checkedFault, TreeSays, PassSays}
 use Rattle.board.specs.Answers.{answeredNode, TreesKept}
@@ -32,7 +33,7 @@ use Rattle.board.proofs.LentTrees.{no-places-fault, no-checked-fault}
 in-front : (f : ℕ) (xs old new : List ℕ) → f ≡ 0 → new ≡ afterCall f (over xs old) old → (i : ℕ) → i < length xs → getD new i 0 ≡ getD xs i 0
 in-front f xs old new z e i h =
     ap (λ (l : List ℕ). getD l i 0) (e ∙ ap (λ (t : Bool). pick t (over xs old) old) (eq-eqb f 0 z)) ∙
-    List·getD-append xs (drop (length xs) old) 0 i h
+    over-front xs old i h
 
 -- such a list begins with the other
 begins-append : (xs ys : List ℕ) → begins xs (xs ++ ys) ≡ true

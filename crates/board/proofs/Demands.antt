@@ -6,7 +6,7 @@ use Prim.Native.Nat.{ℕ, _≤_}
 use lib.ListN.{length, take, drop}
 use lib.Seq.{take-at}
 use borrow.Author.Tests.{eq-eqb}
-use Rattle.lists.specs.Lists.{pick}
+use Rattle.lists.specs.Lists.{pick, over}
 use Rattle.picture.specs.Pictures.{Picture, places, withPixels, allBytes, isPicture}
 use Rattle.picture.specs.Watersheds.{watershed}
 use Rattle.picture.specs.Kept.{nowhereAbove, keepsAt, Kept}
@@ -14,7 +14,6 @@ use Rattle.topology.proofs.Accepted.{byte-at, accepted-is}
 use Rattle.topology.proofs.Water.{watershed-shape, watershed-watered}
 use Rattle.topology.proofs.Demand.{demand-3, other-fails}
 use Rattle.answers.specs.declared.Answer.{Answer}
-use Rattle.answers.specs.Answers.{over}
 use Rattle.board.specs.Calls.{outputFaultOf, WaterSays}
 use Rattle.faults.proofs.Laws.{output-enough, admitted}
 

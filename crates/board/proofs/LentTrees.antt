@@ -17,15 +17,13 @@ use Rattle.topology.proofs.Accepted.{accepted-is}
 use Rattle.topology.proofs.Nodes.{nodes-few}
 use Rattle.topology.proofs.Grid.{pass-byte}
 use Rattle.topology.proofs.TreeLists.{length-heights, length-fathers, length-firsts, length-map-of, heights-at, fathers-at, firsts-at, map-at}
-use Rattle.tree_lists.specs.Lists.{Rooms, InFront}
+use Rattle.tree_lists.specs.Lists.{Rooms}
 use Rattle.lent_tree.specs.Lent.{HoldsTree}
 use Rattle.verify.specs.Checked.{Says}
 use Rattle.lent_tree.specs.Passes.{PassReady}
 use Rattle.faults.specs.Faults.{outputFault}
-use Rattle.answers.specs.Answers.{over, afterCall}
 use Rattle.board.specs.Trees.{begins, isTree, shortest, treeFaultOf, placesFaultOf, checkedFault, TreeLent}
 use Rattle.faults.proofs.Laws.{Admitted, admitted, output-enough, first-some, first-none, first-zero, then-none}
-use Rattle.answers.proofs.Shell.{written-left}
 
 -- a list begins with another: entry by entry
 begins-at : (xs ys : List ℕ) → begins xs ys ≡ true → (i : ℕ) → i < length xs → getD ys i 0 ≡ getD xs i 0
@@ -198,7 +196,3 @@ tree-rooms p hs fs ss m q a l =
       map = omega arith;
       work = omega (arith, a .size, a .room);
     }
-
--- a list of the tree in front of what was there, after a call with no fault
-pub list-left : (f : ℕ) (xs old new : List ℕ) → f ≡ 0 → InFront xs old new → new ≡ afterCall f (over xs old) old
-list-left f xs old new z i = i .is ∙ written-left f (over xs old) old z

@@ -8,7 +8,7 @@ use Rattle.picture.specs.Pictures.{Picture, places}
 use Rattle.faults.proofs.Laws.{Admitted, output-enough, admitted}
 use Rattle.answers.specs.declared.Answer.{Answer}
 use Rattle.answers.specs.Answers.{IsRefusal, Finished}
-use Rattle.answers.proofs.Shell.{refused-answer, refused-left, accepted-answer, written-over, cleared-left}
+use Rattle.answers.proofs.Calls.{refused-answer, refused-left, accepted-answer, written-over, cleared-left}
 use Rattle.board.specs.Calls.{outputFaultOf, OutputSays}
 
 -- what a core is lent, with an entry a place of output

@@ -1,11 +1,11 @@
 -- The records of the patches are written, and work is cleared.
-use mathlib.Core.Path.{_≡_, refl, ap, ap₂, _∙_}
+use mathlib.Core.Path.{_≡_, refl, ap, _∙_}
 use mathlib.Core.Bool.{Bool, true, false}
-use mathlib.Core.List.{List, [], _++_, map}
+use mathlib.Core.List.{List, [], map}
 use Prim.Native.Nat.{ℕ}
 use lib.Dec.{eqb}
-use lib.ListN.{length, drop}
-use Rattle.lists.specs.Lists.{pick}
+use lib.ListN.{length}
+use Rattle.lists.specs.Lists.{pick, over}
 use Rattle.picture.specs.Pictures.{Picture}
 use Rattle.picture.specs.Patches.{patches}
 use Rattle.patch_records.specs.declared.Patch.{Patch as PatchRecord}
@@ -16,25 +16,23 @@ use Rattle.answers.specs.Answers.{afterCall, workAfter, cleared}
 use Rattle.board.specs.PatchLists.{PatchesSay}
 
 -- records in front of a list, or none
-after-either : {A : Type 0} (t : Bool) (m : List A) (c : ℕ) (o : List A) → pick t m [] ++ drop (pick t c 0) o ≡ pick t (m ++ drop c o) o
-after-either true m c o = refl
-after-either false m c o = refl
+over-either : {A : Type 0} (t : Bool) (m o : List A) → over (pick t m []) o ≡ pick t (over m o) o
+over-either true m o = refl
+over-either false m o = refl
 
 -- the records are written, and work is cleared
 pub listed :
     (p : Picture) (o o′ : List PatchRecord) (q q′ q″ : List ℕ) (r : Answer) → Gathered p (length o) q q′ r →
-    o′ ≡ records (length (p .pixels)) q′ (r .value) ++ drop (r .value) o →
+    o′ ≡ over (records (length (p .pixels)) q′ (r .value)) o →
     q″ ≡ afterCall (r .number) (cleared (length (p .pixels)) q′) q′ → PatchesSay p o o′ q q″ r
 listed p o o′ q q′ q″ r g w v =
-    let f = listFault p (length o) (length q) in
-    let c = length (patches p) in
     let e = g .answer .number in
     record {
       answer = g .answer;
       output =
           w ∙
-          (ap₂ (λ (l : List PatchRecord) (m : ℕ). l ++ drop m o) (g .records) (g .answer .value) ∙
-          (ap (λ (k : ℕ). pick (eqb k 0) (map recordOf (patches p)) [] ++ drop (pick (eqb f 0) c 0) o) e ∙
-          after-either (eqb f 0) (map recordOf (patches p)) c o));
+          (ap (λ (l : List PatchRecord). over l o) (g .records) ∙
+          (ap (λ (k : ℕ). over (pick (eqb k 0) (map recordOf (patches p)) []) o) e ∙
+          over-either (eqb (listFault p (length o) (length q)) 0) (map recordOf (patches p)) o));
       work = v ∙ (g .left ∙ ap (λ (k : ℕ). workAfter k p q) e);
     }

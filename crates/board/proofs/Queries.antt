@@ -12,7 +12,7 @@ use Rattle.picture.specs.Pictures.{Picture, places, valueAt}
 use Rattle.picture.specs.Patches.{patchAt}
 use Rattle.faults.proofs.Laws.{place-enough, admitted}
 use Rattle.answers.specs.Answers.{cleared}
-use Rattle.answers.proofs.Shell.{refused-left, cleared-left}
+use Rattle.answers.proofs.Calls.{refused-left, cleared-left}
 use Rattle.board.specs.declared.Ground.the-variants as G
 use Rattle.board.specs.declared.Queried.{Queried}
 use Rattle.board.specs.Calls.{placeFaultOf, groundOf, QueryIs, Admits, QuerySays}

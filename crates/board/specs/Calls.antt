@@ -6,14 +6,14 @@ use mathlib.Core.List.{List}
 use Prim.Native.Nat.{ℕ, zero, suc, _*_, _≤_, _<_}
 use lib.Dec.{eqb}
 use lib.ListN.{length}
-use Rattle.lists.specs.Lists.{pick}
+use Rattle.lists.specs.Lists.{pick, over}
 use Rattle.picture.specs.Pictures.{Picture, places, valueAt, isPicture}
 use Rattle.picture.specs.Components.{components, labels}
 use Rattle.picture.specs.Watersheds.{lowerable, watershed}
 use Rattle.faults.specs.Faults.{outputFault, placeFault}
 use Rattle.picture.specs.Patches.{patchAt}
 use Rattle.answers.specs.declared.Answer.{Answer}
-use Rattle.answers.specs.Answers.{over, afterCall, workAfter, Answered}
+use Rattle.answers.specs.Answers.{afterCall, workAfter, Answered}
 use Rattle.board.specs.declared.Ground.{Ground}
 use Rattle.board.specs.declared.Ground.the-variants as G
 use Rattle.board.specs.declared.Queried.{Queried}

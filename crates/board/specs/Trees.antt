@@ -6,13 +6,14 @@ use mathlib.Core.List.{List, [], _∷_}
 use Prim.Native.Nat.{ℕ, _≤_, min}
 use lib.Dec.{eqb, leb}
 use lib.ListN.{length}
+use Rattle.lists.specs.Lists.{over}
 use Rattle.picture.specs.Pictures.{Picture, places, isPicture}
 use Rattle.picture.specs.Components.{pass}
 use Rattle.picture.specs.Trees.{nodes, treeOf}
 use Rattle.faults.specs.PictureFault.{firstOf, when}
 use Rattle.answers.specs.declared.Answer.{Answer}
 use Rattle.faults.specs.Faults.{outputFault}
-use Rattle.answers.specs.Answers.{over, afterCall, workAfter, Answered}
+use Rattle.answers.specs.Answers.{afterCall, workAfter, Answered}
 
 -- the first list is a prefix of the second
 abbrev pub begins : List ℕ → List ℕ → Bool

@@ -5,13 +5,12 @@ use mathlib.Core.List.{List}
 use Prim.Native.Nat.{ℕ, _≤_}
 use lib.ListN.{length}
 use borrow.Author.Tests.{eq-eqb}
-use Rattle.lists.specs.Lists.{pick}
+use Rattle.lists.specs.Lists.{pick, over}
 use Rattle.picture.specs.Pictures.{Picture, places, withPixels, allBytes, isPicture}
 use Rattle.faults.specs.PictureFault.{pictureFault}
 use Rattle.picture.specs.Watersheds.{watershed}
 use Rattle.picture.specs.Kept.{nowhereAbove, keepsAt, Kept}
 use Rattle.topology.proofs.Accepted.{byte-at}
-use Rattle.answers.specs.Answers.{over}
 use Rattle.faults.proofs.Laws.{first-zero, shell-picture}
 use Rattle.board.proofs.Demands.{leftBy, demand-3-of-bytes, others-fail-bytes}
 use Rattle.board_c.specs.CalledByC.{waterFaultForC, WaterForC}

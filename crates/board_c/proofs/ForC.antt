@@ -9,7 +9,7 @@ use lib.Dec.{eqb, ltb, leb}
 use lib.ListN.{length, take, drop, replicate, length-replicate}
 use lib.Seq.{take-at}
 use borrow.Author.Tests.{eq-eqb, ltb-true, ltb-false, lt-ltb, le-ltb, lt-leb, leb-false}
-use Rattle.lists.specs.Lists.{pick}
+use Rattle.lists.specs.Lists.{pick, over}
 use Rattle.picture.specs.Pictures.{Picture, places, valueAt}
 use Rattle.faults.specs.PictureFault.{firstOf, when, faultOf, pictureFault}
 use Rattle.picture.specs.Watersheds.{watershed}
@@ -20,10 +20,10 @@ use Rattle.text.specs.Writing.{Written}
 use Rattle.answers.specs.declared.Answer.{Answer}
 use Rattle.board.specs.declared.Queried.{Queried}
 use Rattle.faults.specs.Faults.{workFault, outputFault}
-use Rattle.answers.specs.Answers.{over, afterCall, workAfter}
+use Rattle.answers.specs.Answers.{afterCall, workAfter}
 use Rattle.board.specs.Calls.{outputFaultOf, placeFaultOf, groundOf, patchNumber, WaterSays, QuerySays}
 use Rattle.faults.proofs.Laws.{first-some, first-none, first-zero, when-zero, then-failed, then-none, workFaultOf, work-size, fault-size, fault-few, work-enough, work-none, output-none, output-enough, place-behind}
-use Rattle.answers.proofs.Shell.{refused-left, written-left}
+use Rattle.answers.proofs.Calls.{refused-left, written-left}
 use Rattle.board_c.specs.CalledByC.{pair, readFaultForC, headerBytes, ReadForC, waterFaultForC, bytesAfter, WaterForC, placeFaultForC, placeFaultForCOf, PlaceForC}
 use Rattle.packing.specs.Packing.{packed}
 use Rattle.packing.proofs.Packed.{written-front, packed-zeros}

@@ -5,13 +5,14 @@ use mathlib.Core.List.{List, _++_}
 use Prim.Native.Nat.{ℕ, _*_}
 use lib.Dec.{ltb, leb}
 use lib.ListN.{length, replicate}
+use Rattle.lists.specs.Lists.{over}
 use Rattle.picture.specs.Pictures.{Picture, places, valueAt}
 use Rattle.faults.specs.PictureFault.{firstOf, when, faultOf, pictureFault}
 use Rattle.picture.specs.Watersheds.{watershed}
 use Rattle.picture.specs.Patches.{patchAt}
 use Rattle.p5.specs.Files.{readFile, numberOf, headerOf}
 use Rattle.text.specs.Little.{littleEndian}
-use Rattle.answers.specs.Answers.{over, afterCall}
+use Rattle.answers.specs.Answers.{afterCall}
 
 -- two numbers as eight bytes each, lowest first
 abbrev pub pair : ℕ → ℕ → List ℕ

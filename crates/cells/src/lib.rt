@@ -1,8 +1,8 @@
 // Memory of 16-bit cells: a cell or a pixel as a number, filling, clearing.
 ghost use mathlib.Core.Path.{_≡_};
-ghost use mathlib.Core.List.{_++_};
 ghost use Prim.Native.Nat.{_+_, _≤_};
-ghost use lib.ListN.{length, drop, replicate};
+ghost use lib.ListN.{length, replicate};
+ghost use Rattle.lists.specs.Lists.{over};
 ghost use Rattle.lists.specs.Blocks.{Filled};
 
 // A cell as an index.
@@ -41,7 +41,7 @@ pub fn fill(cells: &mut [u16], b: usize, n: usize, v: u16)
 // The first m entries become 0.
 pub fn clear(cells: &mut [u16], m: usize)
     requires { ⌜ m ≤ length (now cells) ⌝ }
-    ensures { λ _. ⌜ now (cells .exit) ≡ replicate m 0 ++ drop m (now (cells .entry)) ⌝ }
+    ensures { λ _. ⌜ now (cells .exit) ≡ over (replicate m 0) (now (cells .entry)) ⌝ }
 {
     fill(cells, 0, m, 0);
 }

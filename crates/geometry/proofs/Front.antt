@@ -16,6 +16,7 @@ use Rattle.picture.specs.declared.Step.{Step}
 use Rattle.picture.specs.Geometry.{steps, plusOne, offset, used, within, stays, placeBy, reached, neighboursOf, Placed, Listed}
 use Rattle.geometry.specs.Steps.{isUnit, strideOf, stepAt, offEdge, isInner, Stepping, StepsTo, PutBehind}
 use Rattle.lists.proofs.Tests.{and-left, and-right, and-both, on-pick}
+use Rattle.lists.proofs.Cuts.{over-cut}
 use Rattle.picture.proofs.Sides.{within-some, area-most}
 use Rattle.geometry.proofs.Steps.{on-unit, unit-column, unit-row, off-edge-within, place-most, leads-from, row-under, used-step, reached-step, reached-one, reached-none}
 
@@ -201,8 +202,9 @@ module _ (a w h x : ℕ) (old : List ℕ) where
       let e : take m cells ≡ neighboursOf a w h x =
       sym (append-nil (take m cells)) ∙
       (ap (λ l. take m cells ++ reached w h x l) (sym (used-none a i l)) ∙ f .done) in
+      let long : length (neighboursOf a w h x) ≡ m = sym (ap length e) ∙ length-take-le m cells (omega arith) in
       record {
-        count = sym (length-take-le m cells (omega arith)) ∙ ap length e;
+        count = sym long;
         few = f .room;
-        whole = sym (take-append-drop m cells) ∙ ap₂ _++_ e (f .rest);
+        whole = sym (take-append-drop m cells) ∙ (ap₂ _++_ e (f .rest) ∙ over-cut m (neighboursOf a w h x) long old);
       }

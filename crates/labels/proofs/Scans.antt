@@ -2,14 +2,16 @@
 use mathlib.Core.Path.{_≡_, refl, sym, ap, subst, _∙_}
 use mathlib.Core.Bool.{true, false}
 use mathlib.Core.Logic.{_≢_}
-use mathlib.Core.List.{List, _++_, append-nil}
+use mathlib.Core.List.{List}
 use Prim.Native.Nat.{ℕ, _+_, _≤_, _<_}
 use native.Mathlib.Omega.{arith}
 use lib.Dec.{eqb}
-use lib.ListN.{length, getD, drop, replicate, drop-of-length-le}
+use lib.ListN.{length, getD, replicate, length-replicate}
+use Rattle.lists.specs.Lists.{over}
 use Rattle.picture.specs.Pictures.{Picture, places, isPicture}
 use Rattle.picture.specs.Components.{inSection}
 use Rattle.lists.proofs.Lists.{tally-length}
+use Rattle.lists.proofs.Cuts.{over-all}
 use Rattle.topology.proofs.Parts.{isFirst, first-is}
 use Rattle.topology.proofs.Accepted.{accepted-is, places-bound}
 use Rattle.labelling_laws.proofs.Labelled.{Labelled, labelled-start, count-most, outside-first, labelled-first, unlabelled-first, labelled-pass, labelled-fresh, labelled-new, labelled-flood, labelled-end}
@@ -60,17 +62,13 @@ module _ (p : Picture) (l stack : List ℕ) (a : LabelReady p l stack) where
 
 -- n places, all labels cleared
 pub scan-start :
-    (p : Picture) (k n : ℕ) (l m stack : List ℕ) → length l ≡ places p → n ≡ places p → m ≡ replicate {A = ℕ} n 0 ++ drop n l →
+    (p : Picture) (k n : ℕ) (l m stack : List ℕ) → length l ≡ places p → n ≡ places p → m ≡ over (replicate n 0) l →
     LabelsBefore p k 0 0 m stack stack
 scan-start p k n l m stack e d f =
     record {
       labelled =
           subst (λ o. Labelled p k 0 0 o)
-          (sym
-          (f ∙
-          (ap (λ i. replicate i 0 ++ drop i l) d ∙
-          (ap (λ o. replicate (places p) 0 ++ o) (drop-of-length-le l {i = places p} (omega arith)) ∙
-          append-nil (replicate (places p) 0)))))
+          (sym (f ∙ (over-all (replicate n 0) l (omega (arith, length-replicate {A = ℕ} n 0)) ∙ ap (λ i. replicate {A = ℕ} i 0) d)))
           (labelled-start p k);
       rest = refl;
     }

@@ -8,7 +8,9 @@ use native.Mathlib.Decide.{ℕ-discrete, decLt}
 use native.Mathlib.Omega.{arith}
 use lib.ListN.{length, getD, set, drop, replicate, length-set, length-append, length-drop, length-replicate, getD-replicate, List·getD-append}
 use lib.Seq.{getD-set-same, getD-set-other, getD-append-add, getD-drop, ext-getD}
+use Rattle.lists.specs.Lists.{over}
 use Rattle.lists.specs.Blocks.{UntouchedOutside, Filled}
+use Rattle.lists.proofs.Cuts.{over-cut}
 
 pub kept-refl : (b n : ℕ) (l : List ℕ) → UntouchedOutside b n l l
 kept-refl b n l = record { size = refl; outside = λ j h. refl }
@@ -58,7 +60,7 @@ filled-end b n i v l m h g f = let e : i ≡ n = omega arith in subst (λ (j : �
 pub filled-entry : {n v : ℕ} {l m : List ℕ} → Filled 0 n v l m → (i : ℕ) → i < n → getD m i 0 ≡ v
 filled-entry {m = m} f i h = ap (λ (j : ℕ). getD m j 0) (sym (zero-add i)) ∙ f .inside i h
 
-pub filled-front : (n v : ℕ) (l m : List ℕ) → n ≤ length l → Filled 0 n v l m → m ≡ replicate n v ++ drop n l
+pub filled-front : (n v : ℕ) (l m : List ℕ) → n ≤ length l → Filled 0 n v l m → m ≡ over (replicate n v) l
 filled-front n v l m h f =
     ext-getD 0 m (replicate n v ++ drop n l) (f .kept .size ∙ sym all)
     (λ i b.
@@ -72,7 +74,8 @@ filled-front n v l m h f =
     f .kept .outside i (inr (omega arith)) ∙
     (ap (λ (j : ℕ). getD l j 0) e ∙
     (sym (getD-drop n l (i - n) 0) ∙
-    (sym (getD-append-add (replicate n v) (drop n l) (i - n) 0) ∙ ap (λ (j : ℕ). getD (replicate n v ++ drop n l) j 0) (sym at))))))
+    (sym (getD-append-add (replicate n v) (drop n l) (i - n) 0) ∙ ap (λ (j : ℕ). getD (replicate n v ++ drop n l) j 0) (sym at)))))) ∙
+    over-cut n (replicate n v) front l
   where
     front : length (replicate {A = ℕ} n v) ≡ n
     front = length-replicate n v

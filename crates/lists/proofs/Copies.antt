@@ -7,6 +7,8 @@ use native.Mathlib.Decide.{ℕ-discrete, decLt}
 use native.Mathlib.Omega.{arith}
 use lib.ListN.{length, getD, set, drop, length-set, length-append, length-drop, List·getD-append}
 use lib.Seq.{getD-set-same, getD-set-other, getD-drop, getD-append-add, ext-getD}
+use Rattle.lists.specs.Lists.{over}
+use Rattle.lists.proofs.Cuts.{over-cut}
 
 -- the first m entries are copied
 pub record Copied (from : List ℕ) (b m : ℕ) (old new : List ℕ) : Type 0 where
@@ -41,7 +43,7 @@ module _ (from : List ℕ) (b : ℕ) (old : List ℕ) where
     -- a copy of the entries xs stands in front of what lies behind them
     pub copy-end :
         (xs : List ℕ) → length xs ≡ m → m ≤ length old → ((i : ℕ) → i < m → getD from (b + i) 0 ≡ getD xs i 0) → Copied from b m old new →
-        new ≡ xs ++ drop m old
+        new ≡ over xs old
     copy-end xs e h g c =
         let s = c .size in
         let d = length-drop m old in
@@ -56,7 +58,8 @@ module _ (from : List ℕ) (b : ℕ) (old : List ℕ) where
         sym
         (subst (λ (j : ℕ). getD (xs ++ drop m old) j 0 ≡ getD old i 0) k
         (getD-append-add xs (drop m old) (i - m) 0 ∙
-        (getD-drop m old (i - m) 0 ∙ ap (λ (j : ℕ). getD old j 0) r)))))
+        (getD-drop m old (i - m) 0 ∙ ap (λ (j : ℕ). getD old j 0) r))))) ∙
+        over-cut m xs e old
 
 -- a whole list copied
 pub copy-all : (from old new : List ℕ) (m : ℕ) → length old ≡ length from → length from ≤ m → Copied from 0 m old new → new ≡ from

@@ -1,10 +1,11 @@
 -- Lists cut in two: what `take` and `drop` leave.
 use mathlib.Core.Path.{_≡_, refl, sym, ap, _∙_}
-use mathlib.Core.List.{List, _++_}
-use Prim.Native.Nat.{ℕ, _+_, _-_, _≤_}
+use mathlib.Core.List.{List, _++_, append-nil}
+use Prim.Native.Nat.{ℕ, _+_, _-_, _≤_, _<_}
 use native.Mathlib.Omega.{arith}
-use lib.ListN.{length, take, drop, length-append, length-drop}
+use lib.ListN.{length, getD, take, drop, length-append, length-drop, drop-of-length-le, List·getD-append}
 use lib.Seq.{drop-drop, take-all, take-add, take-at}
+use Rattle.lists.specs.Lists.{over}
 
 -- lists that are equal from a on are so from b on
 pub drop-more : (a b : ℕ) (l m : List ℕ) → a ≤ b → drop a l ≡ drop a m → drop b l ≡ drop b m
@@ -12,6 +13,22 @@ drop-more a b l m h e =
     let s : a + (b - a) ≡ b = omega arith in
     ap (λ (i : ℕ). drop i l) (sym s) ∙
     (sym (drop-drop (b - a) a l) ∙ (ap (drop (b - a)) e ∙ (drop-drop (b - a) a m ∙ ap (λ (i : ℕ). drop i m) s)))
+
+-- n entries in front of what follows in another list, and in front of a list that is the same from there on
+module _ {A : Type 0} (n : ℕ) (new : List A) (long : length new ≡ n) where
+  pub over-cut : (old : List A) → new ++ drop n old ≡ over new old
+  over-cut old = ap (λ (m : ℕ). new ++ drop m old) (sym long)
+
+  pub over-same : (old other : List A) → drop n old ≡ drop n other → over new old ≡ over new other
+  over-same old other e = sym (over-cut old) ∙ (ap (λ (l : List A). new ++ l) e ∙ over-cut other)
+
+-- the entries of the front
+pub over-front : (new old : List ℕ) (i : ℕ) → i < length new → getD (over new old) i 0 ≡ getD new i 0
+over-front new old i h = List·getD-append new (drop (length new) old) 0 i h
+
+-- in front of a list that is no longer nothing follows
+pub over-all : {A : Type 0} (new old : List A) → length old ≤ length new → over new old ≡ new
+over-all {A = A} new old h = ap (λ (l : List A). new ++ l) (drop-of-length-le old {i = length new} h) ∙ append-nil new
 
 -- the part of a list from a position on, as a slice of it is made
 pub take-rest : (p : ℕ) (f : List ℕ) → take (length f - p) (drop p f) ≡ drop p f

@@ -5,8 +5,9 @@ use Prim.Native.Nat.{ℕ, zero, suc, _+_, _≤_, _<_}
 use native.Mathlib.Omega.{arith}
 use lib.ListN.{length, getD, drop, set, length-append, length-drop, length-map}
 use lib.Seq.{drop-cons, set-at}
-use Rattle.lists.specs.Lists.{range}
+use Rattle.lists.specs.Lists.{range, over}
 use Rattle.lists.proofs.Lists.{length-range}
+use Rattle.lists.proofs.Cuts.{over-cut}
 
 module _ {A : Type 0} (f : ℕ → A) where
   -- the values at the first i numbers, and behind them the list as it was
@@ -36,3 +37,7 @@ module _ {A : Type 0} (f : ℕ → A) where
       ap (λ (ys : List A). set (map f (range 0 i) ++ ys) i (f i)) (drop-cons xs i (f 0) h) ∙
       (set-at (map f (range 0 i)) (getD xs i (f 0)) (drop (suc i) xs) (f i) i (length-front i) ∙
       (ap (λ (y : ℕ). map f (range 0 i) ++ (f y ∷ drop (suc i) xs)) e ∙ one-more 0 i (drop (suc i) xs)))
+
+  -- all of them, in front of what follows
+  pub written-whole : (i : ℕ) (xs : List A) → written i xs ≡ over (map f (range 0 i)) xs
+  written-whole i xs = over-cut i (map f (range 0 i)) (length-front i) xs

@@ -3,7 +3,7 @@ use mathlib.Core.Bool.{Bool, true, false, _&&_, _||_}
 use mathlib.Core.List.{List, [], _∷_, _++_}
 use Prim.Native.Nat.{ℕ, zero, suc, _+_}
 use lib.Dec.{eqb, leb}
-use lib.ListN.{getD}
+use lib.ListN.{length, getD, drop}
 
 -- the first value if the test passes, else the second
 abbrev pub pick : {A : Type 0} → Bool → A → A → A
@@ -47,6 +47,10 @@ isIn x ys = any (eqb x) ys
 -- every member of xs is one of ys
 abbrev pub allWithin : List ℕ → List ℕ → Bool
 allWithin xs ys = all (λ x. isIn x ys) xs
+
+-- a list in front of what follows in another
+abbrev pub over : {A : Type 0} → List A → List A → List A
+over xs ys = xs ++ drop (length xs) ys
 
 -- the sum of the members
 abbrev pub total : List ℕ → ℕ

@@ -6,11 +6,11 @@ use native.Mathlib.Omega.{arith}
 use native.Mathlib.Numerals.{add-one}
 use lib.ListN.{length, getD, take, drop, set, replicate}
 use lib.Seq.{take-suc}
+use Rattle.lists.specs.Lists.{over}
 use Rattle.lists.proofs.Filling.{written-next}
 use Rattle.text.specs.Little.{littleEndian}
 use Rattle.text.specs.Writing.{Written}
 use Rattle.text.proofs.Writings.{written-then}
-use Rattle.answers.specs.Answers.{over}
 use Rattle.packing.specs.Packing.{entryAt, entries, packed}
 
 -- bytes written from the beginning stand over what was there

@@ -1,12 +1,11 @@
 // 16-bit entries packed in bytes, two bytes an entry, the lowest first.
 use text::put;
 ghost use mathlib.Core.Path.{_≡_};
-ghost use mathlib.Core.List.{_++_};
 ghost use Prim.Native.Nat.{_+_, _*_, _≤_};
-ghost use lib.ListN.{length, take, drop};
+ghost use lib.ListN.{length, take};
+ghost use Rattle.lists.specs.Lists.{over};
 ghost use Rattle.text.specs.Little.{littleEndian};
 ghost use Rattle.text.specs.Writing.{Written};
-ghost use Rattle.answers.specs.Answers.{over};
 ghost use Rattle.packing.specs.Packing.{entries, packed};
 
 // The entry of two bytes.
@@ -19,7 +18,7 @@ fn entry_of(low: u8, high: u8) -> u16
 // The first m cells become the first m entries of the bytes.
 pub fn unpack(bytes: &[u8], cells: &mut [u16], m: usize)
     requires { ⌜ (2 * m ≤ length (now bytes)) × (m ≤ length (now cells)) ⌝ }
-    ensures { λ _. ⌜ now (cells .exit) ≡ entries m (now (bytes .entry)) ++ drop m (now (cells .entry)) ⌝ }
+    ensures { λ _. ⌜ now (cells .exit) ≡ over (entries m (now (bytes .entry))) (now (cells .entry)) ⌝ }
 {
     let mut i = 0;
     while i < m {

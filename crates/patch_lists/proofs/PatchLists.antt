@@ -29,7 +29,7 @@ use Rattle.faults.specs.Faults.{workFault}
 use Rattle.answers.specs.Answers.{IsRefusal, IsValue}
 use Rattle.patch_lists.specs.PatchLists.{listFault, recordOf, Figured, Gathered}
 use Rattle.faults.proofs.Laws.{first-either, then-first, then-passed, then-failed, then-none, workFaultOf}
-use Rattle.answers.proofs.Shell.{refused-answer, refused-left, accepted-answer, cleared-left, lent-length, behind-lent}
+use Rattle.answers.proofs.Calls.{refused-answer, refused-left, accepted-answer, cleared-left, lent-length, behind-lent}
 
 -- the fault, after that of the picture and of work
 module _ (p : Picture) (room work : ℕ) where

@@ -1,8 +1,8 @@
 // Records of patches in a lent list, from their figures in five blocks of n 16-bit entries: sizes, column sums, row sums, depths, heights.
 ghost use mathlib.Core.Path.{_≡_};
-ghost use mathlib.Core.List.{_++_};
 ghost use Prim.Native.Nat.{_≤_};
-ghost use lib.ListN.{length, drop};
+ghost use lib.ListN.{length};
+ghost use Rattle.lists.specs.Lists.{over};
 ghost use Rattle.patch_records.specs.Records.{Entry, Entries, recordAt, records};
 
 // The number of a patch from 1, its size in pixels, its height, its depth, and the sums of its columns and of its rows.
@@ -42,7 +42,7 @@ pub fn record_at(figures: &[u16], n: usize, i: usize) -> Patch
 // The first count entries of the list become the records of the first count patches.
 pub fn write_records(out: &mut [Patch], figures: &[u16], n: usize, count: usize)
     requires { ⌜ (count ≤ length (now out)) × Entries n (now figures) count ⌝ }
-    ensures { λ _. ⌜ now (out .exit) ≡ records n (now (figures .entry)) count ++ drop count (now (out .entry)) ⌝ }
+    ensures { λ _. ⌜ now (out .exit) ≡ over (records n (now (figures .entry)) count) (now (out .entry)) ⌝ }
 {
     let mut i = 0;
     while i < count {

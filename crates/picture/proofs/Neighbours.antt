@@ -8,12 +8,13 @@ use native.Mathlib.Nat.{div-add-mod', mod-lt, div-lt-iff-lt-mul, mul-comm}
 use native.Mathlib.Omega.{arith}
 use lib.Arith.{digits-lt, digits-div, digits-mod}
 use lib.Dec.{eqb, leb}
-use lib.ListN.{length, getD, drop, length-map, List·getD-append}
+use lib.ListN.{length, getD, length-map}
 use borrow.Author.Tests.{leb-true, leb-false, eqb-true, not-true, le-leb, eq-eqb}
 use Rattle.lists.specs.Lists.{pick, any, all, select, range, isIn}
 use Rattle.picture.specs.Pictures.{Picture, places, distance, adjacent, touch}
 use Rattle.picture.specs.Geometry.{Listed, steps, Offset, offset, everySecond, within, stays, placeBy, neighboursOf, neighboursIn}
 use Rattle.lists.proofs.Tests.{and-left, and-right, and-both, on-pick, implied}
+use Rattle.lists.proofs.Cuts.{over-front}
 use Rattle.lists.proofs.Members.{any-all, any-mono, any-map-select, select-most, all-below, isIn-at, isIn-index, distinct, pairwise, distinct-images}
 use Rattle.picture.proofs.Sides.{within-some, within-most}
 
@@ -198,8 +199,7 @@ neighbour-index p x y some below e = isIn-index y (neighboursIn p x) (touch-list
 -- a list in front of cells, index by index
 pub listed-at : (ns cells after : List ℕ) (r : ℕ) → Listed ns cells r after → (i : ℕ) → i < r → getD after i 0 ≡ getD ns i 0
 listed-at ns cells after r l i h =
-    let n = l .count in
-    ap (λ (m : List ℕ). getD m i 0) (l .whole) ∙ List·getD-append ns (drop r cells) 0 i (omega arith)
+    let n = l .count in ap (λ (m : List ℕ). getD m i 0) (l .whole) ∙ over-front ns cells i (omega arith)
 
 -- there are at most eight
 pub neighbours-few : (a w h x : ℕ) → length (neighboursOf a w h x) ≤ 8

@@ -1,13 +1,13 @@
 -- The neighbours of a place as a list, in the fixed order of the eight steps.
 use mathlib.Core.Path.{_≡_}
 use mathlib.Core.Bool.{Bool, _&&_}
-use mathlib.Core.List.{List, [], _∷_, _++_, map}
+use mathlib.Core.List.{List, [], _∷_, map}
 use Prim.Native.Nat.{ℕ, _+_, _-_, _*_, _/_, _%_, _≤_, _<_}
 use lib.Dec.{eqb, leb}
-use lib.ListN.{length, drop}
+use lib.ListN.{length}
 use lib.IntN.{ℤ, pos, negsuc}
 use Rattle.picture.specs.declared.Step.{Step}
-use Rattle.lists.specs.Lists.{pick, select}
+use Rattle.lists.specs.Lists.{pick, select, over}
 use Rattle.picture.specs.Pictures.{Picture}
 
 -- the step back by one
@@ -90,4 +90,4 @@ pub record Placed (w h x : ℕ) : Type 0 where
 pub record Listed (ns cells : List ℕ) (r : ℕ) (after : List ℕ) : Type 0 where
   pub count : r ≡ length ns
   pub few : r ≤ 8
-  pub whole : after ≡ ns ++ drop r cells
+  pub whole : after ≡ over ns cells

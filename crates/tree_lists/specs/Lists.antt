@@ -18,10 +18,6 @@ pub record Rooms (n : ℕ) (hs fs ss m w : List ℕ) : Type 0 where
   pub map : n ≤ length m
   pub work : 4 * n ≤ length w
 
--- a list of the tree in front of what was there
-pub record InFront (xs old new : List ℕ) : Type 0 where
-  pub is : new ≡ xs ++ drop (length xs) old
-
 -- r is the number of nodes; beyond 4 n cells work is as it was
 pub record Handed (p : Picture) (r : ℕ) (work after : List ℕ) : Type 0 where
   pub count : r ≡ length (nodes p)

@@ -6,8 +6,9 @@ ghost use Prim.Native.Nat.{_≤_, _+_, _*_};
 ghost use lib.ListN.{length};
 ghost use Rattle.picture.specs.Pictures.{isPicture, pictureOf};
 ghost use Rattle.picture.specs.Trees.{treeOf};
+ghost use Rattle.lists.specs.Lists.{over};
 ghost use Rattle.lists.proofs.Copies.{Copied};
-ghost use Rattle.tree_lists.specs.Lists.{Bytes, Rooms, InFront, Handed};
+ghost use Rattle.tree_lists.specs.Lists.{Bytes, Rooms, Handed};
 
 // Copies m entries from b on to the front of a list.
 fn copy(from: &[u16], b: usize, to: &mut [u16], m: usize)
@@ -47,10 +48,10 @@ pub fn build_lists(
 ) -> usize
     requires { ⌜ (isPicture (pictureOf a w h (now pixels)) ≡ true) × Rooms (w * h) (now heights) (now fathers) (now firsts) (now map) (now work) ⌝ }
     ensures { λ r. ⌜ Handed (pictureOf a w h (now (pixels .entry))) r (now (work .entry)) (now (work .exit)) ⌝ }
-    ensures { λ _. ⌜ InFront (treeOf (pictureOf a w h (now (pixels .entry))) .heights) (now (heights .entry)) (now (heights .exit)) ⌝ }
-    ensures { λ _. ⌜ InFront (treeOf (pictureOf a w h (now (pixels .entry))) .fathers) (now (fathers .entry)) (now (fathers .exit)) ⌝ }
-    ensures { λ _. ⌜ InFront (treeOf (pictureOf a w h (now (pixels .entry))) .firsts) (now (firsts .entry)) (now (firsts .exit)) ⌝ }
-    ensures { λ _. ⌜ InFront (treeOf (pictureOf a w h (now (pixels .entry))) .map) (now (map .entry)) (now (map .exit)) ⌝ }
+    ensures { λ _. ⌜ now (heights .exit) ≡ over (treeOf (pictureOf a w h (now (pixels .entry))) .heights) (now (heights .entry)) ⌝ }
+    ensures { λ _. ⌜ now (fathers .exit) ≡ over (treeOf (pictureOf a w h (now (pixels .entry))) .fathers) (now (fathers .entry)) ⌝ }
+    ensures { λ _. ⌜ now (firsts .exit) ≡ over (treeOf (pictureOf a w h (now (pixels .entry))) .firsts) (now (firsts .entry)) ⌝ }
+    ensures { λ _. ⌜ now (map .exit) ≡ over (treeOf (pictureOf a w h (now (pixels .entry))) .map) (now (map .entry)) ⌝ }
 {
     let n = w as usize * h as usize;
     let count = build(a, w, h, pixels, work, map);

@@ -5,10 +5,10 @@ use mathlib.Core.List.{List}
 use Prim.Native.Nat.{ℕ, suc, _+_, _*_, _≤_, _<_}
 use native.Mathlib.Decide.{ℕ-discrete}
 use native.Mathlib.Omega.{arith}
-use lib.ListN.{length, getD, drop, List·getD-append}
+use lib.ListN.{length, getD}
 use Rattle.picture.specs.Pictures.{Picture, places, valueAt, withPixels}
 use Rattle.picture.specs.Geometry.{neighboursIn, Listed}
-use Rattle.picture.proofs.Neighbours.{neighbour-at, neighbour-index}
+use Rattle.picture.proofs.Neighbours.{neighbour-at, neighbour-index, listed-at}
 use Rattle.topology.proofs.Adjacency.{Adj}
 use Rattle.topology.proofs.Climb.{Meet}
 use Rattle.watershed_laws.proofs.Oracle.{Stops}
@@ -151,7 +151,7 @@ listed-around f x cells m ys some p =
     }
   where
     at : (j : ℕ) → j < length (neighboursIn f x) → getD ys j 0 ≡ getD (neighboursIn f x) j 0
-    at j l = ap (λ (zs : List ℕ). getD zs j 0) (p .whole) ∙ List·getD-append (neighboursIn f x) (drop m cells) 0 j l
+    at j l = listed-at (neighboursIn f x) cells ys m p j (omega (arith, p .count))
 
 pub around-places : (f : Picture) (x : ℕ) (ys : List ℕ) (m : ℕ) → Around f x ys m → Places (places f) ys m
 around-places f x ys m a = record { few = a .few; each = λ j h. a .near j h .0 }

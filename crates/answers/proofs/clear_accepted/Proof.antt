@@ -1,7 +1,7 @@
 -- `answers::clear_accepted` meets its contract: after a refusal work stays, and else it is cleared.
 use mathlib.Core.Path.{refl, _∙_}
 use Rattle.answers.specs.Answers.{cleared}
-use Rattle.answers.proofs.Shell.{refused-left, written-left}
+use Rattle.answers.proofs.Calls.{refused-left, written-left}
 use borrow.Author.Needs.{needs}
 use Rattle.answers.proofs.clear_accepted.Statement.{statement}
 use Rattle.answers.proofs.clear_accepted.Tie as tie

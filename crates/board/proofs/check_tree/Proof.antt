@@ -6,7 +6,7 @@ use lib.ListN.{length, getD}
 use Rattle.picture.specs.Pictures.{Picture, pictureOf}
 use Rattle.board.specs.Trees.{treeFaultOf, checkedFault}
 use Rattle.faults.proofs.Laws.{Admitted}
-use Rattle.answers.proofs.Shell.{refused-answer, refused-left, accepted-answer, cleared-left}
+use Rattle.answers.proofs.Calls.{refused-answer, refused-left, accepted-answer, cleared-left}
 use Rattle.board.proofs.LentTrees.{lists-fault, tree-admitted, lent-tree, no-checked-fault}
 use borrow.Author.Needs.{needs}
 use Rattle.board.proofs.check_tree.Statement.{statement}

@@ -8,8 +8,8 @@ use Rattle.lists.proofs.Cuts.{drop-more}
 use Rattle.topology.proofs.Nodes.{nodes-few}
 use Rattle.board.specs.Trees.{shortest, treeFaultOf}
 use Rattle.faults.proofs.Laws.{Admitted}
-use Rattle.answers.proofs.Shell.{refused-answer, refused-left, accepted-answer, cleared-left}
-use Rattle.board.proofs.LentTrees.{lists-fault, tree-admitted, tree-rooms, list-left}
+use Rattle.answers.proofs.Calls.{refused-answer, refused-left, accepted-answer, written-left, cleared-left}
+use Rattle.board.proofs.LentTrees.{lists-fault, tree-admitted, tree-rooms}
 use borrow.Author.Needs.{needs}
 use Rattle.board.proofs.component_tree.Statement.{statement}
 use Rattle.board.proofs.component_tree.Tie as tie
@@ -106,10 +106,10 @@ returns-2 c =
     let f = c .before .before .finish in
     record {
       answer = accepted-answer _ _ _ _ z (t .0 .count) (f .ensures .answer);
-      heights = list-left _ _ _ _ z (t .1 .0);
-      fathers = list-left _ _ _ _ z (t .1 .1 .0);
-      firsts = list-left _ _ _ _ z (t .1 .1 .1 .0);
-      map = list-left _ _ _ _ z (t .1 .1 .1 .1);
+      heights = t .1 .0 ∙ written-left _ _ _ z;
+      fathers = t .1 .1 .0 ∙ written-left _ _ _ z;
+      firsts = t .1 .1 .1 .0 ∙ written-left _ _ _ z;
+      map = t .1 .1 .1 .1 ∙ written-left _ _ _ z;
       work =
           cleared-left _ _ (pictured s) _ _ _ z (a .size)
           (drop-more (4 * places (pictured s)) (5 * length (s .args .pixels .now)) _ _ (omega (arith, a .size)) (t .0 .beyond))

@@ -8,7 +8,7 @@ use Rattle.lists.specs.Lists.{pick}
 use Rattle.picture.specs.Pictures.{Picture, places, pictureOf}
 use Rattle.board.specs.Calls.{placeFaultOf}
 use Rattle.faults.proofs.Laws.{workFaultOf, place-enough, Admitted, admitted}
-use Rattle.answers.proofs.Shell.{refused-answer, refused-left, accepted-answer, lent-length, back-room, behind-lent, cleared-left}
+use Rattle.answers.proofs.Calls.{refused-answer, refused-left, accepted-answer, lent-length, back-room, behind-lent, cleared-left}
 use borrow.Author.Needs.{needs}
 use Rattle.board.proofs.is_lowerable.Statement.{statement}
 use Rattle.board.proofs.is_lowerable.Tie as tie

@@ -8,7 +8,7 @@ use Rattle.picture.specs.Pictures.{Picture, places, pictureOf}
 use Rattle.picture.specs.Components.{pass}
 use Rattle.board.specs.Trees.{treeFaultOf, placesFaultOf, checkedFault, isTree, TreeLent}
 use Rattle.faults.proofs.Laws.{Admitted}
-use Rattle.answers.proofs.Shell.{refused-answer, refused-left, accepted-answer, cleared-left}
+use Rattle.answers.proofs.Calls.{refused-answer, refused-left, accepted-answer, cleared-left}
 use Rattle.board.proofs.LentTrees.{lists-fault, tree-admitted, lent-tree, lent-none, places-is, no-places-fault, no-checked-fault, pass-ready, pass-low, tree-entries}
 use borrow.Author.Needs.{needs}
 use Rattle.board.proofs.pass_between.Statement.{statement}

@@ -1,10 +1,10 @@
 -- `board::query_cleared` meets its contract.
-use mathlib.Core.Path.{sym, ap, _∙_}
-use mathlib.Core.List.{List, _++_}
+use mathlib.Core.Path.{sym, _∙_}
 use Prim.Native.Nat.{ℕ, _*_}
 use native.Mathlib.Omega.{arith}
 use lib.ListN.{length, replicate, length-replicate}
-use Rattle.answers.proofs.Shell.{lent-length, behind-lent}
+use Rattle.lists.proofs.Cuts.{over-same}
+use Rattle.answers.proofs.Calls.{lent-length, behind-lent}
 use borrow.Author.Needs.{needs}
 use Rattle.board.proofs.query_cleared.Statement.{statement}
 use Rattle.board.proofs.query_cleared.Tie as tie
@@ -48,7 +48,7 @@ returns c =
     let n = length (s .args .pixels .now) in (
       q .ensures,
       c .before .before .clear-work .ensures ∙
-          ap (λ (l : List ℕ). replicate {A = ℕ} (5 * n) 0 ++ l)
+          over-same (5 * n) (replicate (5 * n) 0) (length-replicate (5 * n) 0) _ (s .args .work .now)
           (behind-lent (5 * n) (5 * n) (q .last .1 .1 .1 .1 .1 .0) (s .args .work .now) (q .kept .1 .1 .1 .1 .1 .0) (omega arith) (s .pre .room)),
     )
 

@@ -5,7 +5,7 @@ use native.Mathlib.Omega.{arith}
 use lib.ListN.{length, getD}
 use Rattle.picture.specs.Pictures.{Picture, pictureOf}
 use Rattle.topology.proofs.Water.{watershed-watered}
-use Rattle.answers.proofs.Shell.{lent-length, back-room, behind-lent}
+use Rattle.answers.proofs.Calls.{lent-length, back-room, behind-lent}
 use Rattle.board.proofs.Outputs.{OutputLent, output-refused, output-lent, output-done}
 use borrow.Author.Needs.{needs}
 use Rattle.board.proofs.watershed_of.Statement.{statement}

@@ -5,7 +5,7 @@ use native.Mathlib.Omega.{arith}
 use lib.ListN.{length, take, replicate, length-replicate}
 use Rattle.topology.proofs.Accepted.{accepted-is, places-bound}
 use Rattle.picture.specs.Pictures.{pictureOf}
-use Rattle.answers.proofs.Shell.{lent-length}
+use Rattle.answers.proofs.Calls.{lent-length}
 use borrow.Author.Needs.{needs}
 use Rattle.hold_list.proofs.put_holds.Statement.{statement}
 use Rattle.hold_list.proofs.put_holds.Tie as tie

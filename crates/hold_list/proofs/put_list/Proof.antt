@@ -9,7 +9,7 @@ use Rattle.topology.proofs.Accepted.{Accepted, accepted-is}
 use Rattle.patches.specs.Figures.{PatchMap}
 use Rattle.text.specs.Writing.{Written}
 use Rattle.text.proofs.Writings.{written-then, written-length}
-use Rattle.answers.proofs.Shell.{lent-length}
+use Rattle.answers.proofs.Calls.{lent-length}
 use Rattle.hold_list.proofs.Figured.{line-few, count-most, figured-lists, list-is}
 use borrow.Author.Needs.{needs}
 use Rattle.hold_list.proofs.put_list.Statement.{statement}

@@ -4,9 +4,9 @@ use Prim.Native.Nat.{ℕ, _≤_, _-_, _*_}
 use native.Mathlib.Omega.{arith}
 use lib.ListN.{length, take}
 use borrow.Author.Needs.{needs}
+use Rattle.lists.specs.Lists.{over}
 use Rattle.text.specs.Writing.{Written}
 use Rattle.text.proofs.Writings.{written-none}
-use Rattle.answers.specs.Answers.{over}
 use Rattle.packing.specs.Packing.{packed}
 use Rattle.packing.proofs.Packed.{written-front, packed-next}
 use Rattle.packing.proofs.pack.Statement.{statement}

@@ -5,7 +5,8 @@ use Prim.Native.Nat.{ℕ, _≤_, _-_}
 use native.Mathlib.Omega.{arith}
 use lib.ListN.{length, drop, length-set}
 use borrow.Author.Needs.{needs}
-use Rattle.packing.specs.Packing.{entries}
+use Rattle.lists.proofs.Filling.{written-whole}
+use Rattle.packing.specs.Packing.{entryAt, entries}
 use Rattle.packing.proofs.Packed.{unpacked-next}
 use Rattle.packing.proofs.unpack.Statement.{statement}
 use Rattle.packing.proofs.unpack.Tie as tie
@@ -65,7 +66,9 @@ returns : tie.Need-returns Inv-loop μ-loop
 returns c =
     let s = c .before .before .before .before in
     let e : c .before .loop .i ≡ s .args .m = omega arith in
-    c .before .loop .inv .1 ∙ ap (λ (k : ℕ). entries k (s .args .bytes .now) ++ drop k (s .args .cells .now)) e
+    c .before .loop .inv .1 ∙
+    (ap (λ (k : ℕ). entries k (s .args .bytes .now) ++ drop k (s .args .cells .now)) e ∙
+    written-whole (entryAt (s .args .bytes .now)) (s .args .m) (s .args .cells .now))
 
 pub unpack-spec : {M : Type 1} → statement M
 unpack-spec =

@@ -4,7 +4,7 @@ use Prim.Native.Nat.{_*_}
 use native.Mathlib.Omega.{arith}
 use lib.ListN.{length}
 use Rattle.picture.specs.Pictures.{Picture, pictureOf}
-use Rattle.answers.proofs.Shell.{lent-length}
+use Rattle.answers.proofs.Calls.{lent-length}
 use Rattle.topology.proofs.Accepted.{accepted-is}
 use Rattle.patch_lists.proofs.PatchLists.{pixels-few, cells-lent, figured}
 use borrow.Author.Needs.{needs}

@@ -1,5 +1,5 @@
 -- `patch_records::write_records` meets its contract: a walk of its MIR, by hand. The borrow of the list is opened once, before the loop, and closed once, after it; between the two the memory is the function's own.
--- A turn passes a copy of the figures' reference to `record_at`, takes the element out of the row, stores the record and puts the element back. With t records left, the first count − t are written (`Written.antt`).
+-- A turn passes a copy of the figures' reference to `record_at`, takes the element out of the row, stores the record and puts the element back. With t records left, the first count − t are written (`Filling` of crate `lists`).
 --
 use mathlib.Core.Path.{_≡_, refl, sym, ap, subst}
 use mathlib.Core.Bool.{Bool}
@@ -51,7 +51,7 @@ use denote.Triple.Walked.{says, needs, Stays, stay-slice, stay-none-slice, stay-
 use denote.Exit.{yes}
 use Rattle.patch_records.specs.Records.{Entries, recordAt}
 use Rattle.patch_records.specs.declared.Patch.{Patch}
-use Rattle.lists.proofs.Filling.{written, length-written, written-next}
+use Rattle.lists.proofs.Filling.{written, length-written, written-next, written-whole}
 use Rattle.patch_records.proofs.Patch as T
 use Rattle.patch_records.proofs.Patch.Laws as T′
 use Rattle.patch_records.proofs.record_at as record-at
@@ -147,7 +147,7 @@ module _ {M : Type 1} (𝓤 : URA M) (H : Heap 𝓤) (A : Atoms 𝓤) (W : Given
   exits : ent 𝓤 (⋆ 𝓤 H A (‵ (fobs γ (codedHoleys R .code (heres R zs))) ∷ ‵ (fbor κ₁ (Held R (length zs) b o γ)) ∷ ‵ (flft κ₁ q₁) ∷ token ∷ Kept ∷ [])) (Post vunit)
   exits =
       qed W (‵ (fobs γ (codedHoleys R .code (heres R zs))) ∷ ‵ (fbor κ₁ (Held R (length zs) b o γ)) ∷ ‵ (flft κ₁ q₁) ∷ token ∷ Kept ∷ []) ∵
-      suffices ! _ (ends-at 𝓤 H A write-records.ended stayed (write-records.clauses 𝓤 H A mem′ run) W bound vunit tt (zs, (tt, (tt, (tt, tt)))) (same, (tt, (tt, (tt, tt))))) $ says ! refl $
+      suffices ! _ (ends-at 𝓤 H A write-records.ended stayed (write-records.clauses 𝓤 H A mem′ run) W bound vunit tt (zs, (tt, (tt, (tt, tt)))) (same, (tt, (tt, (tt, tt))))) $ says ! (written-whole rec count xs) $
       nothing ! $ move ! (4 ∷ 0 ∷ []) $ join ! $ move ! (3 ∷ 0 ∷ []) $ join ! $ frame ! $
       -- [obs; the borrow; what the figures own]
       fjoin ! $ pureI ! (at-slice R (x zs) (s₁ ∷ [])) (tt, (tt, tt)) (ap (λ (m : ℕ). sliceVal (b, o) m ∷ []) (sym same), subst (Room R) (sym same) room₁) $ fjoin ! $

@@ -3,7 +3,7 @@
 -- its refusal. With no fault, `admitted` of that crate accepts the picture: that its pixels are bytes is what the rules of a `&[u8]` give at the entry of
 -- every function that calls something, as `c .. .shared-slice-known .given i`, for each index i. At the end `accepted-answer`,
 -- `written-over` and `cleared-left` close the return; of a part lent to the core `lent-length`, `back-room` and `behind-lent` say the rest.
-use mathlib.Core.Path.{_≡_, refl, sym, ap, ap₂, _∙_}
+use mathlib.Core.Path.{_≡_, sym, ap, _∙_}
 use mathlib.Core.Bool.{Bool, false}
 use mathlib.Core.Logic.{_≢_}
 use mathlib.Core.List.{List, _++_}
@@ -13,10 +13,11 @@ use lib.Dec.{eqb}
 use lib.ListN.{length, take, drop, replicate, length-replicate}
 use lib.Seq.{length-take-le, length-front, drop-append-add, drop-drop}
 use borrow.Author.Tests.{eq-eqb, ne-eqb}
-use Rattle.lists.specs.Lists.{pick}
+use Rattle.lists.specs.Lists.{pick, over}
+use Rattle.lists.proofs.Cuts.{over-cut, over-same}
 use Rattle.picture.specs.Pictures.{Picture, places}
 use Rattle.answers.specs.declared.Answer.{Answer}
-use Rattle.answers.specs.Answers.{over, afterCall, workAfter, Answered, IsRefusal, IsValue}
+use Rattle.answers.specs.Answers.{afterCall, cleared, workAfter, Answered, IsRefusal, IsValue}
 
 -- a refusal with the fault f: the number with the value 0, and every lent slice as it was
 module _ (f g : ℕ) (e : g ≡ f) (d : g ≢ 0) where
@@ -30,7 +31,7 @@ module _ (f g : ℕ) (e : g ≡ f) (d : g ≢ 0) where
         value = ap (λ (s : Answer). s .value) q ∙ sym (ap (λ (t : Bool). pick t v 0) fails);
       }
 
-  pub refused-left : (new old : List ℕ) → old ≡ afterCall f new old
+  pub refused-left : {A : Type 0} (new old : List A) → old ≡ afterCall f new old
   refused-left new old = sym (ap (λ (t : Bool). pick t new old) fails)
 
 -- success: the number 0 with the value, and every lent slice with its new content
@@ -41,14 +42,14 @@ accepted-answer f v u r z w e =
       value = ap (λ (s : Answer). s .value) e ∙ (w ∙ sym (ap (λ (t : Bool). pick t v 0) (eq-eqb f 0 z)));
     }
 
-pub written-left : (f : ℕ) (new old : List ℕ) → f ≡ 0 → new ≡ afterCall f new old
+pub written-left : {A : Type 0} (f : ℕ) (new old : List A) → f ≡ 0 → new ≡ afterCall f new old
 written-left f new old z = sym (ap (λ (t : Bool). pick t new old) (eq-eqb f 0 z))
 
 -- the content ys that a core wrote to the whole of a lent part of n entries
 pub written-over :
     (f n : ℕ) (new old ys : List ℕ) → f ≡ 0 → length new ≡ n → ys ≡ new → ys ++ drop n old ≡ afterCall f (over new old) old
 written-over f n new old ys z e w =
-    ap₂ (λ (l : List ℕ) (m : ℕ). l ++ drop m old) w (sym e) ∙ written-left f (over new old) old z
+    ap (λ (l : List ℕ). l ++ drop n old) w ∙ (over-cut n new e old ∙ written-left f (over new old) old z)
 
 -- a lent part of n entries has n, and the slice keeps its length when the part is back
 pub lent-length : (n : ℕ) (q : List ℕ) → n ≤ length q → n ≡ length (take n q)
@@ -70,10 +71,9 @@ behind-lent n m ys q e h g =
 
 -- work cleared over 5 n entries, of which the first were lent to a core
 pub cleared-left :
-    (f n : ℕ) (p : Picture) (q lent q′ : List ℕ) → f ≡ 0 → n ≡ places p → drop (5 * n) lent ≡ drop (5 * n) q →
-    q′ ≡ replicate {A = ℕ} (5 * n) 0 ++ drop (5 * n) lent → q′ ≡ workAfter f p q
+    (f n : ℕ) (p : Picture) (q lent q′ : List ℕ) → f ≡ 0 → n ≡ places p → drop (5 * n) lent ≡ drop (5 * n) q → q′ ≡ cleared n lent →
+    q′ ≡ workAfter f p q
 cleared-left f n p q lent q′ z e d c =
     c ∙
-    (ap (λ (o : List ℕ). replicate (5 * n) 0 ++ o) d ∙
-    (ap (λ (i : ℕ). replicate (5 * i) 0 ++ drop (5 * i) q) e ∙
-    written-over f (5 * places p) (replicate (5 * places p) 0) q _ z (length-replicate (5 * places p) 0) refl))
+    (over-same (5 * n) (replicate (5 * n) 0) (length-replicate (5 * n) 0) lent q d ∙
+    (ap (λ (i : ℕ). cleared i q) e ∙ written-left f (cleared (places p) q) q z))
