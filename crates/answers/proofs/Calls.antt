@@ -17,7 +17,8 @@ use Rattle.lists.specs.Lists.{pick, over}
 use Rattle.lists.proofs.Cuts.{over-cut, over-same}
 use Rattle.picture.specs.Pictures.{Picture, places}
 use Rattle.answers.specs.declared.Answer.{Answer}
-use Rattle.answers.specs.Answers.{afterCall, cleared, workAfter, Answered, IsRefusal, IsValue}
+use Rattle.answers.specs.Answers.{afterCall, cleared, workAfter, Answered, WorkSays}
+use Rattle.answers.specs.Steps.{IsRefusal, IsValue, Finished}
 
 -- a refusal with the fault f: the number with the value 0, and every lent slice as it was
 module _ (f g : ℕ) (e : g ≡ f) (d : g ≢ 0) where
@@ -77,3 +78,13 @@ cleared-left f n p q lent q′ z e d c =
     c ∙
     (over-same (5 * n) (replicate (5 * n) 0) (length-replicate (5 * n) 0) lent q d ∙
     (ap (λ (i : ℕ). cleared i q) e ∙ written-left f (cleared (places p) q) q z))
+
+-- a call that lends work: its refusal, and its end
+pub work-refused : (f g v : ℕ) (p : Picture) (q : List ℕ) (r : Answer) → g ≡ f → g ≢ 0 → IsRefusal g r → WorkSays f v p q q r
+work-refused f g v p q r e d w = record { answer = refused-answer f g e d v r w; work = refused-left f g e d _ q }
+
+pub work-done :
+    (f v u n : ℕ) (p : Picture) (q lent q′ : List ℕ) (r : Answer) → f ≡ 0 → u ≡ v → n ≡ places p → drop (5 * n) lent ≡ drop (5 * n) q →
+    Finished n u lent q′ r → WorkSays f v p q q′ r
+work-done f v u n p q lent q′ r z w e d t =
+    record { answer = accepted-answer f v u r z w (t .answer); work = cleared-left f n p q lent q′ z e d (t .work) }

@@ -25,15 +25,7 @@ pub record Answered (f v : ℕ) (r : Answer) : Type 0 where
   pub number : r .number ≡ f
   pub value : r .value ≡ pick (eqb f 0) v 0
 
--- the record of a refusal
-abbrev pub IsRefusal : ℕ → Answer → Type 0
-IsRefusal f r = r ≡ record { number = f; value = 0 }
-
--- the record of an accepted call
-abbrev pub IsValue : ℕ → Answer → Type 0
-IsValue v r = r ≡ record { number = 0; value = v }
-
--- the end of a call that is not refused: the value, and work cleared over 5 n entries
-pub record Finished (n v : ℕ) (q q′ : List ℕ) (r : Answer) : Type 0 where
-  pub answer : IsValue v r
-  pub work : q′ ≡ cleared n q
+-- a call with the fault f that lends work: its answer with the value v, and what it leaves in work
+pub record WorkSays (f v : ℕ) (p : Picture) (q q′ : List ℕ) (r : Answer) : Type 0 where
+  pub answer : Answered f v r
+  pub work : q′ ≡ workAfter f p q

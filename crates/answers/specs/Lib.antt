@@ -1,2 +1,3 @@
 -- What every call promises.
 pub mod Answers
+pub mod Steps

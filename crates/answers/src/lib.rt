@@ -3,7 +3,8 @@ use cells::clear;
 ghost use mathlib.Core.Path.{_≡_};
 ghost use Prim.Native.Nat.{_*_, _≤_};
 ghost use lib.ListN.{length};
-ghost use Rattle.answers.specs.Answers.{afterCall, IsRefusal, IsValue, cleared, Finished};
+ghost use Rattle.answers.specs.Answers.{afterCall, cleared};
+ghost use Rattle.answers.specs.Steps.{IsRefusal, IsValue, Finished};
 
 // The number of a refusal, or 0 with the number of components, nodes or patches, the pass, 1 for yes, or 0 where nothing is counted.
 pub struct Answer {

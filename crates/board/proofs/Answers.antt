@@ -23,10 +23,9 @@ use Rattle.topology.proofs.Tree.{one-root}
 use Rattle.topology.proofs.TreeLists.{length-heights, length-fathers, length-firsts, heights-at, fathers-at, firsts-at}
 use Rattle.answers.specs.declared.Answer.{Answer}
 use Rattle.answers.specs.Answers.{afterCall}
-use Rattle.board.specs.Calls.{WaterSays}
 use Rattle.board.specs.Trees.{begins, isTree, treeFaultOf, placesFaultOf, checkedFault, TreeSays, PassSays}
-use Rattle.board.specs.Answers.{answeredNode, TreesKept}
-use Rattle.board.proofs.Demands.{leftBy, accepted-of-call, demand-3-of-call}
+use Rattle.board.specs.Demands.{leftBy, answeredNode, TreesKept, Trees-of-calls, Passes-of-calls}
+use Rattle.board.proofs.Demands.{accepted-of-call, demand-3-of-call}
 use Rattle.board.proofs.LentTrees.{no-places-fault, no-checked-fault}
 
 -- an entry of a list that a call without a fault left in front of another
@@ -47,10 +46,10 @@ begins-front f xs old new z e =
 -- what an unrefused tree call answers, node by node
 module _ (p : Picture) (hs hs′ fs fs′ ss ss′ m m′ q q′ : List ℕ) (r : Answer) (says : TreeSays p hs hs′ fs fs′ ss ss′ m m′ q q′ r) (unrefused : r .number ≡ 0) where
   fine : treeFaultOf p hs fs ss m q ≡ 0
-  fine = sym (says .answer .number) ∙ unrefused
+  fine = sym (says .call .answer .number) ∙ unrefused
 
   pub answered-count : r .value ≡ length (nodes p)
-  answered-count = says .answer .value ∙ ap (λ (t : Bool). pick t (length (nodes p)) 0) (eq-eqb (treeFaultOf p hs fs ss m q) 0 fine)
+  answered-count = says .call .answer .value ∙ ap (λ (t : Bool). pick t (length (nodes p)) 0) (eq-eqb (treeFaultOf p hs fs ss m q) 0 fine)
 
   pub answered-node : (i : ℕ) → i < length (nodes p) → answeredNode hs′ ss′ i ≡ nodeAt p i
   answered-node i h =
@@ -192,7 +191,7 @@ pub answered-is-tree :
 unfolding isTree
 answered-is-tree p hs hs′ fs fs′ ss ss′ m m′ q q′ r says z =
     let f = treeFaultOf p hs fs ss m q in
-    let e = sym (says .answer .number) ∙ z in
+    let e = sym (says .call .answer .number) ∙ z in
     and-both
     (eq-eqb (r .value) (length (nodes p)) (answered-count p hs hs′ fs fs′ ss ss′ m m′ q q′ r says z))
     (and-both (begins-front f (treeOf p .heights) hs hs′ e (says .heights))
@@ -200,18 +199,10 @@ answered-is-tree p hs hs′ fs fs′ ss ss′ m m′ q q′ r says z =
     (and-both (begins-front f (treeOf p .firsts) ss ss′ e (says .firsts))
     (begins-front f (treeOf p .map) m m′ e (says .map)))))
 
--- the calls together: an unrefused watershed call, and the tree and the pass that the calls answer for the picture and for the bytes it left
-module _ (p : Picture) (o o′ v v′ : List ℕ) (c : Answer) (bytes : allBytes (p .pixels) ≡ true) (says : WaterSays p o o′ v v′ c) (unrefused : c .number ≡ 0) where
-  pub trees-of-calls :
-      (hs hs′ fs fs′ ss ss′ m m′ q q′ : List ℕ) (r : Answer) → TreeSays p hs hs′ fs fs′ ss ss′ m m′ q q′ r → r .number ≡ 0 →
-      (gs gs′ es es′ ts ts′ k k′ w w′ : List ℕ) (s : Answer) → TreeSays (leftBy p o′) gs gs′ es es′ ts ts′ k k′ w w′ s → s .number ≡ 0 →
-      TreesKept p (leftBy p o′) (r .value) hs′ fs′ ss′ (s .value) gs′ es′ ts′
-  trees-of-calls =
-      demand-3-of-trees p (leftBy p o′) (accepted-of-call p o o′ v v′ c bytes says unrefused) (demand-3-of-call p o o′ v v′ c bytes says unrefused)
+-- the calls together
+pub trees-of-calls : Trees-of-calls
+trees-of-calls p o o′ v v′ c bytes says z =
+    demand-3-of-trees p (leftBy p o′) (accepted-of-call p o o′ v v′ c bytes says z) (demand-3-of-call p o o′ v v′ c bytes says z .0)
 
-  pub passes-of-calls :
-      (x y : ℕ) → 1 ≤ patchAt p x → 1 ≤ patchAt p y →
-      (n : ℕ) (hs fs ss m q q′ : List ℕ) (r : Answer) → PassSays p n hs fs ss m x y q q′ r → r .number ≡ 0 →
-      (l : ℕ) (gs es ts k w w′ : List ℕ) (s : Answer) → PassSays (leftBy p o′) l gs es ts k x y w w′ s → s .number ≡ 0 →
-      r .value ≡ s .value
-  passes-of-calls = demand-3-of-passes p (leftBy p o′) (demand-3-of-call p o o′ v v′ c bytes says unrefused)
+pub passes-of-calls : Passes-of-calls
+passes-of-calls p o o′ v v′ c bytes says z = demand-3-of-passes p (leftBy p o′) (demand-3-of-call p o o′ v v′ c bytes says z .0)

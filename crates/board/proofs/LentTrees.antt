@@ -12,7 +12,7 @@ use Rattle.picture.specs.Pictures.{Picture, places, isPicture}
 use Rattle.picture.specs.Components.{pass}
 use Rattle.picture.specs.Trees.{nodes, treeOf}
 use Rattle.faults.specs.PictureFault.{firstOf, when}
-use Rattle.lists.proofs.Tests.{and-left, and-right, and-both, clash, on-test}
+use Rattle.lists.proofs.Tests.{and-left, and-right, and-both, or-fails, clash, on-test}
 use Rattle.topology.proofs.Accepted.{accepted-is}
 use Rattle.topology.proofs.Nodes.{nodes-few}
 use Rattle.topology.proofs.Grid.{pass-byte}
@@ -21,9 +21,10 @@ use Rattle.tree_lists.specs.Lists.{Rooms}
 use Rattle.lent_tree.specs.Lent.{HoldsTree}
 use Rattle.verify.specs.Checked.{Says}
 use Rattle.lent_tree.specs.Passes.{PassReady}
-use Rattle.faults.specs.Faults.{outputFault}
-use Rattle.board.specs.Trees.{begins, isTree, shortest, treeFaultOf, placesFaultOf, checkedFault, TreeLent}
-use Rattle.faults.proofs.Laws.{Admitted, admitted, output-enough, first-some, first-none, first-zero, then-none}
+use Rattle.faults.specs.Faults.{outputFault, Admitted}
+use Rattle.board.specs.Trees.{begins, isTree, shortest, treeFaultOf, placesFaultOf, checkedFault}
+use Rattle.board.specs.LentTrees.{TreeLent}
+use Rattle.faults.proofs.Faults.{admitted, output-enough, first-some, first-none, first-later, then-none}
 
 -- a list begins with another: entry by entry
 begins-at : (xs ys : List ℕ) → begins xs ys ≡ true → (i : ℕ) → i < length xs → getD ys i 0 ≡ getD xs i 0
@@ -45,10 +46,6 @@ entries xs ys n e b i h = begins-at xs ys b i (omega arith)
 begun : (xs ys : List ℕ) (n : ℕ) → length xs ≡ n → n ≤ length ys → ((i : ℕ) → i < n → getD ys i 0 ≡ getD xs i 0) → begins xs ys ≡ true
 begun xs ys n e h f = at-begins xs ys (omega arith) (λ i l. f i (omega arith))
 
--- the lists of a call with no fault
-pub lent-none : {f : ℕ} {p : Picture} {hs fs ss m : List ℕ} → f ≡ 0 → TreeLent f p hs fs ss m → TreeLent 0 p hs fs ss m
-lent-none {f} {p} {hs} {fs} {ss} {m} z l = subst (λ (g : ℕ). TreeLent g p hs fs ss m) z l
-
 module _ (p : Picture) (count : ℕ) (hs fs ss m : List ℕ) where
   -- the test holds exactly for the tree
   pub tree-entries : isTree p count hs fs ss m ≡ true → HoldsTree p count hs fs ss m
@@ -66,7 +63,7 @@ module _ (p : Picture) (count : ℕ) (hs fs ss m : List ℕ) where
         map = λ x h. entries (treeOf p .map) m (places p) (length-map-of p) (and-right (begins (treeOf p .firsts) ss) _ e₃) x h ∙ map-at p x h;
       }
 
-  module _ (lent : TreeLent 0 p hs fs ss m) where
+  module _ (lent : TreeLent p hs fs ss m) where
     pub entries-tree : HoldsTree p count hs fs ss m → isTree p count hs fs ss m ≡ true
     unfolding isTree
     entries-tree t =
@@ -74,12 +71,12 @@ module _ (p : Picture) (count : ℕ) (hs fs ss m : List ℕ) where
         let few = nodes-few p in
         and-both (eq-eqb count n (t .total))
         (and-both
-        (begun (treeOf p .heights) hs n (length-heights p) (omega (arith, few, lent .heights refl)) (λ i h. t .heights i h ∙ sym (heights-at p i h)))
+        (begun (treeOf p .heights) hs n (length-heights p) (omega (arith, few, lent .heights)) (λ i h. t .heights i h ∙ sym (heights-at p i h)))
         (and-both
-        (begun (treeOf p .fathers) fs n (length-fathers p) (omega (arith, few, lent .fathers refl)) (λ i h. t .fathers i h ∙ sym (fathers-at p i h)))
+        (begun (treeOf p .fathers) fs n (length-fathers p) (omega (arith, few, lent .fathers)) (λ i h. t .fathers i h ∙ sym (fathers-at p i h)))
         (and-both
-        (begun (treeOf p .firsts) ss n (length-firsts p) (omega (arith, few, lent .firsts refl)) (λ i h. t .firsts i h ∙ sym (firsts-at p i h)))
-        (begun (treeOf p .map) m (places p) (length-map-of p) (lent .map refl) (λ x h. t .map x h ∙ sym (map-at p x h))))))
+        (begun (treeOf p .firsts) ss n (length-firsts p) (omega (arith, few, lent .firsts)) (λ i h. t .firsts i h ∙ sym (firsts-at p i h)))
+        (begun (treeOf p .map) m (places p) (length-map-of p) (lent .map) (λ x h. t .map x h ∙ sym (map-at p x h))))))
 
     -- the answer of the check is the test
     pub answer-tree : (b : Bool) → Says p count hs fs ss m b → b ≡ isTree p count hs fs ss m
@@ -102,17 +99,6 @@ module _ (p : Picture) (count : ℕ) (hs fs ss m : List ℕ) where
   no-checked-fault f e =
       let z = then-none f 10 (not (isTree p count hs fs ss m)) _ refl e in (z .0, not-false (isTree p count hs fs ss m) (z .1))
 
--- the fault of two places
-module _ (n x y : ℕ) where
-  pub places-both : when (leb n x || leb n y) 10 ≡ 0 → (x < n) × (y < n)
-  places-both e =
-      on-test (leb n x)
-      (λ l. absurd (let g : 10 ≡ 0 = ap (λ (s : Bool). when (s || leb n y) 10) (sym l) ∙ e in omega arith))
-      (λ l.
-      on-test (leb n y)
-      (λ u. absurd (let g : 10 ≡ 0 = ap₂ (λ (s t : Bool). when (s || t) 10) (sym l) (sym u) ∙ e in omega arith))
-      (λ u. (leb-false n x l, leb-false n y u)))
-
 -- the fault of the lengths, from the least of them
 pub lists-fault :
     (p : Picture) (hs fs ss m q : List ℕ) (l f : ℕ) → l ≡ shortest hs fs ss m →
@@ -129,27 +115,27 @@ module _ (p : Picture) (hs fs ss m q : List ℕ) (bytes : (i : ℕ) → getD (p 
       let e = output-enough (p .adjacency) (p .width) (p .height) (length (p .pixels)) (length q) (shortest hs fs ss m) z in
       (admitted p (length q) (e .0) bytes, e .1)
 
-  -- the lists of a call whose fault f is no less than that of the lengths
-  pub lent-tree : (f : ℕ) → (f ≡ 0 → treeFaultOf p hs fs ss m q ≡ 0) → TreeLent f p hs fs ss m
-  lent-tree f g =
+  pub lent-tree : treeFaultOf p hs fs ss m q ≡ 0 → TreeLent p hs fs ss m
+  lent-tree z =
+      let a = tree-admitted z .0 in
+      let l = tree-admitted z .1 in
       record {
-        accepted = λ z. tree-admitted (g z) .0 .picture;
-        few = λ z. tree-admitted (g z) .0 .few;
-        heights = λ z. let l = tree-admitted (g z) .1 in omega arith;
-        fathers = λ z. let l = tree-admitted (g z) .1 in omega arith;
-        firsts = λ z. let l = tree-admitted (g z) .1 in omega arith;
-        map = λ z. let l = tree-admitted (g z) .1 in omega arith;
+        accepted = a .picture;
+        few = a .faultless .few;
+        heights = omega arith;
+        fathers = omega arith;
+        firsts = omega arith;
+        map = omega arith;
       }
 
-  -- the places count from the number of pixels
-  pub places-is :
+  -- the code counts from the number of pixels
+  pub places-counted :
       (f x y : ℕ) → f ≡ treeFaultOf p hs fs ss m q →
       firstOf f (when (leb (length (p .pixels)) x || leb (length (p .pixels)) y) 10) ≡ placesFaultOf p hs fs ss m q x y
   unfolding placesFaultOf
-  places-is zero x y e =
-      let n = tree-admitted (sym e) .0 .size in
-      ap (λ (k : ℕ). firstOf 0 (when (leb k x || leb k y) 10)) n ∙ ap (λ (g : ℕ). firstOf g (when (leb (places p) x || leb (places p) y) 10)) e
-  places-is (suc f) x y e = ap (λ (g : ℕ). firstOf g (when (leb (places p) x || leb (places p) y) 10)) e
+  places-counted f x y e =
+      first-later f (length (p .pixels)) (places p) (λ n. when (leb n x || leb n y) 10) (λ z. tree-admitted (sym e ∙ z) .0 .faultless .size) ∙
+      ap (λ (g : ℕ). firstOf g (when (leb (places p) x || leb (places p) y) 10)) e
 
 -- no fault of the lengths and of two places
 pub no-places-fault :
@@ -157,13 +143,13 @@ pub no-places-fault :
     (treeFaultOf p hs fs ss m q ≡ 0) × (x < places p) × (y < places p)
 unfolding placesFaultOf
 no-places-fault p hs fs ss m q x y e =
-    let z = first-zero (treeFaultOf p hs fs ss m q) _ e in
-    let b = places-both (places p) x y (z .1) in
-    (z .0, b .0, b .1)
+    let z = then-none _ 9 _ _ refl e in
+    let b = or-fails (leb (places p) x) (leb (places p) y) (z .1) in
+    (z .0, leb-false (places p) x (b .0), leb-false (places p) y (b .1))
 
 -- a tree and two places of its picture, ready for the pass
 pub pass-ready :
-    (p : Picture) (count : ℕ) (hs fs ss m : List ℕ) (x y : ℕ) → TreeLent 0 p hs fs ss m → isTree p count hs fs ss m ≡ true → x < places p → y < places p →
+    (p : Picture) (count : ℕ) (hs fs ss m : List ℕ) (x y : ℕ) → TreeLent p hs fs ss m → isTree p count hs fs ss m ≡ true → x < places p → y < places p →
     PassReady (p .pixels) hs fs m x y
 pass-ready p count hs fs ss m x y l e bx by =
     let t = tree-entries p count hs fs ss m e in
@@ -173,14 +159,14 @@ pass-ready p count hs fs ss m x y l e bx by =
       p = p;
       count = count;
       ss = ss;
-      ok = l .accepted refl;
+      ok = l .accepted;
       is = refl;
       tree = t;
       left = bx;
       right = by;
-      heights = omega (arith, few, c, l .heights refl);
-      fathers = omega (arith, few, c, l .fathers refl);
-      map = l .map refl;
+      heights = omega (arith, few, c, l .heights);
+      fathers = omega (arith, few, c, l .fathers);
+      map = l .map;
     }
 
 pub pass-low : (p : Picture) (x y : ℕ) → isPicture p ≡ true → x < places p → y < places p → pass p x y ≤ 255
@@ -194,5 +180,5 @@ tree-rooms p hs fs ss m q a l =
       fathers = omega arith;
       firsts = omega arith;
       map = omega arith;
-      work = omega (arith, a .size, a .room);
+      work = omega (arith, a .faultless .size, a .faultless .room);
     }

@@ -5,10 +5,11 @@ use mathlib.Core.List.{List, _++_}
 use Prim.Native.Nat.{ℕ, _*_, _≤_}
 use lib.ListN.{length, getD, drop}
 use Rattle.picture.specs.Pictures.{Picture, places}
-use Rattle.faults.proofs.Laws.{Admitted, output-enough, admitted}
+use Rattle.faults.proofs.Faults.{output-enough, admitted}
+use Rattle.faults.specs.Faults.{Admitted}
 use Rattle.answers.specs.declared.Answer.{Answer}
-use Rattle.answers.specs.Answers.{IsRefusal, Finished}
-use Rattle.answers.proofs.Calls.{refused-answer, refused-left, accepted-answer, written-over, cleared-left}
+use Rattle.answers.specs.Steps.{IsRefusal, Finished}
+use Rattle.answers.proofs.Calls.{refused-left, written-over, work-refused, work-done}
 use Rattle.board.specs.Calls.{outputFaultOf, OutputSays}
 
 -- what a core is lent, with an entry a place of output
@@ -21,9 +22,8 @@ module _ (p : Picture) (o q : List ℕ) (g : ℕ) (e : g ≡ outputFaultOf p o q
   pub output-refused : g ≢ 0 → (v : ℕ) (new : List ℕ) (r : Answer) → IsRefusal g r → OutputSays p v new o o q q r
   output-refused d v new r w =
       record {
-        answer = refused-answer (outputFaultOf p o q) g e d v r w;
+        call = work-refused (outputFaultOf p o q) g v p q r e d w;
         output = refused-left (outputFaultOf p o q) g e d _ o;
-        work = refused-left (outputFaultOf p o q) g e d _ q;
       }
 
   module _ (z : g ≡ 0) (bytes : (i : ℕ) → getD (p .pixels) i 0 ≤ 255) where
@@ -40,7 +40,6 @@ module _ (p : Picture) (o q : List ℕ) (g : ℕ) (e : g ≡ outputFaultOf p o q
     output-done v u new ys lent q′ r w l s d f =
         let n = sym e ∙ z in
         record {
-          answer = accepted-answer (outputFaultOf p o q) v u r n w (f .answer);
+          call = work-done (outputFaultOf p o q) v u (length (p .pixels)) p q lent q′ r n w (output-lent .core .faultless .size) d f;
           output = written-over (outputFaultOf p o q) (length (p .pixels)) new o ys n l s;
-          work = cleared-left (outputFaultOf p o q) (length (p .pixels)) p q lent q′ n (output-lent .core .size) d (f .work);
         }

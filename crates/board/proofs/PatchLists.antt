@@ -28,11 +28,10 @@ pub listed :
 listed p o o′ q q′ q″ r g w v =
     let e = g .answer .number in
     record {
-      answer = g .answer;
+      call = record { answer = g .answer; work = v ∙ (g .left ∙ ap (λ (k : ℕ). workAfter k p q) e) };
       output =
           w ∙
           (ap (λ (l : List PatchRecord). over l o) (g .records) ∙
           (ap (λ (k : ℕ). over (pick (eqb k 0) (map recordOf (patches p)) []) o) e ∙
           over-either (eqb (listFault p (length o) (length q)) 0) (map recordOf (patches p)) o));
-      work = v ∙ (g .left ∙ ap (λ (k : ℕ). workAfter k p q) e);
     }

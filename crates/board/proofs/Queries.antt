@@ -3,32 +3,25 @@ use mathlib.Core.Path.{_≡_, refl, sym, ap, ap₂, _∙_}
 use mathlib.Core.Bool.{Bool, false}
 use mathlib.Core.Logic.{_≢_}
 use mathlib.Core.List.{List}
-use Prim.Native.Nat.{ℕ, zero, suc, _≤_}
+use Prim.Native.Nat.{ℕ, zero, suc}
 use lib.Dec.{eqb}
-use lib.ListN.{length, getD}
+use lib.ListN.{length}
 use borrow.Author.Tests.{eq-eqb, ne-eqb}
 use Rattle.lists.specs.Lists.{pick}
 use Rattle.picture.specs.Pictures.{Picture, places, valueAt}
 use Rattle.picture.specs.Patches.{patchAt}
-use Rattle.faults.proofs.Laws.{place-enough, admitted}
 use Rattle.answers.specs.Answers.{cleared}
 use Rattle.answers.proofs.Calls.{refused-left, cleared-left}
 use Rattle.board.specs.declared.Ground.the-variants as G
 use Rattle.board.specs.declared.Queried.{Queried}
-use Rattle.board.specs.Calls.{placeFaultOf, groundOf, QueryIs, Admits, QuerySays}
+use Rattle.board.specs.Calls.{placeFaultOf, groundOf, QueryIs, QuerySays}
 
 -- the ground of a patch number that is not 0
 pub ground-patch : (n : ℕ) → n ≢ 0 → G.Patch n ≡ groundOf n
 ground-patch zero d = absurd (d refl)
 ground-patch (suc n) d = refl
 
--- a place query without a fault, and with one
-pub admits : (p : Picture) (q : List ℕ) (x : ℕ) → placeFaultOf p q x ≡ 0 → ((i : ℕ) → getD (p .pixels) i 0 ≤ 255) → Admits p q x
-admits p q x e f =
-    let z = place-enough (p .adjacency) (p .width) (p .height) (length (p .pixels)) (length q) x e in
-    let a = admitted p (length q) (z .0) f in
-    record { accepted = a .picture; size = a .size; few = a .few; room = a .room; place = z .1 }
-
+-- a refused place query, and an answered one
 pub refused-query : (p : Picture) (q : List ℕ) (x g : ℕ) (r : Queried) → g ≡ placeFaultOf p q x → g ≢ 0 → QueryIs g 0 0 r → QuerySays p x q q r
 refused-query p q x g r e d w =
     let f = placeFaultOf p q x in

@@ -1,19 +1,18 @@
 -- What the public calls promise: the answer, and what they leave in each lent slice.
 -- p the picture, o output, q work, r the answer; a prime: after the call.
 use mathlib.Core.Path.{_≡_}
-use mathlib.Core.Bool.{true}
 use mathlib.Core.List.{List}
-use Prim.Native.Nat.{ℕ, zero, suc, _*_, _≤_, _<_}
+use Prim.Native.Nat.{ℕ, zero, suc}
 use lib.Dec.{eqb}
 use lib.ListN.{length}
 use Rattle.lists.specs.Lists.{pick, over}
-use Rattle.picture.specs.Pictures.{Picture, places, valueAt, isPicture}
+use Rattle.picture.specs.Pictures.{Picture, valueAt}
 use Rattle.picture.specs.Components.{components, labels}
 use Rattle.picture.specs.Watersheds.{lowerable, watershed}
 use Rattle.faults.specs.Faults.{outputFault, placeFault}
 use Rattle.picture.specs.Patches.{patchAt}
 use Rattle.answers.specs.declared.Answer.{Answer}
-use Rattle.answers.specs.Answers.{afterCall, workAfter, Answered}
+use Rattle.answers.specs.Answers.{afterCall, workAfter, WorkSays}
 use Rattle.board.specs.declared.Ground.{Ground}
 use Rattle.board.specs.declared.Ground.the-variants as G
 use Rattle.board.specs.declared.Queried.{Queried}
@@ -29,22 +28,20 @@ placeFaultOf p q x = placeFault (p .adjacency) (p .width) (p .height) (length (p
 
 -- a call that lends output and work: the value, and the list new in front of what was in the output; all as it was after a refusal
 pub record OutputSays (p : Picture) (v : ℕ) (new o o′ q q′ : List ℕ) (r : Answer) : Type 0 where
-  pub answer : Answered (outputFaultOf p o q) v r
+  pub call : WorkSays (outputFaultOf p o q) v p q q′ r
   pub output : o′ ≡ afterCall (outputFaultOf p o q) (over new o) o
-  pub work : q′ ≡ workAfter (outputFaultOf p o q) p q
 
 -- the labels of the section at height k, and the number of its components
 abbrev pub LabelsSay : Picture → ℕ → List ℕ → List ℕ → List ℕ → List ℕ → Answer → Type 0
 LabelsSay p k o o′ q q′ r = OutputSays p (length (components p k)) (labels p k) o o′ q q′ r
 
 -- the pixels of the watershed
-abbrev pub WaterSays : Picture → List ℕ → List ℕ → List ℕ → List ℕ → Answer → Type 0
-WaterSays p o o′ q q′ r = OutputSays p 0 (watershed p .pixels) o o′ q q′ r
+abbrev pub WatershedSays : Picture → List ℕ → List ℕ → List ℕ → List ℕ → Answer → Type 0
+WatershedSays p o o′ q q′ r = OutputSays p 0 (watershed p .pixels) o o′ q q′ r
 
 -- 1 if the pixel at the place x is lowerable, else 0
-pub record LowerSays (p : Picture) (x : ℕ) (q q′ : List ℕ) (r : Answer) : Type 0 where
-  pub answer : Answered (placeFaultOf p q x) (pick (lowerable p x) 1 0) r
-  pub work : q′ ≡ workAfter (placeFaultOf p q x) p q
+abbrev pub LowerableSays : Picture → ℕ → List ℕ → List ℕ → Answer → Type 0
+LowerableSays p x q q′ r = WorkSays (placeFaultOf p q x) (pick (lowerable p x) 1 0) p q q′ r
 
 -- where a place lies by its patch number: 0 is the line
 abbrev pub groundOf : ℕ → Ground
@@ -59,14 +56,6 @@ patchNumber (G.Patch n) = n
 -- the record of a place query: number, value, and the line or the patch
 abbrev pub QueryIs : ℕ → ℕ → ℕ → Queried → Type 0
 QueryIs f v n r = r ≡ record { number = f; value = v; ground = groundOf n }
-
--- an accepted picture, a place of it, and work of 5 n entries at least
-pub record Admits (p : Picture) (q : List ℕ) (x : ℕ) : Type 0 where
-  pub accepted : isPicture p ≡ true
-  pub size : length (p .pixels) ≡ places p
-  pub few : places p ≤ 1600
-  pub room : 5 * length (p .pixels) ≤ length q
-  pub place : x < places p
 
 -- the pixel's value and the line or the patch's number; on a refusal the value is 0 and the ground the line
 pub record QuerySays (p : Picture) (x : ℕ) (q q′ : List ℕ) (r : Queried) : Type 0 where

@@ -2,5 +2,6 @@
 pub mod Pixels
 pub mod Calls
 pub mod Trees
-pub mod Answers
+pub mod LentTrees
 pub mod PatchLists
+pub mod Demands

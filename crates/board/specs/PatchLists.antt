@@ -10,10 +10,9 @@ use Rattle.picture.specs.Patches.{patches}
 use Rattle.patch_records.specs.declared.Patch.{Patch as PatchRecord}
 use Rattle.patch_lists.specs.PatchLists.{listFault, recordOf}
 use Rattle.answers.specs.declared.Answer.{Answer}
-use Rattle.answers.specs.Answers.{afterCall, workAfter, Answered}
+use Rattle.answers.specs.Answers.{afterCall, WorkSays}
 
 -- the records of the patches in front of what was in the list, and how many there are; all as it was after a refusal
 pub record PatchesSay (p : Picture) (o o′ : List PatchRecord) (q q′ : List ℕ) (r : Answer) : Type 0 where
-  pub answer : Answered (listFault p (length o) (length q)) (length (patches p)) r
+  pub call : WorkSays (listFault p (length o) (length q)) (length (patches p)) p q q′ r
   pub output : o′ ≡ afterCall (listFault p (length o) (length q)) (over (map recordOf (patches p)) o) o
-  pub work : q′ ≡ workAfter (listFault p (length o) (length q)) p q

@@ -3,17 +3,17 @@
 use mathlib.Core.Path.{_≡_}
 use mathlib.Core.Bool.{Bool, true, false, _&&_, _||_, not}
 use mathlib.Core.List.{List, [], _∷_}
-use Prim.Native.Nat.{ℕ, _≤_, min}
+use Prim.Native.Nat.{ℕ, min}
 use lib.Dec.{eqb, leb}
 use lib.ListN.{length}
 use Rattle.lists.specs.Lists.{over}
-use Rattle.picture.specs.Pictures.{Picture, places, isPicture}
+use Rattle.picture.specs.Pictures.{Picture, places}
 use Rattle.picture.specs.Components.{pass}
 use Rattle.picture.specs.Trees.{nodes, treeOf}
 use Rattle.faults.specs.PictureFault.{firstOf, when}
 use Rattle.answers.specs.declared.Answer.{Answer}
 use Rattle.faults.specs.Faults.{outputFault}
-use Rattle.answers.specs.Answers.{afterCall, workAfter, Answered}
+use Rattle.answers.specs.Answers.{afterCall, WorkSays}
 
 -- the first list is a prefix of the second
 abbrev pub begins : List ℕ → List ℕ → Bool
@@ -48,28 +48,18 @@ checkedFault f p count hs fs ss m = firstOf f (when (not (isTree p count hs fs s
 
 -- the heights, fathers, first places and map of the tree, and its number of nodes
 pub record TreeSays (p : Picture) (hs hs′ fs fs′ ss ss′ m m′ q q′ : List ℕ) (r : Answer) : Type 0 where
-  pub answer : Answered (treeFaultOf p hs fs ss m q) (length (nodes p)) r
+  pub call : WorkSays (treeFaultOf p hs fs ss m q) (length (nodes p)) p q q′ r
   pub heights : hs′ ≡ afterCall (treeFaultOf p hs fs ss m q) (over (treeOf p .heights) hs) hs
   pub fathers : fs′ ≡ afterCall (treeFaultOf p hs fs ss m q) (over (treeOf p .fathers) fs) fs
   pub firsts : ss′ ≡ afterCall (treeFaultOf p hs fs ss m q) (over (treeOf p .firsts) ss) ss
   pub map : m′ ≡ afterCall (treeFaultOf p hs fs ss m q) (over (treeOf p .map) m) m
-  pub work : q′ ≡ workAfter (treeFaultOf p hs fs ss m q) p q
 
 -- past the earlier refusals, 11 exactly if the lent tree is not the picture's
-pub record CheckSays (p : Picture) (count : ℕ) (hs fs ss m q q′ : List ℕ) (r : Answer) : Type 0 where
-  pub answer : Answered (checkedFault (treeFaultOf p hs fs ss m q) p count hs fs ss m) 0 r
-  pub work : q′ ≡ workAfter (checkedFault (treeFaultOf p hs fs ss m q) p count hs fs ss m) p q
+abbrev pub CheckSays : Picture → ℕ → List ℕ → List ℕ → List ℕ → List ℕ → List ℕ → List ℕ → Answer → Type 0
+CheckSays p count hs fs ss m q q′ r =
+    WorkSays (checkedFault (treeFaultOf p hs fs ss m q) p count hs fs ss m) 0 p q q′ r
 
 -- the pass between two places
-pub record PassSays (p : Picture) (count : ℕ) (hs fs ss m : List ℕ) (x y : ℕ) (q q′ : List ℕ) (r : Answer) : Type 0 where
-  pub answer : Answered (checkedFault (placesFaultOf p hs fs ss m q x y) p count hs fs ss m) (pass p x y) r
-  pub work : q′ ≡ workAfter (checkedFault (placesFaultOf p hs fs ss m q x y) p count hs fs ss m) p q
-
--- an accepted picture and four lists with an entry a place, unless there is a fault
-pub record TreeLent (f : ℕ) (p : Picture) (hs fs ss m : List ℕ) : Type 0 where
-  pub accepted : f ≡ 0 → isPicture p ≡ true
-  pub few : f ≡ 0 → places p ≤ 1600
-  pub heights : f ≡ 0 → places p ≤ length hs
-  pub fathers : f ≡ 0 → places p ≤ length fs
-  pub firsts : f ≡ 0 → places p ≤ length ss
-  pub map : f ≡ 0 → places p ≤ length m
+abbrev pub PassSays : Picture → ℕ → List ℕ → List ℕ → List ℕ → List ℕ → ℕ → ℕ → List ℕ → List ℕ → Answer → Type 0
+PassSays p count hs fs ss m x y q q′ r =
+    WorkSays (checkedFault (placesFaultOf p hs fs ss m q x y) p count hs fs ss m) (pass p x y) p q q′ r

@@ -24,14 +24,15 @@ use watershed::whole::watershed_core;
 mod trees;
 
 ghost use mathlib.Core.Path.{_≡_};
-ghost use Prim.Native.Nat.{_*_};
+ghost use Prim.Native.Nat.{_*_, _<_};
 ghost use lib.ListN.{length};
 ghost use Rattle.lists.specs.Lists.{pick};
 ghost use Rattle.picture.specs.Pictures.{pictureOf};
+ghost use Rattle.faults.specs.Faults.{Admitted};
 ghost use Rattle.answers.specs.Answers.{cleared};
 ghost use Rattle.reading.specs.Reads.{ReadSays};
 ghost use Rattle.board.specs.Pixels.{PixelsSay};
-ghost use Rattle.board.specs.Calls.{LabelsSay, LowerSays, WaterSays, groundOf, patchNumber, Admits, QueryIs, QuerySays};
+ghost use Rattle.board.specs.Calls.{LabelsSay, LowerableSays, WatershedSays, groundOf, patchNumber, QueryIs, QuerySays};
 ghost use Rattle.board.specs.Trees.{TreeSays, CheckSays, PassSays};
 ghost use Rattle.picture.specs.Patches.{patchAt};
 ghost use Rattle.board.specs.PatchLists.{PatchesSay};
@@ -165,7 +166,7 @@ pub fn pass_between(
 
 // Whether the pixel at a place is lowerable: answers 1 for yes, 0 for no.
 pub fn is_lowerable(a: u32, w: u32, h: u32, pixels: &[u8], place: u32, work: &mut [u16]) -> Answer
-    ensures { λ r. ⌜ LowerSays (pictureOf a w h (now (pixels .entry))) place (now (work .entry)) (now (work .exit)) r ⌝ }
+    ensures { λ r. ⌜ LowerableSays (pictureOf a w h (now (pixels .entry))) place (now (work .entry)) (now (work .exit)) r ⌝ }
 {
     let fault = place_fault(a, w, h, pixels.len(), work.len(), place);
     if fault != 0 {
@@ -185,7 +186,7 @@ pub fn watershed_of(
     out: &mut [u8],
     work: &mut [u16],
 ) -> Answer
-    ensures { λ r. ⌜ WaterSays (pictureOf a w h (now (pixels .entry))) (now (out .entry)) (now (out .exit)) (now (work .entry)) (now (work .exit)) r ⌝ }
+    ensures { λ r. ⌜ WatershedSays (pictureOf a w h (now (pixels .entry))) (now (out .entry)) (now (out .exit)) (now (work .entry)) (now (work .exit)) r ⌝ }
 {
     let fault = output_fault(a, w, h, pixels.len(), out.len(), work.len());
     if fault != 0 {
@@ -243,7 +244,7 @@ fn answer_query(number: u8, value: u8, patch: u16) -> Queried
 
 // The patch number of a place, from work of 5 n entries that is cleared after it.
 fn query_cleared(a: u32, w: u32, h: u32, pixels: &[u8], place: usize, work: &mut [u16]) -> u16
-    requires { ⌜ Admits (pictureOf a w h (now pixels)) (now work) place ⌝ }
+    requires { ⌜ Admitted (pictureOf a w h (now pixels)) (length (now work)) × (place < w * h) ⌝ }
     ensures { λ r. ⌜ (r ≡ patchAt (pictureOf a w h (now (pixels .entry))) place) × (now (work .exit) ≡ cleared (length (now (pixels .entry))) (now (work .entry))) ⌝ }
 {
     let n = pixels.len();

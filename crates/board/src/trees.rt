@@ -2,7 +2,8 @@
 use verify::is_tree;
 ghost use mathlib.Core.Path.{_≡_};
 ghost use Rattle.picture.specs.Pictures.{pictureOf};
-ghost use Rattle.board.specs.Trees.{checkedFault, TreeLent};
+ghost use Rattle.board.specs.Trees.{checkedFault};
+ghost use Rattle.board.specs.LentTrees.{TreeLent};
 
 // A fault, then 11 for a lent tree that is not the picture's. The cells are a local: work must be as it was on a refusal.
 pub fn tree_fault(
@@ -17,7 +18,7 @@ pub fn tree_fault(
     firsts: &[u16],
     map: &[u16],
 ) -> u8
-    requires { ⌜ TreeLent fault (pictureOf a w h (now pixels)) (now heights) (now fathers) (now firsts) (now map) ⌝ }
+    requires { ⌜ (fault ≡ 0 → TreeLent (pictureOf a w h (now pixels)) (now heights) (now fathers) (now firsts) (now map)) ⌝ }
     ensures { λ r. ⌜ r ≡ checkedFault fault (pictureOf a w h (now (pixels .entry))) count (now (heights .entry)) (now (fathers .entry)) (now (firsts .entry)) (now (map .entry)) ⌝ }
 {
     if fault != 0 {

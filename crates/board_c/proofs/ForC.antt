@@ -1,6 +1,6 @@
 -- Laws of what the calls for C promise: refusals, and what was written.
 use mathlib.Core.Path.{_≡_, refl, sym, ap, ap₂, subst, _∙_}
-use mathlib.Core.Bool.{Bool, true, false, _||_}
+use mathlib.Core.Bool.{Bool}
 use mathlib.Core.Logic.{_≢_}
 use mathlib.Core.List.{List, _++_}
 use Prim.Native.Nat.{ℕ, zero, suc, _*_, _/_, _≤_, _<_}
@@ -11,7 +11,7 @@ use lib.Seq.{take-at}
 use borrow.Author.Tests.{eq-eqb, ltb-true, ltb-false, lt-ltb, le-ltb, lt-leb, leb-false}
 use Rattle.lists.specs.Lists.{pick, over}
 use Rattle.picture.specs.Pictures.{Picture, places, valueAt}
-use Rattle.faults.specs.PictureFault.{firstOf, when, faultOf, pictureFault}
+use Rattle.faults.specs.PictureFault.{firstOf, when, pictureFaultOf}
 use Rattle.picture.specs.Watersheds.{watershed}
 use Rattle.picture.specs.Patches.{patchAt}
 use Rattle.lists.proofs.Tests.{on-test}
@@ -19,41 +19,35 @@ use Rattle.p5.specs.Files.{readFile, numberOf, headerOf}
 use Rattle.text.specs.Writing.{Written}
 use Rattle.answers.specs.declared.Answer.{Answer}
 use Rattle.board.specs.declared.Queried.{Queried}
-use Rattle.faults.specs.Faults.{workFault, outputFault}
+use Rattle.faults.specs.Faults.{workFault, workFaultOf, outputFault, Faultless}
 use Rattle.answers.specs.Answers.{afterCall, workAfter}
-use Rattle.board.specs.Calls.{outputFaultOf, placeFaultOf, groundOf, patchNumber, WaterSays, QuerySays}
-use Rattle.faults.proofs.Laws.{first-some, first-none, first-zero, when-zero, then-failed, then-none, workFaultOf, work-size, fault-size, fault-few, work-enough, work-none, output-none, output-enough, place-behind}
+use Rattle.board.specs.Calls.{outputFaultOf, placeFaultOf, groundOf, patchNumber, WatershedSays, QuerySays}
+use Rattle.faults.proofs.Faults.{first-later, then-failed, then-none, work-size, work-none, output-none, output-enough, place-counted, faultless}
 use Rattle.answers.proofs.Calls.{refused-left, written-left}
-use Rattle.board_c.specs.CalledByC.{pair, readFaultForC, headerBytes, ReadForC, waterFaultForC, bytesAfter, WaterForC, placeFaultForC, placeFaultForCOf, PlaceForC}
+use Rattle.board_c.specs.CalledByC.{pair, readFaultForC, headerBytes, ReadForC, workFaultForC, watershedFaultForC, bytesAfter, WatershedForC, placeFaultForC, PlaceForC}
 use Rattle.packing.specs.Packing.{packed}
 use Rattle.packing.proofs.Packed.{written-front, packed-zeros}
 
 -- no fault: the bytes written from the beginning stand over what was there
-pub changed : (f : ℕ) (bytes o o′ : List ℕ) {to : ℕ} → f ≡ 0 → Written 0 bytes o to o′ → o′ ≡ afterCall f (over bytes o) o
-changed f bytes o o′ e w = written-front w ∙ written-left f (over bytes o) o e
+output-written : (f : ℕ) (bytes o o′ : List ℕ) {to : ℕ} → f ≡ 0 → Written 0 bytes o to o′ → o′ ≡ afterCall f (over bytes o) o
+output-written f bytes o o′ e w = written-front w ∙ written-left f (over bytes o) o e
 
 module _ (f o : List ℕ) where
-  -- a refused file
-  pub read-refused : (r : ℕ) → r ≡ numberOf (readFile f) → r ≢ 0 → ReadForC f o o r
+  read-is : firstOf (numberOf (readFile f)) (when (ltb (length o) 32) 9) ≡ readFaultForC f o
   unfolding readFaultForC
-  read-refused r e d =
-      let q : r ≡ readFaultForC f o = first-some (numberOf (readFile f)) (when (ltb (length o) 32) 9) r e d in
-      record { number = q; output = refused-left (readFaultForC f o) r q d (over (headerBytes f) o) o }
+  read-is = refl
 
-  -- an accepted file: the rest of the fault
-  rest : numberOf (readFile f) ≡ 0 → (t : Bool) → ltb (length o) 32 ≡ t → readFaultForC f o ≡ when t 9
-  unfolding readFaultForC
-  rest e t g = ap₂ (λ (n : ℕ) (b : Bool). firstOf n (when b 9)) e g
+  pub read-fault : (n r : ℕ) → n ≡ numberOf (readFile f) → r ≡ firstOf n (when (ltb (length o) 32) 9) → r ≡ readFaultForC f o
+  read-fault n r e w = w ∙ (ap (λ (k : ℕ). firstOf k (when (ltb (length o) 32) 9)) e ∙ read-is)
 
-  pub read-short : numberOf (readFile f) ≡ 0 → length o < 32 → ReadForC f o o 9
-  read-short e h =
-      let q = sym (rest e true (lt-ltb (length o) 32 h)) in
-      record { number = q; output = refused-left (readFaultForC f o) 9 q (λ z. omega arith) (over (headerBytes f) o) o }
+  pub read-room : readFaultForC f o ≡ 0 → 32 ≤ length o
+  read-room z = ltb-false (length o) 32 (then-none (numberOf (readFile f)) 8 _ _ read-is z .1)
 
-  pub read-done : (o′ : List ℕ) {to : ℕ} → numberOf (readFile f) ≡ 0 → 32 ≤ length o → Written 0 (headerBytes f) o to o′ → ReadForC f o o′ 0
-  read-done o′ e h w =
-      let q = rest e false (le-ltb (length o) 32 h) in
-      record { number = sym q; output = changed (readFaultForC f o) (headerBytes f) o o′ q w }
+  pub read-refused : (r : ℕ) → r ≡ readFaultForC f o → r ≢ 0 → ReadForC f o o r
+  read-refused r e d = record { number = e; output = refused-left (readFaultForC f o) r e d (over (headerBytes f) o) o }
+
+  pub read-done : (o′ : List ℕ) {to : ℕ} → readFaultForC f o ≡ 0 → Written 0 (headerBytes f) o to o′ → ReadForC f o o′ 0
+  read-done o′ z w = record { number = sym z; output = output-written (readFaultForC f o) (headerBytes f) o o′ z w }
 
   -- the four numbers of an answer are those of the header
   pub header-is :
@@ -72,41 +66,26 @@ half-short work m =
 zeros-front : (m : ℕ) (l : List ℕ) → take m (over (replicate m 0) l) ≡ replicate m 0
 zeros-front m l = take-at (replicate m 0) (drop (length (replicate {A = ℕ} m 0)) l) m (length-replicate m 0)
 
--- what a call for C is lent where there is no fault: n pixels, at most 1,600, and 10 n bytes of work
-pub record Lent (p : Picture) (q : List ℕ) : Type 0 where
-  pub fine : pictureFault p ≡ 0
-  pub size : length (p .pixels) ≡ places p
-  pub few : places p ≤ 1600
-  pub room : 10 * length (p .pixels) ≤ length q
+half-work : (p : Picture) (work : ℕ) → workFaultOf p (work / 2) ≡ workFaultForC p work
+unfolding workFault workFaultForC
+half-work p work = ap (λ (b : Bool). firstOf (pictureFaultOf p) (when b 9)) (half-short work (places p))
 
 module _ (p : Picture) (q : List ℕ) where
-  lent : workFaultOf p (length q / 2) ≡ 0 → Lent p q
-  lent z =
-      let n = length (p .pixels) in
-      let e = work-enough (p .adjacency) (p .width) (p .height) n (length q / 2) z in
-      let s = fault-size (p .adjacency) (p .width) (p .height) n (e .0) in
-      record {
-        fine = e .0;
-        size = s;
-        few = fault-few (p .adjacency) (p .width) (p .height) n (e .0);
-        room = let h = e .1 in omega arith;
-      }
-
   -- room for the 5 n entries, in the bytes and in the 8,000 cells
-  pub unpack-room : Lent p q → (2 * (5 * length (p .pixels)) ≤ length q) × (5 * length (p .pixels) ≤ 8000)
+  pub unpack-room : Faultless p (length q / 2) → (2 * (5 * length (p .pixels)) ≤ length q) × (5 * length (p .pixels) ≤ 8000)
   unpack-room t = (omega (arith, t .room), omega (arith, t .size, t .few))
 
-  pub pack-room : Lent p q → {cells : ℕ} → cells ≡ 8000 → (5 * length (p .pixels) ≤ cells) × (2 * (5 * length (p .pixels)) ≤ length q)
+  pub pack-room : Faultless p (length q / 2) → {cells : ℕ} → cells ≡ 8000 → (5 * length (p .pixels) ≤ cells) × (2 * (5 * length (p .pixels)) ≤ length q)
   pack-room t e = (omega (arith, unpack-room t .1), unpack-room t .0)
 
   -- the 8,000 cells are work enough for the public call
-  local-work : Lent p q → (cells : List ℕ) → length cells ≡ 8000 → workFaultOf p (length cells) ≡ 0
+  local-work : Faultless p (length q / 2) → (cells : List ℕ) → length cells ≡ 8000 → workFaultOf p (length cells) ≡ 0
   local-work t cells e =
-      sym (work-none (p .adjacency) (p .width) (p .height) (length (p .pixels)) (length cells) (t .fine) (omega (arith, unpack-room t .1)))
+      work-none (p .adjacency) (p .width) (p .height) (length (p .pixels)) (length cells) (t .fault) (omega (arith, unpack-room t .1))
 
   -- the entries that the public call left zero are packed as zero bytes
   bytes-left :
-      Lent p q → (f g : ℕ) (q′ cells left : List ℕ) → f ≡ 0 → g ≡ 0 → left ≡ workAfter g p cells →
+      Faultless p (length q / 2) → (f g : ℕ) (q′ cells left : List ℕ) → f ≡ 0 → g ≡ 0 → left ≡ workAfter g p cells →
       q′ ≡ over (packed (take (5 * length (p .pixels)) left)) q → q′ ≡ bytesAfter f p q
   bytes-left t f g q′ cells left fz gz c w =
       let m = 5 * places p in
@@ -120,13 +99,13 @@ module _ (p : Picture) (q : List ℕ) where
 
 module _ (p : Picture) (o q : List ℕ) where
   -- the fault of the call with half as many entries is that of the bytes
-  pub water-fault : outputFault (p .adjacency) (p .width) (p .height) (length (p .pixels)) (length o) (length q / 2) ≡ waterFaultForC p (length o) (length q)
-  unfolding outputFault waterFaultForC
-  water-fault = ap (λ (b : Bool). firstOf (pictureFault p) (when (ltb (length o) (places p) || b) 9)) (half-short (length q) (places p))
+  pub water-fault : outputFault (p .adjacency) (p .width) (p .height) (length (p .pixels)) (length o) (length q / 2) ≡ watershedFaultForC p (length o) (length q)
+  unfolding outputFault watershedFaultForC
+  water-fault = ap (λ (f : ℕ). firstOf f (when (ltb (length o) (places p)) 9)) (half-work p (length q))
 
-  pub water-refused : (r : ℕ) → r ≡ outputFault (p .adjacency) (p .width) (p .height) (length (p .pixels)) (length o) (length q / 2) → r ≢ 0 → WaterForC p o o q q r
+  pub water-refused : (r : ℕ) → r ≡ outputFault (p .adjacency) (p .width) (p .height) (length (p .pixels)) (length o) (length q / 2) → r ≢ 0 → WatershedForC p o o q q r
   water-refused r e d =
-      let f = waterFaultForC p (length o) (length q) in
+      let f = watershedFaultForC p (length o) (length q) in
       let g = e ∙ water-fault in
       record {
         number = g;
@@ -135,26 +114,25 @@ module _ (p : Picture) (o q : List ℕ) where
       }
 
   module _ (z : outputFault (p .adjacency) (p .width) (p .height) (length (p .pixels)) (length o) (length q / 2) ≡ 0) where
-    half : (workFaultOf p (length q / 2) ≡ 0) × (places p ≤ length o)
-    half = output-enough (p .adjacency) (p .width) (p .height) (length (p .pixels)) (length q / 2) (length o) z
+    water-enough : (workFaultOf p (length q / 2) ≡ 0) × (places p ≤ length o)
+    water-enough = output-enough (p .adjacency) (p .width) (p .height) (length (p .pixels)) (length q / 2) (length o) z
 
-    pub water-lent : Lent p q
-    water-lent = lent p q (half .0)
+    pub water-lent : Faultless p (length q / 2)
+    water-lent = faultless p (length q / 2) (water-enough .0)
 
     -- the public call has no fault with the cells either
     water-inner : (cells : List ℕ) → length cells ≡ 8000 → outputFaultOf p o cells ≡ 0
     water-inner cells e =
         let n = length (p .pixels) in
-        sym
-        (output-none (p .adjacency) (p .width) (p .height) n (length cells) (length o) (local-work p q water-lent cells e)
-        (omega (arith, water-lent .size, half .1)))
+        output-none (p .adjacency) (p .width) (p .height) n (length cells) (length o) (local-work p q water-lent cells e)
+        (omega (arith, water-lent .size, water-enough .1))
 
     -- no fault: what the public call left with the unpacked entries, and what was packed of it
     pub water-done :
-        (o′ q′ cells left : List ℕ) (r : Answer) → length cells ≡ 8000 → WaterSays p o o′ cells left r →
-        q′ ≡ over (packed (take (5 * length (p .pixels)) left)) q → WaterForC p o o′ q q′ 0
+        (o′ q′ cells left : List ℕ) (r : Answer) → length cells ≡ 8000 → WatershedSays p o o′ cells left r →
+        q′ ≡ over (packed (take (5 * length (p .pixels)) left)) q → WatershedForC p o o′ q q′ 0
     water-done o′ q′ cells left r e w c =
-        let f = waterFaultForC p (length o) (length q) in
+        let f = watershedFaultForC p (length o) (length q) in
         let fz : f ≡ 0 = sym water-fault ∙ z in
         let g = outputFaultOf p o cells in
         let gz = water-inner cells e in
@@ -162,52 +140,29 @@ module _ (p : Picture) (o q : List ℕ) where
         record {
           number = sym fz;
           output = w .output ∙ (sym (written-left g new o gz) ∙ written-left f new o fz);
-          work = bytes-left p q water-lent f g q′ cells left fz gz (w .work) c;
+          work = bytes-left p q water-lent f g q′ cells left fz gz (w .call .work) c;
         }
 
--- one number for either of two causes, before the last
-combine : (f : ℕ) (b c d : Bool) → firstOf (firstOf f (when b 9)) (firstOf (when c 9) (when d 10)) ≡ firstOf f (firstOf (when (c || b) 9) (when d 10))
-combine zero true true d = refl
-combine zero true false d = refl
-combine zero false true d = refl
-combine zero false false true = refl
-combine zero false false false = refl
-combine (suc f) b c d = refl
+-- the faults of a place query for C one after the other, as the code decides them
+module _ (p : Picture) (out work x : ℕ) where
+  pub place-fault :
+      (f g r : ℕ) → f ≡ workFaultOf p (work / 2) → g ≡ firstOf f (when (ltb out 16) 9) →
+      r ≡ firstOf g (when (leb (length (p .pixels)) x) 10) → r ≡ placeFaultForC p out work x
+  unfolding placeFaultForC
+  place-fault f g r e d w =
+      w ∙
+      (first-later g (length (p .pixels)) (places p) (λ n. when (leb n x) 10)
+      (λ z. work-size (p .adjacency) (p .width) (p .height) (length (p .pixels)) (work / 2) (sym e ∙ then-none f 8 (ltb out 16) g (sym d) z .0)) ∙
+      ap (λ (k : ℕ). firstOf k (when (leb (places p) x) 10))
+      (d ∙ ap (λ (k : ℕ). firstOf k (when (ltb out 16) 9)) (e ∙ half-work p work)))
 
-module _ (a w h l out work x : ℕ) where
-  rest-of : ℕ
-  rest-of = firstOf (when (ltb out 16) 9) (when (leb (w * h) x) 10)
-
-  place-is : firstOf (workFault a w h l (work / 2)) rest-of ≡ placeFaultForC a w h l out work x
-  unfolding workFault placeFaultForC rest-of
-  place-is =
-      ap (λ (b : Bool). firstOf (firstOf (faultOf a w h l) (when b 9)) rest-of) (half-short work (w * h)) ∙
-      combine (faultOf a w h l) (ltb work (10 * (w * h))) (ltb out 16) (leb (w * h) x)
-
-  pub place-first : (r : ℕ) → r ≡ workFault a w h l (work / 2) → r ≢ 0 → r ≡ placeFaultForC a w h l out work x
-  place-first r e d = first-some (workFault a w h l (work / 2)) rest-of r e d ∙ place-is
-
-  module _ (z : workFault a w h l (work / 2) ≡ 0) where
-    pub place-short : out < 16 → 9 ≡ placeFaultForC a w h l out work x
-    unfolding rest-of
-    place-short b =
-        sym (first-none (workFault a w h l (work / 2)) rest-of z ∙ ap (λ (t : Bool). firstOf (when t 9) (when (leb (w * h) x) 10)) (lt-ltb out 16 b)) ∙
-        place-is
-
-    pub place-last : 16 ≤ out → when (leb l x) 10 ≡ placeFaultForC a w h l out work x
-    unfolding rest-of
-    place-last b =
-        ap (λ (n : ℕ). when (leb n x) 10) (work-size a w h l (work / 2) z) ∙
-        (sym (first-none (workFault a w h l (work / 2)) rest-of z ∙ ap (λ (t : Bool). firstOf (when t 9) (when (leb (w * h) x) 10)) (le-ltb out 16 b)) ∙
-        place-is)
-
-  -- no fault of a place query: each cause is absent
-  pub place-enough : placeFaultForC a w h l out work x ≡ 0 → (workFault a w h l (work / 2) ≡ 0) × (16 ≤ out) × (x < w * h)
-  unfolding rest-of
+  -- no fault: each cause is absent
+  pub place-enough : placeFaultForC p out work x ≡ 0 → (workFaultOf p (work / 2) ≡ 0) × (16 ≤ out) × (x < places p)
+  unfolding placeFaultForC
   place-enough e =
-      let z = first-zero (workFault a w h l (work / 2)) rest-of (place-is ∙ e) in
-      let y = then-none (when (ltb out 16) 9) 9 (leb (w * h) x) _ refl (z .1) in
-      (z .0, ltb-false out 16 (when-zero 8 (ltb out 16) (y .0)), leb-false (w * h) x (y .1))
+      let y = then-none _ 9 (leb (places p) x) _ refl e in
+      let z = then-none (workFaultForC p work) 8 (ltb out 16) _ refl (y .0) in
+      (half-work p work ∙ z .0, ltb-false out 16 (z .1), leb-false (places p) x (y .1))
 
 -- the number of a ground is the one that it was made of
 ground-number : (n : ℕ) → patchNumber (groundOf n) ≡ n
@@ -228,46 +183,46 @@ module _ (p : Picture) (x : ℕ) (cells left : List ℕ) (r : Queried) (s : Quer
       ap (λ (t : Bool). pick t (patchAt p x) 0) (eq-eqb (placeFaultOf p cells x) 0 z))
 
 module _ (p : Picture) (x : ℕ) (o q : List ℕ) where
-  pub place-refused : (r : ℕ) → r ≡ placeFaultForCOf p x o q → r ≢ 0 → PlaceForC p x o o q q r
+  pub place-refused : (r : ℕ) → r ≡ placeFaultForC p (length o) (length q) x → r ≢ 0 → PlaceForC p x o o q q r
   place-refused r e d =
-      let f = placeFaultForCOf p x o q in
+      let f = placeFaultForC p (length o) (length q) x in
       record {
         number = e;
         output = refused-left f r e d (over (pair (valueAt p x) (patchAt p x)) o) o;
         work = refused-left f r e d (over (replicate (10 * places p) 0) q) q;
       }
 
-  module _ (z : placeFaultForCOf p x o q ≡ 0) where
-    absent : (workFaultOf p (length q / 2) ≡ 0) × (16 ≤ length o) × (x < places p)
-    absent = place-enough (p .adjacency) (p .width) (p .height) (length (p .pixels)) (length o) (length q) x z
+  module _ (z : placeFaultForC p (length o) (length q) x ≡ 0) where
+    query-enough : (workFaultOf p (length q / 2) ≡ 0) × (16 ≤ length o) × (x < places p)
+    query-enough = place-enough p (length o) (length q) x z
 
-    pub place-lent : Lent p q
-    place-lent = lent p q (absent .0)
+    pub place-lent : Faultless p (length q / 2)
+    place-lent = faultless p (length q / 2) (query-enough .0)
 
     pub place-room : 16 ≤ length o
-    place-room = absent .1
+    place-room = query-enough .1
 
     -- the public call has no fault with the cells either
     place-inner : (cells : List ℕ) → length cells ≡ 8000 → placeFaultOf p cells x ≡ 0
     place-inner cells e =
         let n = length (p .pixels) in
         sym
-        (then-failed _ 9 (leb n x) _ (place-behind (p .adjacency) (p .width) (p .height) n (length cells) x)
-        (local-work p q place-lent cells e) (lt-leb n x (omega (arith, place-lent .size, absent .2))))
+        (then-failed _ 9 (leb n x) _ (place-counted (p .adjacency) (p .width) (p .height) n (length cells) x)
+        (local-work p q place-lent cells e) (lt-leb n x (omega (arith, place-lent .size, query-enough .2))))
 
     -- no fault: what the public call answered and left with the unpacked entries, and what was written and packed of it
     pub place-done :
         (o′ q′ cells left : List ℕ) (r : Queried) (n to : ℕ) → length cells ≡ 8000 → QuerySays p x cells left r → n ≡ patchNumber (r .ground) →
         Written 0 (pair (r .value) n) o to o′ → q′ ≡ over (packed (take (5 * length (p .pixels)) left)) q → PlaceForC p x o o′ q q′ 0
     place-done o′ q′ cells left r n to e s en w c =
-        let f = placeFaultForCOf p x o q in
+        let f = placeFaultForC p (length o) (length q) x in
         let gz = place-inner cells e in
         let value = answered-value p x cells left r s gz in
         let number = en ∙ answered-number p x cells left r s gz in
         record {
           number = sym z;
           output =
-              changed f (pair (valueAt p x) (patchAt p x)) o o′ z
+              output-written f (pair (valueAt p x) (patchAt p x)) o o′ z
               (subst (λ (xs : List ℕ). Written 0 xs o to o′) (ap₂ pair value number) w);
           work = bytes-left p q place-lent f (placeFaultOf p cells x) q′ cells left z gz (s .work) c;
         }

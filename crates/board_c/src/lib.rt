@@ -5,6 +5,7 @@ use board::read_file;
 use board::watershed_of;
 use faults::output_fault;
 use faults::place_after;
+use faults::short_after;
 use faults::work_fault;
 use packing::pack;
 use packing::unpack;
@@ -14,7 +15,7 @@ ghost use Prim.Native.Nat.{_+_, _≤_};
 ghost use lib.ListN.{length};
 ghost use Rattle.picture.specs.Pictures.{pictureOf};
 ghost use Rattle.text.specs.Writing.{Written};
-ghost use Rattle.board_c.specs.CalledByC.{pair, ReadForC, WaterForC, placeFaultForC, PlaceForC};
+ghost use Rattle.board_c.specs.CalledByC.{pair, ReadForC, WatershedForC, PlaceForC};
 
 // Writes two numbers as eight bytes each, lowest first, and answers the place behind them.
 fn put_pair(out: &mut [u8], at: usize, x: u64, y: u64) -> usize
@@ -31,12 +32,9 @@ pub extern "C" fn board_read(file: &[u8], out: &mut [u8]) -> u32
     ensures { λ r. ⌜ ReadForC (now (file .entry)) (now (out .entry)) (now (out .exit)) r ⌝ }
 {
     let answer = read_file(file);
-    let number = answer.number;
-    if number != 0 {
-        return number as u32;
-    }
-    if out.len() < 32 {
-        return 9;
+    let fault = short_after(answer.number, out.len(), 32);
+    if fault != 0 {
+        return fault as u32;
     }
     let next = put_pair(out, 0, answer.width as u64, answer.height as u64);
     put_pair(out, next, answer.largest as u64, answer.offset as u64);
@@ -53,7 +51,7 @@ pub extern "C" fn board_watershed(
     out: &mut [u8],
     work: &mut [u8],
 ) -> u32
-    ensures { λ r. ⌜ WaterForC (pictureOf adjacency width height (now (pixels .entry))) (now (out .entry)) (now (out .exit)) (now (work .entry)) (now (work .exit)) r ⌝ }
+    ensures { λ r. ⌜ WatershedForC (pictureOf adjacency width height (now (pixels .entry))) (now (out .entry)) (now (out .exit)) (now (work .entry)) (now (work .exit)) r ⌝ }
 {
     let fault = output_fault(
         adjacency,
@@ -74,28 +72,6 @@ pub extern "C" fn board_watershed(
     0
 }
 
-// The number of the first refusal of a place query for C, 0 for none.
-fn place_fault_for_c(
-    a: u32,
-    w: u32,
-    h: u32,
-    length: usize,
-    out: usize,
-    work: usize,
-    place: u32,
-) -> u8
-    ensures { λ r. ⌜ r ≡ placeFaultForC a w h length out work place ⌝ }
-{
-    let fault = work_fault(a, w, h, length, work / 2);
-    if fault != 0 {
-        return fault;
-    }
-    if out < 16 {
-        return 9;
-    }
-    place_after(0, length, place)
-}
-
 // The value of the pixel at a place and the number of its patch, 0 for the line.
 #[no_mangle]
 pub extern "C" fn board_place(
@@ -109,15 +85,9 @@ pub extern "C" fn board_place(
 ) -> u32
     ensures { λ r. ⌜ PlaceForC (pictureOf adjacency width height (now (pixels .entry))) place (now (out .entry)) (now (out .exit)) (now (work .entry)) (now (work .exit)) r ⌝ }
 {
-    let fault = place_fault_for_c(
-        adjacency,
-        width,
-        height,
-        pixels.len(),
-        out.len(),
-        work.len(),
-        place,
-    );
+    let fault = work_fault(adjacency, width, height, pixels.len(), work.len() / 2);
+    let fault = short_after(fault, out.len(), 16);
+    let fault = place_after(fault, pixels.len(), place);
     if fault != 0 {
         return fault as u32;
     }

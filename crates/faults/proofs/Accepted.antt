@@ -1,32 +1,31 @@
 -- The fault of a picture's arguments: which tests make which number, and that no fault is what accepts a picture.
 use mathlib.Core.Path.{_≡_, refl, sym, _∙_}
 use mathlib.Core.Bool.{Bool, true, false, _&&_, _||_}
-use mathlib.Core.Logic.{_↔_}
 use Prim.Native.Nat.{ℕ, _*_}
 use native.Mathlib.Omega.{arith}
 use lib.Dec.{eqb}
 use lib.ListN.{length}
-use Rattle.picture.specs.Pictures.{Picture, places, sideFits, allBytes, isPicture}
-use Rattle.faults.specs.PictureFault.{faultOf, pictureFault}
+use Rattle.picture.specs.Pictures.{Picture, sideFits, allBytes, isPicture}
+use Rattle.faults.specs.PictureFault.{pictureFault, pictureFaultOf}
 use Rattle.lists.proofs.Tests.{and-left, and-right, and-both}
 
 module _ (a w h l : ℕ) where
-  pub fault-adjacency : (eqb a 4 || eqb a 8) ≡ false → faultOf a w h l ≡ 7
-  unfolding faultOf
+  pub fault-adjacency : (eqb a 4 || eqb a 8) ≡ false → pictureFault a w h l ≡ 7
+  unfolding pictureFault
   fault-adjacency p = rw p
 
-  pub fault-sides : (eqb a 4 || eqb a 8) ≡ true → (sideFits w && sideFits h) ≡ false → faultOf a w h l ≡ 3
-  unfolding faultOf
+  pub fault-sides : (eqb a 4 || eqb a 8) ≡ true → (sideFits w && sideFits h) ≡ false → pictureFault a w h l ≡ 3
+  unfolding pictureFault
   fault-sides p q = rw (p, q)
 
   pub fault-length :
-      (eqb a 4 || eqb a 8) ≡ true → (sideFits w && sideFits h) ≡ true → eqb l (w * h) ≡ false → faultOf a w h l ≡ 8
-  unfolding faultOf
+      (eqb a 4 || eqb a 8) ≡ true → (sideFits w && sideFits h) ≡ true → eqb l (w * h) ≡ false → pictureFault a w h l ≡ 8
+  unfolding pictureFault
   fault-length p q r = rw (p, q, r)
 
   pub fault-none :
-      (eqb a 4 || eqb a 8) ≡ true → (sideFits w && sideFits h) ≡ true → eqb l (w * h) ≡ true → faultOf a w h l ≡ 0
-  unfolding faultOf
+      (eqb a 4 || eqb a 8) ≡ true → (sideFits w && sideFits h) ≡ true → eqb l (w * h) ≡ true → pictureFault a w h l ≡ 0
+  unfolding pictureFault
   fault-none p q r = rw (p, q, r)
 
 -- no fault: each of the three tests passes
@@ -35,7 +34,7 @@ pub record Sound (a w h l : ℕ) : Type 0 where
   pub sides : (sideFits w && sideFits h) ≡ true
   pub size : eqb l (w * h) ≡ true
 
-pub no-fault : (a w h l : ℕ) → faultOf a w h l ≡ 0 → Sound a w h l
+pub no-fault : (a w h l : ℕ) → pictureFault a w h l ≡ 0 → Sound a w h l
 no-fault a w h l e =
     by (eqb a 4 || eqb a 8) (sideFits w && sideFits h) (eqb l (w * h)) refl refl refl
   where
@@ -48,26 +47,11 @@ no-fault a w h l e =
     by true false u p q r = let z = sym (fault-sides a w h l p q) ∙ e in absurd (omega arith)
     by false t u p q r = let z = sym (fault-adjacency a w h l p) ∙ e in absurd (omega arith)
 
--- a picture without a fault whose pixels are bytes is accepted, and back
-pub accepted : (p : Picture) → ((pictureFault p ≡ 0) × (allBytes (p .pixels) ≡ true)) ↔ (isPicture p ≡ true)
+-- a picture without a fault whose pixels are bytes is accepted
+pub accepted : (p : Picture) → pictureFaultOf p ≡ 0 → allBytes (p .pixels) ≡ true → isPicture p ≡ true
 unfolding isPicture
-accepted p = (forth, back)
-  where
-    forth : (pictureFault p ≡ 0) × (allBytes (p .pixels) ≡ true) → isPicture p ≡ true
-    forth h =
-        let s = no-fault (p .adjacency) (p .width) (p .height) (length (p .pixels)) (h .0) in
-        and-both (s .adjacency)
-        (and-both (and-left (sideFits (p .width)) _ (s .sides))
-        (and-both (and-right (sideFits (p .width)) _ (s .sides)) (and-both (s .size) (h .1))))
-
-    back : isPicture p ≡ true → (pictureFault p ≡ 0) × (allBytes (p .pixels) ≡ true)
-    back e =
-        let sides = and-right (eqb (p .adjacency) 4 || eqb (p .adjacency) 8) _ e in
-        let high = and-right (sideFits (p .width)) _ sides in
-        let size = and-right (sideFits (p .height)) _ high in (
-          fault-none (p .adjacency) (p .width) (p .height) (length (p .pixels))
-              (and-left (eqb (p .adjacency) 4 || eqb (p .adjacency) 8) _ e)
-              (and-both (and-left (sideFits (p .width)) _ sides) (and-left (sideFits (p .height)) _ high))
-              (and-left (eqb (length (p .pixels)) (places p)) _ size),
-          and-right (eqb (length (p .pixels)) (places p)) _ size,
-        )
+accepted p e b =
+    let s = no-fault (p .adjacency) (p .width) (p .height) (length (p .pixels)) e in
+    and-both (s .adjacency)
+    (and-both (and-left (sideFits (p .width)) _ (s .sides))
+    (and-both (and-right (sideFits (p .width)) _ (s .sides)) (and-both (s .size) b)))

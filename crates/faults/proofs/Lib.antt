@@ -1,3 +1,3 @@
 -- Laws of the faults.
 pub mod Accepted
-pub mod Laws
+pub mod Faults

@@ -16,11 +16,11 @@ when true n = n
 when false n = 0
 
 -- the fault of an adjacency, two sides and a number of pixels: 7, 3 or 8, and 0 for none
-unfoldable pub faultOf : ℕ → ℕ → ℕ → ℕ → ℕ
-faultOf a w h l =
+unfoldable pub pictureFault : ℕ → ℕ → ℕ → ℕ → ℕ
+pictureFault a w h l =
     firstOf (when (not (eqb a 4 || eqb a 8)) 7)
     (firstOf (when (not (sideFits w && sideFits h)) 3) (when (not (eqb l (w * h))) 8))
 
 -- the fault of a picture
-abbrev pub pictureFault : Picture → ℕ
-pictureFault p = faultOf (p .adjacency) (p .width) (p .height) (length (p .pixels))
+abbrev pub pictureFaultOf : Picture → ℕ
+pictureFaultOf p = pictureFault (p .adjacency) (p .width) (p .height) (length (p .pixels))

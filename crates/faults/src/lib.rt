@@ -6,9 +6,22 @@ mod picture_fault;
 ghost use mathlib.Core.Path.{_≡_};
 ghost use mathlib.Core.Bool.{_||_};
 ghost use Prim.Native.Nat.{min};
-ghost use lib.Dec.{leb};
+ghost use lib.Dec.{ltb, leb};
 ghost use Rattle.faults.specs.PictureFault.{firstOf, when};
 ghost use Rattle.faults.specs.Faults.{workFault, outputFault, placeFault};
+
+// A fault, then 9 for lent memory with fewer entries than needed.
+pub fn short_after(fault: u8, length: usize, needed: usize) -> u8
+    ensures { λ r. ⌜ r ≡ firstOf fault (when (ltb length needed) 9) ⌝ }
+{
+    if fault != 0 {
+        return fault;
+    }
+    if length < needed {
+        return 9;
+    }
+    0
+}
 
 // A picture's arguments and the length of work.
 pub fn work_fault(a: u32, w: u32, h: u32, length: usize, work: usize) -> u8
@@ -18,24 +31,14 @@ pub fn work_fault(a: u32, w: u32, h: u32, length: usize, work: usize) -> u8
     if fault != 0 {
         return fault;
     }
-    if work < 5 * length {
-        return 9;
-    }
-    0
+    short_after(0, work, 5 * length)
 }
 
 // The same with the least length of the lent outputs or lists.
 pub fn output_fault(a: u32, w: u32, h: u32, length: usize, out: usize, work: usize) -> u8
     ensures { λ r. ⌜ r ≡ outputFault a w h length out work ⌝ }
 {
-    let fault = work_fault(a, w, h, length, work);
-    if fault != 0 {
-        return fault;
-    }
-    if out < length {
-        return 9;
-    }
-    0
+    short_after(work_fault(a, w, h, length, work), out, length)
 }
 
 // A fault, then 10 for a place that is n or more.

@@ -4,7 +4,7 @@ ghost use mathlib.Core.Path.{_≡_};
 ghost use mathlib.Core.Bool.{_&&_, _||_};
 ghost use lib.Dec.{eqb};
 ghost use Rattle.picture.specs.Pictures.{sideFits};
-ghost use Rattle.faults.specs.PictureFault.{faultOf};
+ghost use Rattle.faults.specs.PictureFault.{pictureFault};
 
 // The adjacency is 4 or 8.
 fn adjacency_fits(a: u32) -> bool
@@ -28,7 +28,7 @@ fn sides_fit(w: u32, h: u32) -> bool
 
 // The number of the first fault of an adjacency, two sides and a number of pixels; 0 for none.
 pub fn picture_fault(a: u32, w: u32, h: u32, length: usize) -> u8
-    ensures { λ r. ⌜ r ≡ faultOf a w h length ⌝ }
+    ensures { λ r. ⌜ r ≡ pictureFault a w h length ⌝ }
 {
     if !adjacency_fits(a) {
         return 7;

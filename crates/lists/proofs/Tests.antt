@@ -30,6 +30,11 @@ or-left b p = rw p
 pub or-right : (a : Bool) {b : Bool} → b ≡ true → (a || b) ≡ true
 or-right a p = rw p (or-true a)
 
+-- no test of a disjunction passes
+pub or-fails : (a b : Bool) → (a || b) ≡ false → (a ≡ false) × (b ≡ false)
+or-fails true b e = absurd (true≢false e)
+or-fails false b e = (refl, e)
+
 -- an implication of tests
 pub implied : (a b : Bool) → (not a || b) ≡ true → a ≡ true → b ≡ true
 implied true b e p = e

@@ -9,10 +9,10 @@ use native.Mathlib.Omega.{arith}
 use lib.Dec.{eqb, ltb}
 use lib.ListN.{length, getD, take, drop, replicate, length-replicate, length-map, List·getD-append, List·getD-map, List·getD-eq-default}
 use lib.Seq.{length-front, ext-getD}
-use borrow.Author.Tests.{lt-ltb, le-ltb, ltb-false, ne-eqb}
+use borrow.Author.Tests.{ltb-false, ne-eqb}
 use Rattle.lists.specs.Lists.{pick, range, highest}
 use Rattle.picture.specs.Pictures.{Picture, places, isPicture}
-use Rattle.faults.specs.PictureFault.{firstOf, when, pictureFault}
+use Rattle.faults.specs.PictureFault.{firstOf, when}
 use Rattle.picture.specs.Trees.{Node, nodes, nodeAt, fatherOf, mapOf}
 use Rattle.picture.specs.Patches.{patches, depthOf}
 use Rattle.picture.proofs.Sides.{area-most}
@@ -25,26 +25,17 @@ use Rattle.topology.proofs.PatchSums.{patch-begins, count-few, patch-height, pa
 use Rattle.patches.specs.Figures.{noPatch, Figures}
 use Rattle.patch_records.specs.Records.{Entry, Entries, recordAt, records}
 use Rattle.answers.specs.declared.Answer.{Answer}
-use Rattle.faults.specs.Faults.{workFault}
-use Rattle.answers.specs.Answers.{IsRefusal, IsValue}
+use Rattle.faults.specs.Faults.{workFaultOf}
+use Rattle.answers.specs.Steps.{IsRefusal, IsValue}
 use Rattle.patch_lists.specs.PatchLists.{listFault, recordOf, Figured, Gathered}
-use Rattle.faults.proofs.Laws.{first-either, then-first, then-passed, then-failed, then-none, workFaultOf}
+use Rattle.faults.proofs.Faults.{then-none}
 use Rattle.answers.proofs.Calls.{refused-answer, refused-left, accepted-answer, cleared-left, lent-length, behind-lent}
 
 -- the fault, after that of the picture and of work
 module _ (p : Picture) (room work : ℕ) where
-  list-is : firstOf (workFaultOf p work) (when (ltb room (length (patches p))) 9) ≡ listFault p room work
-  unfolding workFault listFault
-  list-is = first-either (pictureFault p) 8 (ltb room (length (patches p))) (ltb work (5 * places p))
-
-  pub list-first : (r : ℕ) → r ≡ workFaultOf p work → r ≢ 0 → r ≡ listFault p room work
-  list-first = then-first _ 8 (ltb room (length (patches p))) _ list-is
-
-  pub list-short : workFaultOf p work ≡ 0 → room < length (patches p) → 9 ≡ listFault p room work
-  list-short e b = then-passed _ 8 _ _ list-is e (lt-ltb room (length (patches p)) b)
-
-  pub list-none : workFaultOf p work ≡ 0 → length (patches p) ≤ room → 0 ≡ listFault p room work
-  list-none e b = then-failed _ 8 _ _ list-is e (le-ltb room (length (patches p)) b)
+  pub list-is : firstOf (workFaultOf p work) (when (ltb room (length (patches p))) 9) ≡ listFault p room work
+  unfolding listFault
+  list-is = refl
 
   pub list-enough : listFault p room work ≡ 0 → (workFaultOf p work ≡ 0) × (length (patches p) ≤ room)
   list-enough e = let z = then-none _ 8 _ _ list-is e in (z .0, ltb-false room (length (patches p)) (z .1))

@@ -1,22 +1,22 @@
 -- What the functions behind the list of patches promise.
 use mathlib.Core.Path.{_≡_}
-use mathlib.Core.Bool.{_||_}
 use mathlib.Core.List.{List, [], map}
 use Prim.Native.Nat.{ℕ, _*_, _≤_}
 use lib.Dec.{eqb, ltb}
 use lib.ListN.{length, drop}
 use Rattle.lists.specs.Lists.{pick}
-use Rattle.picture.specs.Pictures.{Picture, places}
-use Rattle.faults.specs.PictureFault.{firstOf, when, pictureFault}
+use Rattle.picture.specs.Pictures.{Picture}
+use Rattle.faults.specs.PictureFault.{firstOf, when}
+use Rattle.faults.specs.Faults.{workFaultOf}
 use Rattle.picture.specs.Patches.{Patch, patches}
 use Rattle.patch_records.specs.declared.Patch.{Patch as PatchRecord}
 use Rattle.patch_records.specs.Records.{Entries, records}
 use Rattle.answers.specs.declared.Answer.{Answer}
 use Rattle.answers.specs.Answers.{afterCall, workAfter, cleared, Answered}
 
--- the fault of a call that lends a list of so many records and work of so many entries: that of the picture, then 9 for fewer records than patches or work of fewer than 5 n entries
+-- the fault of a call that lends a list of so many records and work of so many entries: that of the picture and work, then 9 for fewer records than patches
 unfoldable pub listFault : Picture → ℕ → ℕ → ℕ
-listFault p room work = firstOf (pictureFault p) (when (ltb room (length (patches p)) || ltb work (5 * places p)) 9)
+listFault p room work = firstOf (workFaultOf p work) (when (ltb room (length (patches p))) 9)
 
 -- the record of a patch in a list
 abbrev pub recordOf : Patch → PatchRecord

@@ -2,6 +2,7 @@
 use answers::Answer;
 use answers::accepted;
 use answers::refused;
+use faults::short_after;
 use faults::work_fault;
 use minima::count_minima;
 use patches::cores::patch_figures;
@@ -31,10 +32,7 @@ fn list_fault(a: u32, w: u32, h: u32, pixels: &[u8], room: usize, work: usize) -
     if fault != 0 {
         return fault;
     }
-    if room < count_patches(a, w, h, pixels) {
-        return 9;
-    }
-    0
+    short_after(0, room, count_patches(a, w, h, pixels))
 }
 
 // Leaves the figures of the patches in the first 5 n entries of work, and answers how many patches there are.

@@ -1,6 +1,6 @@
 -- Sides that fit, and their product.
 use mathlib.Core.Path.{_≡_}
-use mathlib.Core.Bool.{true}
+use mathlib.Core.Bool.{true, _&&_}
 use Prim.Native.Nat.{ℕ, _*_, _≤_}
 use native.Mathlib.Nat.{mul-le-mul}
 use lib.Dec.{leb}
@@ -23,3 +23,6 @@ side-most = within-most 40
 -- sides of at most 40 make at most 1,600 places
 pub area-most : (w h : ℕ) → w ≤ 40 → h ≤ 40 → w * h ≤ 1600
 area-most w h p q = mul-le-mul p q
+
+pub sides-area : (w h : ℕ) → (sideFits w && sideFits h) ≡ true → w * h ≤ 1600
+sides-area w h e = area-most w h (side-most w (and-left (sideFits w) _ e)) (side-most h (and-right (sideFits w) _ e))

@@ -73,6 +73,12 @@ pub record Kept (f a : Picture) : Type 0 where
       keepsParts f (withPixels f b) ≡ true →
       b ≡ a .pixels
 
+-- every other picture with f's sides that is nowhere above a fails to keep f's parts, at a height from 0 to 255
+abbrev pub OthersFail : Picture → Picture → Type 0
+OthersFail f a =
+    (b : List ℕ) → length b ≡ places f → allBytes b ≡ true → nowhereAbove b (a .pixels) ≡ true → (b ≡ a .pixels → ⊥) →
+    (h : ℕ) × (h ≤ 255) × (keepsAt f (withPixels f b) h ≡ false)
+
 -- demand 3, whole
 abbrev pub Demand-3 : Type 0
 Demand-3 = (f : Picture) → isPicture f ≡ true → Kept f (watershed f)

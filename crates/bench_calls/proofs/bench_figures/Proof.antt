@@ -2,7 +2,7 @@
 use mathlib.Core.Path.{sym, _∙_}
 use native.Mathlib.Omega.{arith}
 use Rattle.picture.specs.Pictures.{pictureOf}
-use Rattle.faults.proofs.Laws.{admitted}
+use Rattle.faults.proofs.Faults.{admitted}
 use borrow.Author.Needs.{needs}
 use Rattle.bench_calls.proofs.bench_figures.Statement.{statement}
 use Rattle.bench_calls.proofs.bench_figures.Tie as tie

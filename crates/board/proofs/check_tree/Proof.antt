@@ -5,8 +5,8 @@ use native.Mathlib.Omega.{arith}
 use lib.ListN.{length, getD}
 use Rattle.picture.specs.Pictures.{Picture, pictureOf}
 use Rattle.board.specs.Trees.{treeFaultOf, checkedFault}
-use Rattle.faults.proofs.Laws.{Admitted}
-use Rattle.answers.proofs.Calls.{refused-answer, refused-left, accepted-answer, cleared-left}
+use Rattle.faults.specs.Faults.{Admitted}
+use Rattle.answers.proofs.Calls.{work-refused, work-done}
 use Rattle.board.proofs.LentTrees.{lists-fault, tree-admitted, lent-tree, no-checked-fault}
 use borrow.Author.Needs.{needs}
 use Rattle.board.proofs.check_tree.Statement.{statement}
@@ -54,7 +54,7 @@ output-fault-requires : tie.Need-output-fault-requires
 output-fault-requires c κs = search needs
 
 tree-fault-requires : tie.Need-tree-fault-requires
-tree-fault-requires c κs = lent-tree _ _ _ _ _ _ (bytes c) _ (λ z. sym (found c) ∙ z)
+tree-fault-requires c κs z = lent-tree _ _ _ _ _ _ (bytes c) (sym (found c) ∙ z)
 
 refused-requires : tie.Need-refused-requires
 refused-requires c κs = search needs
@@ -62,14 +62,11 @@ refused-requires c κs = search needs
 returns : tie.Need-returns
 returns c =
     let e = decided (c .before .before) in
-    record {
-      answer = refused-answer _ _ e (c .before .if1 .taken) _ _ (c .refused .ensures);
-      work = refused-left _ _ e (c .before .if1 .taken) _ _;
-    }
+    work-refused _ _ _ _ _ _ e (c .before .if1 .taken) (c .refused .ensures)
 
 finish-requires : tie.Need-finish-requires
 finish-requires c κs =
-    let a = lends (c .before) in (omega (arith, a .size, a .few), omega (arith, a .size, a .room))
+    let a = lends (c .before) in (omega (arith, a .faultless .size, a .faultless .few), omega (arith, a .faultless .size, a .faultless .room))
 
 same-length : tie.Need-same-length
 same-length c = search needs
@@ -79,10 +76,7 @@ returns-2 c =
     let e = c .before .before .before .before in
     let f = c .before .before .finish in
     let a = lends e in
-    record {
-      answer = accepted-answer _ _ _ _ (none e) refl (f .ensures .answer);
-      work = cleared-left _ _ (pictured (origin (e .before .before))) _ _ _ (none e) (a .size) refl (f .ensures .work);
-    }
+    work-done _ _ _ _ (pictured (origin (e .before .before))) _ _ _ _ (none e) refl (a .faultless .size) refl (f .ensures)
 
 pub check-tree-spec : {M : Type 1} → statement M
 check-tree-spec =

@@ -7,8 +7,8 @@ use Rattle.picture.specs.Pictures.{Picture, places, pictureOf}
 use Rattle.lists.proofs.Cuts.{drop-more}
 use Rattle.topology.proofs.Nodes.{nodes-few}
 use Rattle.board.specs.Trees.{shortest, treeFaultOf}
-use Rattle.faults.proofs.Laws.{Admitted}
-use Rattle.answers.proofs.Calls.{refused-answer, refused-left, accepted-answer, written-left, cleared-left}
+use Rattle.faults.specs.Faults.{Admitted}
+use Rattle.answers.proofs.Calls.{refused-left, written-left, work-refused, work-done}
 use Rattle.board.proofs.LentTrees.{lists-fault, tree-admitted, tree-rooms}
 use borrow.Author.Needs.{needs}
 use Rattle.board.proofs.component_tree.Statement.{statement}
@@ -56,12 +56,11 @@ returns c =
     let e = found (c .before .before) in
     let d = c .before .if1 .taken in
     record {
-      answer = refused-answer _ _ e d _ _ (c .refused .ensures);
+      call = work-refused _ _ _ _ _ _ e d (c .refused .ensures);
       heights = refused-left _ _ e d _ _;
       fathers = refused-left _ _ e d _ _;
       firsts = refused-left _ _ e d _ _;
       map = refused-left _ _ e d _ _;
-      work = refused-left _ _ e d _ _;
     }
 
 build-lists-requires : tie.Need-build-lists-requires
@@ -73,13 +72,13 @@ cast-finish c =
     let a = lends (c .before .before .before .before .before .before .before .before .before .before .before .before .before .before .before .before .before) .0 in
     let t = c .before .before .before .before .before .before .before .before .before .before .before .build-lists .ensures .0 in
     let few = nodes-few (pictured (origin (c .before .before .before .before .before .before .before .before .before .before .before .before .before .before .before .before .before .before))) in
-    record { fits = omega (arith, a .few, few, t .count) }
+    record { fits = omega (arith, a .faultless .few, few, t .count) }
 
 finish-requires : tie.Need-finish-requires
 finish-requires c κs =
     let a = lends (c .before .before .before .before .before .before .before .before .before .before .before .before .before .before .before .before .before) .0 in
     let t = c .before .before .before .before .before .before .before .before .before .before .before .build-lists .ensures .0 in
-    (omega (arith, a .size, a .few), omega (arith, a .room, t .room))
+    (omega (arith, a .faultless .size, a .faultless .few), omega (arith, a .faultless .room, t .room))
 
 same-length : tie.Need-same-length
 same-length c = search needs
@@ -105,15 +104,14 @@ returns-2 c =
     let t = c .before .before .before .before .before .before .before .before .before .before .before .before .before .before .build-lists .ensures in
     let f = c .before .before .finish in
     record {
-      answer = accepted-answer _ _ _ _ z (t .0 .count) (f .ensures .answer);
+      call =
+          work-done _ _ _ _ (pictured s) _ _ _ _ z (t .0 .count) (a .faultless .size)
+          (drop-more (4 * places (pictured s)) (5 * length (s .args .pixels .now)) _ _ (omega (arith, a .faultless .size)) (t .0 .beyond))
+          (f .ensures);
       heights = t .1 .0 ∙ written-left _ _ _ z;
       fathers = t .1 .1 .0 ∙ written-left _ _ _ z;
       firsts = t .1 .1 .1 .0 ∙ written-left _ _ _ z;
       map = t .1 .1 .1 .1 ∙ written-left _ _ _ z;
-      work =
-          cleared-left _ _ (pictured s) _ _ _ z (a .size)
-          (drop-more (4 * places (pictured s)) (5 * length (s .args .pixels .now)) _ _ (omega (arith, a .size)) (t .0 .beyond))
-          (f .ensures .work);
     }
 
 pub component-tree-spec : {M : Type 1} → statement M

@@ -7,8 +7,9 @@ use lib.ListN.{length}
 use Rattle.lists.specs.Lists.{pick}
 use Rattle.picture.specs.Pictures.{Picture, places, pictureOf}
 use Rattle.board.specs.Calls.{placeFaultOf}
-use Rattle.faults.proofs.Laws.{workFaultOf, place-enough, Admitted, admitted}
-use Rattle.answers.proofs.Calls.{refused-answer, refused-left, accepted-answer, lent-length, back-room, behind-lent, cleared-left}
+use Rattle.faults.proofs.Faults.{place-enough, admitted}
+use Rattle.faults.specs.Faults.{workFaultOf, Admitted}
+use Rattle.answers.proofs.Calls.{lent-length, back-room, behind-lent, work-refused, work-done}
 use borrow.Author.Needs.{needs}
 use Rattle.board.proofs.is_lowerable.Statement.{statement}
 use Rattle.board.proofs.is_lowerable.Tie as tie
@@ -52,24 +53,21 @@ returns : tie.Need-returns
 returns c =
     let t = c .before .before .place-fault in
     let f = fault (c .before .before .before .before .before) in
-    record {
-      answer = refused-answer f _ (t .ensures) (c .before .if1 .taken) _ _ (c .refused .ensures);
-      work = refused-left f _ (t .ensures) (c .before .if1 .taken) _ _;
-    }
+    work-refused f _ _ _ _ _ (t .ensures) (c .before .if1 .taken) (c .refused .ensures)
 
 slice-relend-prefix-lowerable : tie.Need-slice-relend-prefix-lowerable
-slice-relend-prefix-lowerable c = omega (arith, lends c .room)
+slice-relend-prefix-lowerable c = omega (arith, lends c .faultless .room)
 
 slice-aggregate-lowerable : tie.Need-slice-aggregate-lowerable
-slice-aggregate-lowerable c = lent-length _ _ (omega (arith, lends (c .before) .room))
+slice-aggregate-lowerable c = lent-length _ _ (omega (arith, lends (c .before) .faultless .room))
 
 lowerable-requires : tie.Need-lowerable-requires
 lowerable-requires c κs =
     let e = c .before in
     let a = lends e in
     let s = origin e in
-    let n = lent-length (size s) (s .args .work .now) (omega (arith, a .room)) in
-    (a .picture, omega (arith, a .size, n), enough e .1)
+    let n = lent-length (size s) (s .args .work .now) (omega (arith, a .faultless .room)) in
+    (a .picture, omega (arith, a .faultless .size, n), enough e .1)
 
 one-if-requires : tie.Need-one-if-requires
 one-if-requires c κs = search needs
@@ -80,9 +78,9 @@ finish-requires c κs =
     let e = t .before .before in
     let s = origin e in
     let a = lends e in (
-      omega (arith, a .size, a .few),
+      omega (arith, a .faultless .size, a .faultless .few),
       back-room (size s) (5 * size s) (t .lowerable .last .1 .1 .1 .1 .1 .0) (s .args .work .now) (t .lowerable .kept .1 .1 .1 .1 .1 .0)
-          (a .room),
+          (a .faultless .room),
     )
 
 same-length : tie.Need-same-length
@@ -95,19 +93,14 @@ returns-2 c =
     let e = t .before .before in
     let s = origin e in
     let a = lends e in
-    record {
-      answer =
-          accepted-answer (fault s) _ _ _ (none e)
-          (c .before .before .before .one-if .ensures ∙ ap (λ (yes : Bool). pick yes 1 0) (t .lowerable .ensures))
-          (f .ensures .answer);
-      work =
-          cleared-left (fault s) (size s) (pictured s) _ _ _ (none e) (a .size)
-          (behind-lent (size s) (5 * size s) (t .lowerable .last .1 .1 .1 .1 .1 .0) (s .args .work .now)
-          (t .lowerable .kept .1 .1 .1 .1 .1 .0)
-          (omega arith)
-          (a .room))
-          (f .ensures .work);
-    }
+    work-done (fault s) _ _ (size s) (pictured s) _ _ _ _ (none e)
+    (c .before .before .before .one-if .ensures ∙ ap (λ (yes : Bool). pick yes 1 0) (t .lowerable .ensures))
+    (a .faultless .size)
+    (behind-lent (size s) (5 * size s) (t .lowerable .last .1 .1 .1 .1 .1 .0) (s .args .work .now)
+    (t .lowerable .kept .1 .1 .1 .1 .1 .0)
+    (omega arith)
+    (a .faultless .room))
+    (f .ensures)
 
 pub is-lowerable-spec : {M : Type 1} → statement M
 is-lowerable-spec =

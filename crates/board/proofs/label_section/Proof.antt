@@ -39,25 +39,25 @@ returns c =
     output-refused _ _ _ _ (c .before .before .output-fault .ensures) (c .before .if1 .taken) _ _ _ (c .refused .ensures)
 
 slice-relend-prefix-label : tie.Need-slice-relend-prefix-label
-slice-relend-prefix-label c = omega (arith, lends c .core .size, lends c .out)
+slice-relend-prefix-label c = omega (arith, lends c .core .faultless .size, lends c .out)
 
 slice-aggregate-label : tie.Need-slice-aggregate-label
-slice-aggregate-label c = lent-length _ _ (omega (arith, lends (c .before) .core .size, lends (c .before) .out))
+slice-aggregate-label c = lent-length _ _ (omega (arith, lends (c .before) .core .faultless .size, lends (c .before) .out))
 
 slice-relend-prefix-label-2 : tie.Need-slice-relend-prefix-label-2
-slice-relend-prefix-label-2 c = omega (arith, lends (c .before) .core .room)
+slice-relend-prefix-label-2 c = omega (arith, lends (c .before) .core .faultless .room)
 
 slice-aggregate-label-2 : tie.Need-slice-aggregate-label-2
-slice-aggregate-label-2 c = lent-length _ _ (omega (arith, lends (c .before .before) .core .room))
+slice-aggregate-label-2 c = lent-length _ _ (omega (arith, lends (c .before .before) .core .faultless .room))
 
 label-requires : tie.Need-label-requires
 label-requires c κs =
     let e = c .before .before in
     let a = lends e .core in
     let s = origin e in
-    let n = lent-length (size s) (s .args .out .now) (omega (arith, a .size, lends e .out)) in
-    let m = lent-length (size s) (s .args .work .now) (omega (arith, a .room)) in
-    record { accepted = a .picture; label = omega (arith, a .size, n); cells = omega (arith, a .size, m) }
+    let n = lent-length (size s) (s .args .out .now) (omega (arith, a .faultless .size, lends e .out)) in
+    let m = lent-length (size s) (s .args .work .now) (omega (arith, a .faultless .room)) in
+    record { accepted = a .picture; label = omega (arith, a .faultless .size, n); cells = omega (arith, a .faultless .size, m) }
 
 cast-finish : tie.Need-cast-finish
 cast-finish c = search needs
@@ -68,8 +68,8 @@ finish-requires c κs =
     let e = t .before .before .before in
     let s = origin e in
     let a = lends e .core in (
-      omega (arith, a .size, a .few),
-      back-room (size s) (5 * size s) (t .label .last .1 .1 .1 .1 .1 .1 .0) (s .args .work .now) (t .label .kept .1 .1 .1 .1 .1 .1 .0) (a .room),
+      omega (arith, a .faultless .size, a .faultless .few),
+      back-room (size s) (5 * size s) (t .label .last .1 .1 .1 .1 .1 .1 .0) (s .args .work .now) (t .label .kept .1 .1 .1 .1 .1 .1 .0) (a .faultless .room),
     )
 
 same-length : tie.Need-same-length
@@ -85,11 +85,11 @@ returns-2 c =
     let s = origin e in
     let a = lends e .core in
     output-done _ _ _ _ (e .before .output-fault .ensures) (e .if1 .left) (bytes e) _ _ _ _ _ _ _ (t .label .ensures .count)
-    (length-labels (pictured s) _ ∙ sym (a .size))
+    (length-labels (pictured s) _ ∙ sym (a .faultless .size))
     (t .label .ensures .labels)
     (behind-lent (size s) (5 * size s) (t .label .last .1 .1 .1 .1 .1 .1 .0) (s .args .work .now) (t .label .kept .1 .1 .1 .1 .1 .1 .0)
     (omega arith)
-    (a .room))
+    (a .faultless .room))
     (c .before .before .finish .ensures)
 
 pub label-section-spec : {M : Type 1} → statement M

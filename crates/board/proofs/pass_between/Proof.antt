@@ -6,10 +6,11 @@ use native.Mathlib.Omega.{arith}
 use lib.ListN.{length, getD}
 use Rattle.picture.specs.Pictures.{Picture, places, pictureOf}
 use Rattle.picture.specs.Components.{pass}
-use Rattle.board.specs.Trees.{treeFaultOf, placesFaultOf, checkedFault, isTree, TreeLent}
-use Rattle.faults.proofs.Laws.{Admitted}
-use Rattle.answers.proofs.Calls.{refused-answer, refused-left, accepted-answer, cleared-left}
-use Rattle.board.proofs.LentTrees.{lists-fault, tree-admitted, lent-tree, lent-none, places-is, no-places-fault, no-checked-fault, pass-ready, pass-low, tree-entries}
+use Rattle.board.specs.Trees.{treeFaultOf, placesFaultOf, checkedFault, isTree}
+use Rattle.board.specs.LentTrees.{TreeLent}
+use Rattle.faults.specs.Faults.{Admitted}
+use Rattle.answers.proofs.Calls.{work-refused, work-done}
+use Rattle.board.proofs.LentTrees.{lists-fault, tree-admitted, lent-tree, places-counted, no-places-fault, no-checked-fault, pass-ready, pass-low, tree-entries}
 use borrow.Author.Needs.{needs}
 use Rattle.board.proofs.pass_between.Statement.{statement}
 use Rattle.board.proofs.pass_between.Tie as tie
@@ -37,7 +38,7 @@ found : (c : tie.After-places-fault) → c .places-fault .result ≡ places-of (
 found c =
     let o = c .before in
     c .places-fault .ensures ∙
-    places-is _ _ _ _ _ _ (bytes c) _ _ _ (lists-fault _ _ _ _ _ _ _ _ (o .before .least .ensures) (o .output-fault .ensures))
+    places-counted _ _ _ _ _ _ (bytes c) _ _ _ (lists-fault _ _ _ _ _ _ _ _ (o .before .least .ensures) (o .output-fault .ensures))
 
 -- the fault of the call
 decided : (c : tie.After-tree-fault) → c .tree-fault .result ≡ whole (places-of (origin (c .before))) (origin (c .before))
@@ -60,10 +61,10 @@ lends c = tree-admitted _ _ _ _ _ _ (bytes (c .before .before)) (placed c .0) .0
 ready :
     (c : tie.Else1) →
     let s = origin (c .before .before) in
-    TreeLent 0 (pictured s) (s .args .heights .now) (s .args .fathers .now) (s .args .firsts .now) (s .args .map .now) ×
+    TreeLent (pictured s) (s .args .heights .now) (s .args .fathers .now) (s .args .firsts .now) (s .args .map .now) ×
     (isTree (pictured s) (s .args .count) (s .args .heights .now) (s .args .fathers .now) (s .args .firsts .now) (s .args .map .now) ≡ true)
 ready c =
-    (lent-none (placed c .0) (lent-tree _ _ _ _ _ _ (bytes (c .before .before)) _ (λ z. z)), no-checked-fault _ _ _ _ _ _ _ (none c) .1)
+    (lent-tree _ _ _ _ _ _ (bytes (c .before .before)) (placed c .0), no-checked-fault _ _ _ _ _ _ _ (none c) .1)
 
 -- the answer of the climb is the pass, a byte
 is-pass : (c : tie.After-pass) → let s = origin (c .before .before .before) in c .pass .result ≡ pass (pictured s) (s .args .x) (s .args .y)
@@ -71,11 +72,11 @@ is-pass c =
     let e = c .before in
     let b = placed e in
     let r = ready e in
-    c .pass .ensures .is (pictured (origin (e .before .before))) _ _ (r .0 .accepted refl) refl (tree-entries _ _ _ _ _ _ (r .1)) (b .1) (b .2)
+    c .pass .ensures .is (pictured (origin (e .before .before))) _ _ (r .0 .accepted) refl (tree-entries _ _ _ _ _ _ (r .1)) (b .1) (b .2)
 
 low : (c : tie.Else1) → let s = origin (c .before .before) in pass (pictured s) (s .args .x) (s .args .y) ≤ 255
 low c =
-    let b = placed c in pass-low _ _ _ (ready c .0 .accepted refl) (b .1) (b .2)
+    let b = placed c in pass-low _ _ _ (ready c .0 .accepted) (b .1) (b .2)
 
 least-requires : tie.Need-least-requires
 least-requires c κs = search needs
@@ -87,7 +88,7 @@ places-fault-requires : tie.Need-places-fault-requires
 places-fault-requires c κs = search needs
 
 tree-fault-requires : tie.Need-tree-fault-requires
-tree-fault-requires c κs = lent-tree _ _ _ _ _ _ (bytes c) _ (λ z. no-places-fault _ _ _ _ _ _ _ _ (sym (found c) ∙ z) .0)
+tree-fault-requires c κs z = lent-tree _ _ _ _ _ _ (bytes c) (no-places-fault _ _ _ _ _ _ _ _ (sym (found c) ∙ z) .0)
 
 refused-requires : tie.Need-refused-requires
 refused-requires c κs = search needs
@@ -95,10 +96,7 @@ refused-requires c κs = search needs
 returns : tie.Need-returns
 returns c =
     let e = decided (c .before .before) in
-    record {
-      answer = refused-answer _ _ e (c .before .if1 .taken) _ _ (c .refused .ensures);
-      work = refused-left _ _ e (c .before .if1 .taken) _ _;
-    }
+    work-refused _ _ _ _ _ _ e (c .before .if1 .taken) (c .refused .ensures)
 
 pass-requires : tie.Need-pass-requires
 pass-requires c κs =
@@ -114,7 +112,7 @@ cast-finish c = let e = c .before .before in
 
 finish-requires : tie.Need-finish-requires
 finish-requires c κs =
-    let a = lends (c .before .before) in (omega (arith, a .size, a .few), omega (arith, a .size, a .room))
+    let a = lends (c .before .before) in (omega (arith, a .faultless .size, a .faultless .few), omega (arith, a .faultless .size, a .faultless .room))
 
 same-length : tie.Need-same-length
 same-length c = search needs
@@ -124,10 +122,7 @@ returns-2 c =
     let e = c .before .before .before .before .before in
     let f = c .before .before .finish in
     let a = lends e in
-    record {
-      answer = accepted-answer _ _ _ _ (none e) (is-pass (c .before .before .before .before)) (f .ensures .answer);
-      work = cleared-left _ _ (pictured (origin (e .before .before))) _ _ _ (none e) (a .size) refl (f .ensures .work);
-    }
+    work-done _ _ _ _ (pictured (origin (e .before .before))) _ _ _ _ (none e) (is-pass (c .before .before .before .before)) (a .faultless .size) refl (f .ensures)
 
 pub pass-between-spec : {M : Type 1} → statement M
 pass-between-spec =

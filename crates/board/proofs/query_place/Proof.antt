@@ -1,9 +1,13 @@
 -- `board::query_place` meets its contract: a refusal leaves all as it was, and else the core leaves what is said.
 use mathlib.Core.Path.{_≡_, refl, sym, _∙_}
+use Prim.Native.Nat.{_<_}
 use native.Mathlib.Omega.{arith}
-use Rattle.picture.specs.Pictures.{Picture, pictureOf}
-use Rattle.board.specs.Calls.{placeFaultOf, Admits}
-use Rattle.board.proofs.Queries.{admits, refused-query, answered-query}
+use lib.ListN.{length}
+use Rattle.picture.specs.Pictures.{Picture, places, pictureOf}
+use Rattle.faults.specs.Faults.{Admitted}
+use Rattle.faults.proofs.Faults.{place-enough, admitted}
+use Rattle.board.specs.Calls.{placeFaultOf}
+use Rattle.board.proofs.Queries.{refused-query, answered-query}
 use borrow.Author.Needs.{needs}
 use Rattle.board.proofs.query_place.Statement.{statement}
 use Rattle.board.proofs.query_place.Tie as tie
@@ -19,11 +23,11 @@ origin c = c .before .before .before .before
 none : (c : tie.Else1) → let s = origin c in placeFaultOf (pictured s) (s .args .work .now) (s .args .place) ≡ 0
 none c = sym (c .before .place-fault .ensures) ∙ c .if1 .left
 
-allowed : (c : tie.Else1) → let s = origin c in Admits (pictured s) (s .args .work .now) (s .args .place)
+allowed : (c : tie.Else1) → let s = origin c in Admitted (pictured s) (length (s .args .work .now)) × (s .args .place < places (pictured s))
 allowed c =
-    let s = origin c in
     let known = c .before .before .before .shared-slice-known in
-    admits (pictured s) (s .args .work .now) (s .args .place) (none c) (λ i. let q = known .given i in omega arith)
+    let z = place-enough _ _ _ _ _ _ (none c) in
+    (admitted _ _ (z .0) (λ i. let q = known .given i in omega arith), z .1)
 
 place-fault-requires : tie.Need-place-fault-requires
 place-fault-requires c κs = search needs
@@ -41,7 +45,7 @@ query-cleared-requires c κs = allowed (c .before)
 
 shared-slice-read-answer-query : tie.Need-shared-slice-read-answer-query
 shared-slice-read-answer-query c =
-    let a = allowed (c .before .before .before .before .before) in omega (arith, a .place, a .size)
+    let a = allowed (c .before .before .before .before .before) in omega (arith, a .0 .faultless .size, a .1)
 
 answer-query-requires-2 : tie.Need-answer-query-requires-2
 answer-query-requires-2 c κs = search needs
@@ -54,7 +58,7 @@ returns-2 c =
     let e = c .before .before .before .before .before .before in
     let s = origin e in
     let t = c .before .before .before .before .query-cleared in
-    answered-query (pictured s) (s .args .work .now) _ (s .args .place) _ _ _ (none e) (allowed e .size) refl (t .ensures .0) (t .ensures .1) (c .answer-query2 .ensures)
+    answered-query (pictured s) (s .args .work .now) _ (s .args .place) _ _ _ (none e) (allowed e .0 .faultless .size) refl (t .ensures .0) (t .ensures .1) (c .answer-query2 .ensures)
 
 pub query-place-spec : {M : Type 1} → statement M
 query-place-spec =

@@ -39,29 +39,29 @@ returns c =
     output-refused _ _ _ _ (c .before .before .output-fault .ensures) (c .before .if1 .taken) _ _ _ (c .refused .ensures)
 
 mul-whole : tie.Need-mul-whole
-mul-whole c = omega (arith, lends c .core .size, lends c .core .few)
+mul-whole c = omega (arith, lends c .core .faultless .size, lends c .core .faultless .few)
 
 slice-relend-prefix-watershed-core : tie.Need-slice-relend-prefix-watershed-core
-slice-relend-prefix-watershed-core c = omega (arith, lends c .core .size, lends c .out)
+slice-relend-prefix-watershed-core c = omega (arith, lends c .core .faultless .size, lends c .out)
 
 slice-aggregate-watershed-core : tie.Need-slice-aggregate-watershed-core
 slice-aggregate-watershed-core c =
-    lent-length _ _ (omega (arith, lends (c .before) .core .size, lends (c .before) .out))
+    lent-length _ _ (omega (arith, lends (c .before) .core .faultless .size, lends (c .before) .out))
 
 slice-relend-prefix-watershed-core-2 : tie.Need-slice-relend-prefix-watershed-core-2
-slice-relend-prefix-watershed-core-2 c = omega (arith, lends (c .before) .core .room)
+slice-relend-prefix-watershed-core-2 c = omega (arith, lends (c .before) .core .faultless .room)
 
 slice-aggregate-watershed-core-2 : tie.Need-slice-aggregate-watershed-core-2
-slice-aggregate-watershed-core-2 c = lent-length _ _ (omega (arith, lends (c .before .before) .core .room))
+slice-aggregate-watershed-core-2 c = lent-length _ _ (omega (arith, lends (c .before .before) .core .faultless .room))
 
 watershed-core-requires : tie.Need-watershed-core-requires
 watershed-core-requires c κs =
     let e = c .before .before in
     let a = lends e .core in
     let s = origin e in
-    let n = lent-length (size s) (s .args .out .now) (omega (arith, a .size, lends e .out)) in
-    let m = lent-length (5 * size s) (s .args .work .now) (a .room) in
-    (a .picture, omega (arith, a .size, n), omega (arith, a .size, m))
+    let n = lent-length (size s) (s .args .out .now) (omega (arith, a .faultless .size, lends e .out)) in
+    let m = lent-length (5 * size s) (s .args .work .now) (a .faultless .room) in
+    (a .picture, omega (arith, a .faultless .size, n), omega (arith, a .faultless .size, m))
 
 finish-requires : tie.Need-finish-requires
 finish-requires c κs =
@@ -69,8 +69,8 @@ finish-requires c κs =
     let e = t .before .before .before in
     let s = origin e in
     let a = lends e .core in (
-      omega (arith, a .size, a .few),
-      back-room (5 * size s) (5 * size s) (t .watershed-core .last .1 .1 .1 .1 .1 .0) (s .args .work .now) (t .watershed-core .kept .1 .1 .1 .1 .1 .0) (a .room),
+      omega (arith, a .faultless .size, a .faultless .few),
+      back-room (5 * size s) (5 * size s) (t .watershed-core .last .1 .1 .1 .1 .1 .0) (s .args .work .now) (t .watershed-core .kept .1 .1 .1 .1 .1 .0) (a .faultless .room),
     )
 
 same-length : tie.Need-same-length
@@ -86,11 +86,11 @@ returns-2 c =
     let s = origin e in
     let a = lends e .core in
     output-done _ _ _ _ (e .before .output-fault .ensures) (e .if1 .left) (bytes e) _ _ _ _ _ _ _ refl
-    (watershed-watered (pictured s) (a .size) .size)
+    (watershed-watered (pictured s) (a .faultless .size) .size)
     (t .watershed-core .ensures)
     (behind-lent (5 * size s) (5 * size s) (t .watershed-core .last .1 .1 .1 .1 .1 .0) (s .args .work .now) (t .watershed-core .kept .1 .1 .1 .1 .1 .0)
     (omega arith)
-    (a .room))
+    (a .faultless .room))
     (c .before .before .finish .ensures)
 
 pub watershed-of-spec : {M : Type 1} → statement M

@@ -1,9 +1,12 @@
 -- `board_c::board_place` meets its contract: a refusal leaves all as it was, and else the public call, the writer and the packing leave what is said.
 use mathlib.Core.Path.{_≡_, sym, _∙_}
+use Prim.Native.Nat.{_/_}
 use native.Mathlib.Omega.{arith}
+use lib.ListN.{length}
 use Rattle.picture.specs.Pictures.{Picture, pictureOf}
-use Rattle.board_c.specs.CalledByC.{placeFaultForCOf}
-use Rattle.board_c.proofs.ForC.{Lent, unpack-room, pack-room, place-refused, place-lent, place-room, place-done}
+use Rattle.faults.specs.Faults.{Faultless}
+use Rattle.board_c.specs.CalledByC.{placeFaultForC}
+use Rattle.board_c.proofs.ForC.{unpack-room, pack-room, place-fault, place-refused, place-lent, place-room, place-done}
 use borrow.Author.Needs.{needs}
 use Rattle.board_c.proofs.board_place.Statement.{statement}
 use Rattle.board_c.proofs.board_place.Tie as tie
@@ -13,27 +16,41 @@ abbrev pictured : tie.Start → Picture
 pictured s = pictureOf (s .args .adjacency) (s .args .width) (s .args .height) (s .args .pixels .now)
 
 -- past the refusal there is no fault
-abbrev origin : tie.Else1 → tie.Start
-origin c = c .before .before .before .before .before
+abbrev origin : tie.After-place-after → tie.Start
+origin c = c .before .before .before .before .before .before
 
-none : (c : tie.Else1) → let s = origin c in placeFaultForCOf (pictured s) (s .args .place) (s .args .out .now) (s .args .work .now) ≡ 0
-none c = sym (c .before .place-fault-for-c .ensures) ∙ c .if1 .left
-
-lends : (c : tie.Else1) → let s = origin c in Lent (pictured s) (s .args .work .now)
-lends c =
+-- the fault of the call
+decided :
+    (c : tie.After-place-after) →
+    let s = origin c in c .place-after .result ≡ placeFaultForC (pictured s) (length (s .args .out .now)) (length (s .args .work .now)) (s .args .place)
+decided c =
     let s = origin c in
+    place-fault (pictured s) (length (s .args .out .now)) (length (s .args .work .now)) (s .args .place) _ _ _ (c .before .before .work-fault .ensures) (c .before .short-after .ensures) (c .place-after .ensures)
+
+none : (c : tie.Else1) → let s = origin (c .before) in placeFaultForC (pictured s) (length (s .args .out .now)) (length (s .args .work .now)) (s .args .place) ≡ 0
+none c = sym (decided (c .before)) ∙ c .if1 .left
+
+lends : (c : tie.Else1) → let s = origin (c .before) in Faultless (pictured s) (length (s .args .work .now) / 2)
+lends c =
+    let s = origin (c .before) in
     place-lent (pictured s) (s .args .place) (s .args .out .now) (s .args .work .now) (none c)
 
-place-fault-for-c-requires : tie.Need-place-fault-for-c-requires
-place-fault-for-c-requires c κs = search needs
+work-fault-requires : tie.Need-work-fault-requires
+work-fault-requires c κs = search needs
+
+short-after-requires : tie.Need-short-after-requires
+short-after-requires c κs = search needs
+
+place-after-requires : tie.Need-place-after-requires
+place-after-requires c κs = search needs
 
 cast-result : tie.Need-cast-result
 cast-result c = search needs
 
 returns : tie.Need-returns
 returns c =
-    let s = c .before .before .before .before .before in
-    place-refused (pictured s) (s .args .place) (s .args .out .now) (s .args .work .now) (c .before .place-fault-for-c .result) (c .before .place-fault-for-c .ensures) (c .if1 .taken)
+    let s = origin (c .before) in
+    place-refused (pictured s) (s .args .place) (s .args .out .now) (s .args .work .now) _ (decided (c .before)) (c .if1 .taken)
 
 mul-entries : tie.Need-mul-entries
 mul-entries c = let a = lends c in omega (arith, a .size, a .few)
@@ -42,7 +59,10 @@ slice-aggregate-unpack : tie.Need-slice-aggregate-unpack
 slice-aggregate-unpack c = search needs
 
 unpack-requires : tie.Need-unpack-requires
-unpack-requires c κs = unpack-room _ _ (lends (c .before .before))
+unpack-requires c κs =
+    let e = c .before .before in
+    let s = origin (e .before) in
+    unpack-room (pictured s) (s .args .work .now) (lends e)
 
 slice-aggregate-query-place : tie.Need-slice-aggregate-query-place
 slice-aggregate-query-place c = search needs
@@ -62,7 +82,7 @@ cast-put-pair-2 c = search needs
 put-pair-requires : tie.Need-put-pair-requires
 put-pair-requires c κs =
     let e = c .before .before .before .before .before .before .before .before .before in
-    let s = origin e in
+    let s = origin (e .before) in
     place-room (pictured s) (s .args .place) (s .args .out .now) (s .args .work .now) (none e)
 
 slice-aggregate-pack : tie.Need-slice-aggregate-pack
@@ -71,7 +91,9 @@ slice-aggregate-pack c = search needs
 pack-requires : tie.Need-pack-requires
 pack-requires c κs =
     let t = c .before .before .before .before .before .before .before .before in
-    pack-room _ _ (lends (c .before .before .before .before .before .before .before .before .before .before .before .before .before .before)) (t .query-place .kept .1 .1 .1 .1 .1 .0 ∙ t .before .before .before .unpack .kept .1 .0)
+    let e = c .before .before .before .before .before .before .before .before .before .before .before .before .before .before in
+    let s = origin (e .before) in
+    pack-room (pictured s) (s .args .work .now) (lends e) (t .query-place .kept .1 .1 .1 .1 .1 .0 ∙ t .before .before .before .unpack .kept .1 .0)
 
 same-length : tie.Need-same-length
 same-length c = search needs
@@ -82,7 +104,7 @@ same-length-2 c = search needs
 returns-2 : tie.Need-returns-2
 returns-2 c =
     let e = c .before .before .before .before .before .before .before .before .before .before .before .before .before .before .before .before .before in
-    let s = origin e in
+    let s = origin (e .before) in
     let t = c .before .before .before .before .before .before .before .before .before .before .before in
     let w = c .before .before .before .before .before .before .before in
     place-done (pictured s) (s .args .place) (s .args .out .now) (s .args .work .now) (none e) _ _ _ _ (t .query-place .result) _ _ (t .before .before .before .unpack .kept .1 .0) (t .query-place .ensures)
@@ -92,7 +114,9 @@ pub board-place-spec : {M : Type 1} → statement M
 board-place-spec =
     tie.close
     (tie.spec
-    place-fault-for-c-requires
+    work-fault-requires
+    short-after-requires
+    place-after-requires
     cast-result
     returns
     mul-entries

@@ -4,8 +4,8 @@ use Prim.Native.Nat.{_/_}
 use native.Mathlib.Omega.{arith}
 use lib.ListN.{length}
 use Rattle.picture.specs.Pictures.{Picture, pictureOf}
-use Rattle.faults.specs.Faults.{outputFault}
-use Rattle.board_c.proofs.ForC.{Lent, unpack-room, pack-room, water-refused, water-lent, water-done}
+use Rattle.faults.specs.Faults.{outputFault, Faultless}
+use Rattle.board_c.proofs.ForC.{unpack-room, pack-room, water-refused, water-lent, water-done}
 use borrow.Author.Needs.{needs}
 use Rattle.board_c.proofs.board_watershed.Statement.{statement}
 use Rattle.board_c.proofs.board_watershed.Tie as tie
@@ -24,7 +24,7 @@ none :
     outputFault (s .args .adjacency) (s .args .width) (s .args .height) (length (s .args .pixels .now)) (length (s .args .out .now)) (length (s .args .work .now) / 2) ≡ 0
 none c = sym (c .before .output-fault .ensures) ∙ c .if1 .left
 
-lends : (c : tie.Else1) → let s = origin c in Lent (pictured s) (s .args .work .now)
+lends : (c : tie.Else1) → let s = origin c in Faultless (pictured s) (length (s .args .work .now) / 2)
 lends c = let s = origin c in water-lent (pictured s) (s .args .out .now) (s .args .work .now) (none c)
 
 output-fault-requires : tie.Need-output-fault-requires
@@ -45,7 +45,10 @@ slice-aggregate-unpack : tie.Need-slice-aggregate-unpack
 slice-aggregate-unpack c = search needs
 
 unpack-requires : tie.Need-unpack-requires
-unpack-requires c κs = unpack-room _ _ (lends (c .before .before))
+unpack-requires c κs =
+    let e = c .before .before in
+    let s = origin e in
+    unpack-room (pictured s) (s .args .work .now) (lends e)
 
 slice-aggregate-watershed-of : tie.Need-slice-aggregate-watershed-of
 slice-aggregate-watershed-of c = search needs
@@ -59,7 +62,9 @@ slice-aggregate-pack c = search needs
 pack-requires : tie.Need-pack-requires
 pack-requires c κs =
     let t = c .before .before .before .before .before in
-    pack-room _ _ (lends (c .before .before .before .before .before .before .before .before .before .before .before .before)) (t .watershed-of .kept .1 .1 .1 .1 .1 .0 ∙ t .before .before .before .before .unpack .kept .1 .0)
+    let e = c .before .before .before .before .before .before .before .before .before .before .before .before in
+    let s = origin e in
+    pack-room (pictured s) (s .args .work .now) (lends e) (t .watershed-of .kept .1 .1 .1 .1 .1 .0 ∙ t .before .before .before .before .unpack .kept .1 .0)
 
 same-length : tie.Need-same-length
 same-length c = search needs

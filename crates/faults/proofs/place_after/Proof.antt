@@ -1,7 +1,7 @@
 -- `faults::place_after` meets its contract: each return is one law of the fault.
 use mathlib.Core.Path.{refl}
 use borrow.Author.Tests.{le-leb, lt-leb}
-use Rattle.faults.proofs.Laws.{first-some, then-passed, then-failed}
+use Rattle.faults.proofs.Faults.{first-some, then-passed, then-failed}
 use Rattle.faults.proofs.place_after.Statement.{statement}
 use Rattle.faults.proofs.place_after.Tie as tie
 

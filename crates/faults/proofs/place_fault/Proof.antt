@@ -3,7 +3,7 @@ use mathlib.Core.Path.{ap, _∙_}
 use Prim.Native.Nat.{ℕ}
 use lib.Dec.{leb}
 use Rattle.faults.specs.PictureFault.{firstOf, when}
-use Rattle.faults.proofs.Laws.{place-behind}
+use Rattle.faults.proofs.Faults.{place-counted}
 use borrow.Author.Needs.{needs}
 use Rattle.faults.proofs.place_fault.Statement.{statement}
 use Rattle.faults.proofs.place_fault.Tie as tie
@@ -19,7 +19,7 @@ returns c =
     let s = c .before .before .args in
     c .place-after .ensures ∙
     (ap (λ (f : ℕ). firstOf f (when (leb (s .length) (s .place)) 10)) (c .before .work-fault .ensures) ∙
-    place-behind (s .a) (s .w) (s .h) (s .length) (s .work) (s .place))
+    place-counted (s .a) (s .w) (s .h) (s .length) (s .work) (s .place))
 
 pub place-fault-spec : {M : Type 1} → statement M
 place-fault-spec = tie.close (tie.spec work-fault-requires place-after-requires returns)

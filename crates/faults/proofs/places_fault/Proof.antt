@@ -3,7 +3,7 @@ use mathlib.Core.Path.{ap, _∙_}
 use Prim.Native.Nat.{ℕ}
 use lib.Dec.{leb}
 use Rattle.faults.specs.PictureFault.{firstOf, when}
-use Rattle.faults.proofs.Laws.{first-either}
+use Rattle.faults.proofs.Faults.{first-either}
 use borrow.Author.Needs.{needs}
 use Rattle.faults.proofs.places_fault.Statement.{statement}
 use Rattle.faults.proofs.places_fault.Tie as tie

@@ -4,7 +4,8 @@ use native.Mathlib.Omega.{arith}
 use lib.ListN.{length}
 use Rattle.picture.specs.Pictures.{Picture, pictureOf}
 use Rattle.patch_lists.specs.PatchLists.{listFault}
-use Rattle.faults.proofs.Laws.{Admitted, admitted}
+use Rattle.faults.proofs.Faults.{admitted}
+use Rattle.faults.specs.Faults.{Admitted}
 use Rattle.patch_lists.proofs.PatchLists.{list-enough, patches-few, gathered-refused, gathered-accepted}
 use borrow.Author.Needs.{needs}
 use Rattle.patch_lists.proofs.gather.Statement.{statement}
@@ -40,7 +41,7 @@ returns c =
     gathered-refused (pictured s) (s .args .room) (s .args .work .now) _ _ (c .before .before .list-fault .ensures) (c .before .if1 .taken) (c .refused .ensures)
 
 fill-figures-requires : tie.Need-fill-figures-requires
-fill-figures-requires c κs = let a = allowed (c .before) in (a .picture, a .room)
+fill-figures-requires c κs = let a = allowed (c .before) in (a .picture, a .faultless .room)
 
 cast-accepted : tie.Need-cast-accepted
 cast-accepted c =
@@ -61,7 +62,7 @@ returns-2 c =
     let t = c .before .before .before .fill-figures in
     let a = allowed e in
     gathered-accepted (pictured s) (s .args .room) (s .args .work .now) (t .last .1 .1 .1 .1 .0) _ _ (none e) (a .picture)
-    (omega (arith, a .room, t .kept .1 .1 .1 .1 .0)) (t .ensures) (c .accepted .ensures)
+    (omega (arith, a .faultless .room, t .kept .1 .1 .1 .1 .0)) (t .ensures) (c .accepted .ensures)
 
 pub gather-spec : {M : Type 1} → statement M
 gather-spec =

@@ -1,10 +1,15 @@
 -- `patch_lists::list_fault` meets its contract: each return is one law of the fault.
-use mathlib.Core.Path.{_≡_, sym, subst, _∙_}
-use Prim.Native.Nat.{ℕ, _≤_, _<_}
+use mathlib.Core.Path.{_≡_, sym, ap, _∙_}
+use Prim.Native.Nat.{ℕ}
 use native.Mathlib.Omega.{arith}
+use lib.Dec.{ltb}
+use lib.ListN.{length}
 use Rattle.picture.specs.Pictures.{Picture, pictureOf}
-use Rattle.faults.proofs.Laws.{workFaultOf, admitted}
-use Rattle.patch_lists.proofs.PatchLists.{list-first, list-short, list-none}
+use Rattle.picture.specs.Patches.{patches}
+use Rattle.faults.specs.PictureFault.{when}
+use Rattle.faults.specs.Faults.{workFaultOf}
+use Rattle.faults.proofs.Faults.{first-none, then-first, admitted}
+use Rattle.patch_lists.proofs.PatchLists.{list-is}
 use borrow.Author.Needs.{needs}
 use Rattle.patch_lists.proofs.list_fault.Statement.{statement}
 use Rattle.patch_lists.proofs.list_fault.Tie as tie
@@ -23,7 +28,7 @@ work-fault-requires c κs = search needs
 returns : tie.Need-returns
 returns c =
     let s = c .before .before .before in
-    list-first (pictured s) (s .args .room) (s .args .work) _ (c .before .work-fault .ensures) (c .if1 .taken)
+    then-first _ 8 (ltb (s .args .room) (length (patches (pictured s)))) _ (list-is (pictured s) (s .args .room) (s .args .work)) _ (c .before .work-fault .ensures) (c .if1 .taken)
 
 count-patches-requires : tie.Need-count-patches-requires
 count-patches-requires c κs =
@@ -31,18 +36,16 @@ count-patches-requires c κs =
     let known = c .before .before .shared-slice-known in
     admitted (pictured s) (s .args .work) (none c) (λ i. let q = known .given i in omega arith) .picture
 
+short-after-requires : tie.Need-short-after-requires
+short-after-requires c κs = search needs
+
 returns-2 : tie.Need-returns-2
 returns-2 c =
     let s = c .before .before .before .before .before in
-    list-short (pictured s) (s .args .room) (s .args .work) (none (c .before .before))
-    (subst (λ (m : ℕ). s .args .room < m) (c .before .count-patches .ensures) (c .if2 .taken))
-
-returns-3 : tie.Need-returns-3
-returns-3 c =
-    let s = c .before .before .before .before .before in
-    list-none (pictured s) (s .args .room) (s .args .work) (none (c .before .before))
-    (subst (λ (m : ℕ). m ≤ s .args .room) (c .before .count-patches .ensures) (c .if2 .left))
+    c .short-after .ensures ∙
+    (ap (λ (m : ℕ). when (ltb (s .args .room) m) 9) (c .before .count-patches .ensures) ∙
+    (sym (first-none _ _ (none (c .before .before))) ∙ list-is (pictured s) (s .args .room) (s .args .work)))
 
 pub list-fault-spec : {M : Type 1} → statement M
 list-fault-spec =
-    tie.close (tie.spec work-fault-requires returns count-patches-requires returns-2 returns-3)
+    tie.close (tie.spec work-fault-requires returns count-patches-requires short-after-requires returns-2)

@@ -1,13 +1,11 @@
 -- `faults::picture_fault::picture_fault` meets its contract: each return is one law of the fault.
 use mathlib.Core.Path.{_≡_, sym, _∙_}
 use mathlib.Core.Bool.{true, _&&_}
-use lib.Dec.{lit<}
-use native.Mathlib.Nat.{lt-of-le-of-lt}
+use native.Mathlib.Omega.{arith}
 use borrow.Author.Needs.{needs}
 use borrow.Author.Tests.{not-true, not-false, eq-eqb, ne-eqb}
 use Rattle.picture.specs.Pictures.{sideFits}
-use Rattle.lists.proofs.Tests.{and-left, and-right}
-use Rattle.picture.proofs.Sides.{side-most, area-most}
+use Rattle.picture.proofs.Sides.{sides-area}
 use Rattle.faults.proofs.Accepted.{fault-adjacency, fault-sides, fault-length, fault-none}
 use Rattle.faults.proofs.picture_fault.picture_fault.Statement.{statement}
 use Rattle.faults.proofs.picture_fault.picture_fault.Tie as tie
@@ -38,12 +36,7 @@ mul-if3 c =
     let w = c .before .before .before .before .args .w in
     let h = c .before .before .before .before .args .h in
     let e : (sideFits w && sideFits h) ≡ true = sym (t .ensures) ∙ not-false (t .result) (c .if2 .left) in
-    record {
-      fits =
-          lt-of-le-of-lt
-          (area-most w h (side-most w (and-left (sideFits w) _ e)) (side-most h (and-right (sideFits w) _ e)))
-          (lit< tt);
-    }
+    omega (arith, sides-area w h e)
 
 returns-3 : tie.Need-returns-3
 returns-3 c =
