@@ -16,7 +16,7 @@ use Rattle.picture.specs.Watersheds.{watershed}
 use Rattle.picture.specs.Patches.{patchAt}
 use Rattle.lists.proofs.Tests.{on-test}
 use Rattle.p5.specs.Files.{readFile, numberOf, headerOf}
-use Rattle.text.specs.Writing.{Written}
+use Rattle.lists.specs.Writing.{Written}
 use Rattle.answers.specs.declared.Answer.{Answer}
 use Rattle.board.specs.declared.Queried.{Queried}
 use Rattle.faults.specs.Faults.{workFault, workFaultOf, outputFault, Faultless}
@@ -26,7 +26,8 @@ use Rattle.faults.proofs.Faults.{first-later, then-failed, then-none, work-size
 use Rattle.answers.proofs.Calls.{refused-left, written-left}
 use Rattle.board_c.specs.CalledByC.{pair, readFaultForC, headerBytes, ReadForC, workFaultForC, watershedFaultForC, bytesAfter, WatershedForC, placeFaultForC, PlaceForC}
 use Rattle.packing.specs.Packing.{packed}
-use Rattle.packing.proofs.Packed.{written-front, packed-zeros}
+use Rattle.lists.proofs.Writings.{written-front}
+use Rattle.packing.proofs.Packed.{packed-zeros}
 
 -- no fault: the bytes written from the beginning stand over what was there
 output-written : (f : ℕ) (bytes o o′ : List ℕ) {to : ℕ} → f ≡ 0 → Written 0 bytes o to o′ → o′ ≡ afterCall f (over bytes o) o

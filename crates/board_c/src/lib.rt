@@ -14,7 +14,7 @@ ghost use mathlib.Core.Path.{_≡_};
 ghost use Prim.Native.Nat.{_+_, _≤_};
 ghost use lib.ListN.{length};
 ghost use Rattle.picture.specs.Pictures.{pictureOf};
-ghost use Rattle.text.specs.Writing.{Written};
+ghost use Rattle.lists.specs.Writing.{Written};
 ghost use Rattle.board_c.specs.CalledByC.{pair, ReadForC, WatershedForC, PlaceForC};
 
 // Writes two numbers as eight bytes each, lowest first, and answers the place behind them.

@@ -5,7 +5,7 @@ use text::put_fields;
 ghost use mathlib.Core.Path.{_≡_};
 ghost use Prim.Native.Nat.{_+_, _≤_, _<_};
 ghost use lib.ListN.{length, replicate};
-ghost use Rattle.text.specs.Writing.{Written};
+ghost use Rattle.lists.specs.Writing.{Written};
 ghost use Rattle.edges.specs.EdgeFiles.{valuesOf, edgePixel, edgePixels, numberLines, edgeFile};
 
 // How many values a pixel can have at a largest sample.

@@ -1,9 +1,8 @@
 // The fault of a picture's arguments.
-use geometry::inside;
+use ranges::sides_fit;
 ghost use mathlib.Core.Path.{_≡_};
-ghost use mathlib.Core.Bool.{_&&_, _||_};
+ghost use mathlib.Core.Bool.{_||_};
 ghost use lib.Dec.{eqb};
-ghost use Rattle.picture.specs.Pictures.{sideFits};
 ghost use Rattle.faults.specs.PictureFault.{pictureFault};
 
 // The adjacency is 4 or 8.
@@ -14,16 +13,6 @@ fn adjacency_fits(a: u32) -> bool
         return true;
     }
     a == 8
-}
-
-// Both sides are 1 to 40.
-fn sides_fit(w: u32, h: u32) -> bool
-    ensures { λ r. ⌜ r ≡ (sideFits w && sideFits h) ⌝ }
-{
-    if inside(w as usize, 40) {
-        return inside(h as usize, 40);
-    }
-    false
 }
 
 // The number of the first fault of an adjacency, two sides and a number of pixels; 0 for none.

@@ -3,20 +3,20 @@ use mathlib.Core.Path.{_≡_, refl, sym, ap, ap₂, subst, _∙_}
 use mathlib.Core.Bool.{Bool, true, false, _&&_}
 use mathlib.Core.List.{List, [], _∷_, _++_, append-assoc, append-nil}
 use Prim.Native.Nat.{ℕ, _+_, _-_, _*_, _/_, _%_, _≤_, _<_}
-use native.Mathlib.Numerals.{add-one}
-use native.Mathlib.Nat.{add-zero, div-add-mod'}
+use native.Mathlib.Nat.{zero-add, div-add-mod'}
 use native.Mathlib.Omega.{arith}
 use lib.Dec.{eqb}
 use lib.IntN.{ℤ}
-use lib.ListN.{length, take, drop, set, length-append, length-drop, take-append-drop, drop-of-length-le}
-use lib.Seq.{set-split, length-take-le, take-at, drop-at, drop-drop}
+use lib.ListN.{length, drop, set, drop-of-length-le}
 use mir.Syntax.{w8}
 use mir.Val.{toZ, ofZ}
+use Rattle.lists.specs.Lists.{over}
+use Rattle.lists.specs.Writing.{Written}
 use Rattle.picture.specs.declared.Step.{Step}
 use Rattle.picture.specs.Geometry.{steps, plusOne, offset, used, within, stays, placeBy, reached, neighboursOf, Placed, Listed}
-use Rattle.geometry.specs.Steps.{isUnit, strideOf, stepAt, offEdge, isInner, Stepping, StepsTo, PutBehind}
+use Rattle.geometry.specs.Steps.{isUnit, strideOf, stepAt, offEdge, isInner, Stepping, StepsTo}
 use Rattle.lists.proofs.Tests.{and-left, and-right, and-both, on-pick}
-use Rattle.lists.proofs.Cuts.{over-cut}
+use Rattle.lists.proofs.Writings.{written-none, written-byte, written-then, written-length, written-front}
 use Rattle.picture.proofs.Sides.{within-some, area-most}
 use Rattle.geometry.proofs.Steps.{on-unit, unit-column, unit-row, off-edge-within, place-most, leads-from, row-under, used-step, reached-step, reached-one, reached-none}
 
@@ -25,32 +25,32 @@ module _ (w h x : ℕ) (s : Step) (c r : ℕ) (to : StepsTo (x % w) (x / w) s c 
   stays-is : stays w h x (offset s) ≡ (within w c && within h r)
   stays-is = ap₂ (λ d e. within w d && within h e) (sym (to .column)) (sym (to .row))
 
-  put-none : (within w c && within h r) ≡ false → PutBehind (reached w h x (s ∷ [])) m cells m cells
+  put-none : (within w c && within h r) ≡ false → Written m (reached w h x (s ∷ [])) cells m cells
   put-none e =
       rw (reached-none w h x s (stays-is ∙ e))
-      (record { count = sym (add-zero m); whole = sym (take-append-drop m cells) })
+      (written-none cells m)
 
-  pub put-beside : within w c ≡ false → PutBehind (reached w h x (s ∷ [])) m cells m cells
+  pub put-beside : within w c ≡ false → Written m (reached w h x (s ∷ [])) cells m cells
   put-beside e = put-none (rw e)
 
-  pub put-beyond : within w c ≡ true → within h r ≡ false → PutBehind (reached w h x (s ∷ [])) m cells m cells
+  pub put-beyond : within w c ≡ true → within h r ≡ false → Written m (reached w h x (s ∷ [])) cells m cells
   put-beyond d e = put-none (rw (d, e))
 
   pub put-one :
       within w c ≡ true → within h r ≡ true → m < length cells →
-      PutBehind (reached w h x (s ∷ [])) m cells (m + 1) (set cells m ((r - 1) * w + (c - 1)))
+      Written m (reached w h x (s ∷ [])) cells (m + 1) (set cells m ((r - 1) * w + (c - 1)))
   put-one d e l =
       let at : (r - 1) * w + (c - 1) ≡ placeBy w x (offset s) =
       ap₂ (λ k n. (n - 1) * w + (k - 1)) (to .column) (to .row) in
       rw (reached-one w h x s (stays-is ∙ and-both d e), at)
-      (record { count = refl; whole = set-split cells m _ l ∙ rw add-one })
+      (written-byte cells m (placeBy w x (offset s)) l)
 
   pub put-written :
       (n : ℕ) (after : List ℕ) → within w c ≡ true → within h r ≡ true → m < length cells → n ≡ m + 1 → after ≡ set cells m ((r - 1) * w + (c - 1)) →
-      PutBehind (reached w h x (s ∷ [])) m cells n after
+      Written m (reached w h x (s ∷ [])) cells n after
   put-written n after d e l p q =
-      subst (λ (k : ℕ). PutBehind (reached w h x (s ∷ [])) m cells k after) (sym p)
-      (subst (λ (k : List ℕ). PutBehind (reached w h x (s ∷ [])) m cells (m + 1) k) (sym q) (put-one d e l))
+      subst (λ (k : ℕ). Written m (reached w h x (s ∷ [])) cells k after) (sym p)
+      (subst (λ (k : List ℕ). Written m (reached w h x (s ∷ [])) cells (m + 1) k) (sym q) (put-one d e l))
 
 -- a step as the machine reads it
 abbrev read : ℤ → ℤ
@@ -107,9 +107,9 @@ pub place-digits : (w h x : ℕ) → Placed w h x → Placed w h (x / w * w + x 
 place-digits w h x p = subst (Placed w h) (sym (div-add-mod' x w)) p
 
 pub put-digits :
-    (w h x : ℕ) (ss : List Step) (m : ℕ) (cells : List ℕ) (n : ℕ) (after : List ℕ) → PutBehind (reached w h (x / w * w + x % w) ss) m cells n after →
-    PutBehind (reached w h x ss) m cells n after
-put-digits w h x ss m cells n after p = subst (λ (y : ℕ). PutBehind (reached w h y ss) m cells n after) (div-add-mod' x w) p
+    (w h x : ℕ) (ss : List Step) (m : ℕ) (cells : List ℕ) (n : ℕ) (after : List ℕ) → Written m (reached w h (x / w * w + x % w) ss) cells n after →
+    Written m (reached w h x ss) cells n after
+put-digits w h x ss m cells n after p = subst (λ (y : ℕ). Written m (reached w h y ss) cells n after) (div-add-mod' x w) p
 
 -- a step puts one place at most
 pub put-most : (w h x : ℕ) (s : Step) → length (reached w h x (s ∷ [])) ≤ 1
@@ -119,33 +119,14 @@ put-most w h x s = by (stays w h x (offset s)) refl
     by true e = rw (reached-one w h x s e) (omega arith)
     by false e = rw (reached-none w h x s e) (omega arith)
 
--- what is put stands behind the first cells, and the cells behind it are as they were
-module _ (zs : List ℕ) (m : ℕ) (cells : List ℕ) (n : ℕ) (after : List ℕ) (fits : m + length zs ≤ length cells) where
-  front-length : n ≡ m + length zs → length (take m cells ++ zs) ≡ n
-  front-length e = length-append (take m cells) zs ∙ ap (λ k. k + length zs) (length-take-le m cells (omega arith)) ∙ sym e
-
-  parted : PutBehind zs m cells n after → after ≡ (take m cells ++ zs) ++ drop n cells
-  parted p = p .whole ∙ sym (append-assoc (take m cells) zs (drop n cells))
-
-  pub put-take : PutBehind zs m cells n after → take n after ≡ take m cells ++ zs
-  put-take p = ap (take n) (parted p) ∙ take-at (take m cells ++ zs) (drop n cells) n (front-length (p .count))
-
-  pub put-drop : PutBehind zs m cells n after → drop n after ≡ drop n cells
-  put-drop p = ap (drop n) (parted p) ∙ drop-at (take m cells ++ zs) (drop n cells) n (front-length (p .count))
-
-  pub put-size : PutBehind zs m cells n after → length after ≡ length cells
-  put-size p =
-      let e = ap length (parted p) ∙ length-append (take m cells ++ zs) (drop n cells) in
-      omega (arith, front-length (p .count), length-drop n cells, p .count)
-
--- the first m cells hold the places of the steps used before index i, and the others are as they were
+-- the places of the steps used before index i are written in front of the cells
 pub record Front (a w h x : ℕ) (old cells : List ℕ) (m i : ℕ) : Type 0 where
   pub large : 8 ≤ length old
-  pub size : length cells ≡ length old
   pub room : m ≤ 8
   pub under : m ≤ i
-  pub done : take m cells ++ reached w h x (used a (drop i steps)) ≡ neighboursOf a w h x
-  pub rest : drop m cells ≡ drop m old
+  pub front : List ℕ
+  pub written : Written 0 front old m cells
+  pub done : front ++ reached w h x (used a (drop i steps)) ≡ neighboursOf a w h x
 
 -- an adjacency goes on in the table by one or two steps
 pub stride-some : (a : ℕ) → 1 ≤ strideOf a
@@ -159,52 +140,43 @@ used-none : (a i : ℕ) → 8 ≤ i → used a (drop i steps) ≡ []
 used-none a i l = rw (drop-of-length-le steps l) (on-pick (λ ss. ss ≡ []) (eqb a 4) (λ e. refl) (λ e. refl))
 
 module _ (a w h x : ℕ) (old : List ℕ) where
-  -- lists that are equal from m on are equal further on
-  later : (n m : ℕ) (zs cells : List ℕ) → n ≡ m + length zs → drop m cells ≡ drop m old → drop n cells ≡ drop n old
-  later n m zs cells e r =
-      ap (λ k. drop k cells) e ∙
-      (sym (drop-drop (length zs) m cells) ∙
-      (ap (drop (length zs)) r ∙ (drop-drop (length zs) m old ∙ sym (ap (λ k. drop k old) e))))
-
   pub front-start : 8 ≤ length old → Front a w h x old old 0 0
   unfolding neighboursOf
-  front-start e = record { large = e; size = refl; room = omega arith; under = omega arith; done = refl; rest = refl }
+  front-start e = record { large = e; room = omega arith; under = omega arith; front = []; written = written-none old 0; done = refl }
 
-  pub front-turn :
-      (cells : List ℕ) (m i : ℕ) (after : List ℕ) (n : ℕ) →
-      Front a w h x old cells m i → i < 8 →
-      PutBehind (reached w h x (stepAt i ∷ [])) m cells n after →
-      Front a w h x old after n (i + strideOf a)
-  front-turn cells m i after n f l p =
-      let zs = reached w h x (stepAt i ∷ []) in
-      let more = used a (drop (i + strideOf a) steps) in
-      let most = put-most w h x (stepAt i) in
-      let next = stride-some a in
-      let fits : m + length zs ≤ length cells = omega arith in
-      record {
-        large = f .large;
-        size = put-size zs m cells n after fits p ∙ f .size;
-        room = omega arith;
-        under = omega arith;
-        done =
-            ap (λ l. l ++ reached w h x more) (put-take zs m cells n after fits p) ∙
-            (append-assoc (take m cells) zs (reached w h x more) ∙
-            (ap (λ l. take m cells ++ l)
-            (sym (ap (reached w h x) (used-step a i l) ∙ reached-step w h x (stepAt i) more)) ∙
-            f .done));
-        rest = put-drop zs m cells n after fits p ∙ later n m zs cells (p .count) (f .rest);
-      }
+  module _ (cells : List ℕ) (m i : ℕ) (f : Front a w h x old cells m i) where
+    pub front-size : length cells ≡ length old
+    front-size = written-length (let l = f .large in let r = f .room in omega arith) (f .written)
 
-  pub front-end :
-      (cells : List ℕ) (m i : ℕ) → Front a w h x old cells m i → 8 ≤ i →
-      Listed (neighboursOf a w h x) old m cells
-  front-end cells m i f l =
-      let e : take m cells ≡ neighboursOf a w h x =
-      sym (append-nil (take m cells)) ∙
-      (ap (λ l. take m cells ++ reached w h x l) (sym (used-none a i l)) ∙ f .done) in
-      let long : length (neighboursOf a w h x) ≡ m = sym (ap length e) ∙ length-take-le m cells (omega arith) in
-      record {
-        count = sym long;
-        few = f .room;
-        whole = sym (take-append-drop m cells) ∙ (ap₂ _++_ e (f .rest) ∙ over-cut m (neighboursOf a w h x) long old);
-      }
+    pub front-turn :
+        (after : List ℕ) (n : ℕ) → i < 8 → Written m (reached w h x (stepAt i ∷ [])) cells n after →
+        Front a w h x old after n (i + strideOf a)
+    front-turn after n l p =
+        let zs = reached w h x (stepAt i ∷ []) in
+        let more = used a (drop (i + strideOf a) steps) in
+        let most = put-most w h x (stepAt i) in
+        let next = stride-some a in
+        let e = p .end in
+        record {
+          large = f .large;
+          room = omega arith;
+          under = omega arith;
+          front = f .front ++ zs;
+          written = written-then (omega arith) (f .written) p;
+          done =
+              append-assoc (f .front) zs (reached w h x more) ∙
+              (ap (λ l. f .front ++ l)
+              (sym (ap (reached w h x) (used-step a i l) ∙ reached-step w h x (stepAt i) more)) ∙
+              f .done);
+        }
+
+    pub front-end : 8 ≤ i → Listed (neighboursOf a w h x) old m cells
+    front-end l =
+        let e : f .front ≡ neighboursOf a w h x =
+        sym (append-nil (f .front)) ∙
+        (ap (λ l. f .front ++ reached w h x l) (sym (used-none a i l)) ∙ f .done) in
+        record {
+          count = f .written .end ∙ (zero-add (length (f .front)) ∙ ap length e);
+          few = f .room;
+          whole = written-front (f .written) ∙ ap (λ (l : List ℕ). over l old) e;
+        }

@@ -47,8 +47,3 @@ pub record Stepping (w h column row : ℕ) (s : Step) (m : ℕ) (cells : List �
 pub record StepsTo (column₀ row₀ : ℕ) (s : Step) (c r : ℕ) : Type 0 where
   pub column : c ≡ column₀ + offset s .column
   pub row : r ≡ row₀ + offset s .row
-
--- the places zs put behind the first m cells, and the number of cells then in front
-pub record PutBehind (zs : List ℕ) (m : ℕ) (cells : List ℕ) (n : ℕ) (after : List ℕ) : Type 0 where
-  pub count : n ≡ m + length zs
-  pub whole : after ≡ take m cells ++ (zs ++ drop n cells)

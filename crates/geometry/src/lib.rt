@@ -1,12 +1,14 @@
 // The neighbours of a place, from a table of eight steps.
 use picture::Step;
+use ranges::between;
 ghost use mathlib.Core.Path.{_≡_};
 ghost use mathlib.Core.List.{[], _∷_};
 ghost use Prim.Native.Nat.{_+_, _-_, _*_, _≤_, _<_};
 ghost use mathlib.Core.Bool.{true};
 ghost use lib.ListN.{length, set};
-ghost use Rattle.picture.specs.Geometry.{plusOne, within, reached, neighboursOf, Placed, Listed};
-ghost use Rattle.geometry.specs.Steps.{isUnit, strideOf, offEdge, isInner, Stepping, PutBehind};
+ghost use Rattle.lists.specs.Writing.{Written};
+ghost use Rattle.picture.specs.Geometry.{plusOne, reached, neighboursOf, Placed, Listed};
+ghost use Rattle.geometry.specs.Steps.{isUnit, strideOf, offEdge, isInner, Stepping};
 
 // The eight steps in their order; adjacency 4 uses every second one.
 pub const STEPS: [Step; 8] = [
@@ -39,16 +41,6 @@ fn stride(a: u32) -> usize
         return 2;
     }
     1
-}
-
-// A number lies from 1 to a side.
-pub fn inside(c: usize, side: usize) -> bool
-    ensures { λ r. ⌜ r ≡ within side c ⌝ }
-{
-    if c < 1 {
-        return false;
-    }
-    c <= side
 }
 
 // A column or a row does not lie at the edge.
@@ -93,7 +85,7 @@ fn put_inner(
     m: usize,
 ) -> usize
     requires { ⌜ Stepping w h column row step m (now cells) × (isInner w h column row ≡ true) ⌝ }
-    ensures { λ r. ⌜ PutBehind (reached w h (row * w + column) (step ∷ [])) m (now (cells .entry)) r (now (cells .exit)) ⌝ }
+    ensures { λ r. ⌜ Written m (reached w h (row * w + column) (step ∷ [])) (now (cells .entry)) r (now (cells .exit)) ⌝ }
 {
     let right = column + plus_one(step.column);
     let down = row + plus_one(step.row);
@@ -111,14 +103,14 @@ fn put_tested(
     m: usize,
 ) -> usize
     requires { ⌜ Stepping w h column row step m (now cells) ⌝ }
-    ensures { λ r. ⌜ PutBehind (reached w h (row * w + column) (step ∷ [])) m (now (cells .entry)) r (now (cells .exit)) ⌝ }
+    ensures { λ r. ⌜ Written m (reached w h (row * w + column) (step ∷ [])) (now (cells .entry)) r (now (cells .exit)) ⌝ }
 {
     let right = column + plus_one(step.column);
     let down = row + plus_one(step.row);
-    if !inside(right, w) {
+    if !between(1, right, w) {
         return m;
     }
-    if !inside(down, h) {
+    if !between(1, down, h) {
         return m;
     }
     put_place(w, right, down, cells, m)
@@ -136,7 +128,7 @@ fn put_step(
     m: usize,
 ) -> usize
     requires { ⌜ Stepping w h column row step m (now cells) × (inner ≡ isInner w h column row) ⌝ }
-    ensures { λ r. ⌜ PutBehind (reached w h (row * w + column) (step ∷ [])) m (now (cells .entry)) r (now (cells .exit)) ⌝ }
+    ensures { λ r. ⌜ Written m (reached w h (row * w + column) (step ∷ [])) (now (cells .entry)) r (now (cells .exit)) ⌝ }
 {
     if inner {
         return put_inner(w, h, column, row, step, cells, m);

@@ -8,7 +8,7 @@ ghost use mathlib.Core.List.{_++_, flatMap};
 ghost use Prim.Native.Nat.{_+_, _*_, _<_, _≤_};
 ghost use lib.ListN.{length};
 ghost use Rattle.lists.specs.Lists.{range};
-ghost use Rattle.text.specs.Writing.{Written};
+ghost use Rattle.lists.specs.Writing.{Written};
 ghost use Rattle.hold_lines.specs.Figures.{lineOf, lineAt, Lists};
 ghost use Rattle.hold_lines.specs.Lines.{patchesWord, headLines, refusedLine};
 ghost use Rattle.text.specs.Decimal.{decimal, fields};

@@ -13,7 +13,7 @@ ghost use lib.ListN.{length};
 ghost use Rattle.picture.specs.Pictures.{isPicture, pictureOf};
 ghost use Rattle.patches.specs.Figures.{Figures};
 ghost use Rattle.patch_numbers.specs.Numbers.{FiveBlocks};
-ghost use Rattle.text.specs.Writing.{Written};
+ghost use Rattle.lists.specs.Writing.{Written};
 ghost use Rattle.hold_list.specs.HoldText.{patchList, holdList, holdText};
 
 // Writes the list of the patches of a picture with adjacency 4 from their figures, and answers the place behind it.

@@ -1,4 +1,4 @@
--- Laws of tests and lists: Booleans, selections, members, sums, parts, blocks, updates, rising lists, indices, positions, copies.
+-- Laws of tests and lists: Booleans, selections, members, sums, parts, blocks, updates, rising lists, indices, positions, copies, writing.
 pub mod Tests
 pub mod Lists
 pub mod Members
@@ -11,3 +11,4 @@ pub mod Numbers
 pub mod Positions
 pub mod Filling
 pub mod Copies
+pub mod Writings

@@ -1,3 +1,4 @@
 -- Functions on lists, which the definitions of pictures share; blocks of cells, for what is said of memory.
 pub mod Lists
 pub mod Blocks
+pub mod Writing

@@ -1,6 +1,6 @@
 // White space and digits.
-use crate::ranges::between;
-use crate::ranges::wide;
+use cells::value;
+use ranges::between;
 ghost use mathlib.Core.Path.{_≡_};
 ghost use Rattle.p5.specs.Headers.{isWhite, isDigit};
 
@@ -21,5 +21,5 @@ pub fn is_white(byte: u8) -> bool
 pub fn is_digit(byte: u8) -> bool
     ensures { λ r. ⌜ r ≡ isDigit byte ⌝ }
 {
-    between(48, wide(byte), 57)
+    between(48, value(byte), 57)
 }

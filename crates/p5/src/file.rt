@@ -2,10 +2,10 @@
 use crate::header::Header;
 use crate::header::Walk;
 use crate::header::walk_header;
-use crate::ranges::count_fits;
-use crate::ranges::first_above;
-use crate::ranges::largest_fits;
-use crate::ranges::sides_fit;
+use crate::samples::count_fits;
+use crate::samples::first_above;
+use crate::samples::largest_fits;
+use ranges::sides_fit;
 ghost use mathlib.Core.Path.{_≡_};
 ghost use Rattle.p5.specs.Headers.{beginsP5};
 ghost use Rattle.p5.specs.Files.{onPixels, onHeader, readFile, malformedAt};

@@ -3,5 +3,5 @@ pub mod characters;
 pub mod field;
 pub mod file;
 pub mod header;
-pub mod ranges;
 pub mod reader;
+pub mod samples;

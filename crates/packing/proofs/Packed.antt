@@ -1,22 +1,16 @@
 -- Laws of 16-bit entries packed in bytes: one entry more, and zeros.
 use mathlib.Core.Path.{_≡_, refl, sym, ap, ap₂, subst, _∙_}
 use mathlib.Core.List.{List, [], _∷_, _++_, append-assoc, append-nil}
-use Prim.Native.Nat.{ℕ, zero, suc, _+_, _*_, _/_, _%_, _≤_, _<_}
+use Prim.Native.Nat.{ℕ, zero, suc, _+_, _*_, _<_}
 use native.Mathlib.Omega.{arith}
 use native.Mathlib.Numerals.{add-one}
 use lib.ListN.{length, getD, take, drop, set, replicate}
 use lib.Seq.{take-suc}
-use Rattle.lists.specs.Lists.{over}
 use Rattle.lists.proofs.Filling.{written-next}
 use Rattle.text.specs.Little.{littleEndian}
-use Rattle.text.specs.Writing.{Written}
-use Rattle.text.proofs.Writings.{written-then}
+use Rattle.lists.specs.Writing.{Written}
+use Rattle.lists.proofs.Writings.{written-then}
 use Rattle.packing.specs.Packing.{entryAt, entries, packed}
-
--- bytes written from the beginning stand over what was there
-pub written-front : {bytes o o′ : List ℕ} {to : ℕ} → Written 0 bytes o to o′ → o′ ≡ over bytes o
-written-front {bytes} {o} {o′} {to} w =
-    let e : to ≡ length bytes = w .end ∙ omega arith in w .whole ∙ ap (λ (n : ℕ). bytes ++ drop n o) e
 
 -- one entry more is unpacked
 pub unpacked-next :
@@ -25,14 +19,6 @@ pub unpacked-next :
 unpacked-next bytes cells new i v h e w =
     ap₂ (λ (l : List ℕ) (x : ℕ). set l i x) e w ∙
     (written-next (entryAt bytes) i cells h ∙ ap (λ (n : ℕ). entries n bytes ++ drop n cells) (sym (add-one i)))
-
--- an entry is written by its low and its high byte
-pub entry-written :
-    (x : ℕ) {at m to : ℕ} {a b c : List ℕ} → x < 65536 → at ≤ length a →
-    Written at (x % 256 ∷ []) a m b → Written m (x / 256 ∷ []) b to c → Written at (littleEndian 2 x) a to c
-entry-written x {at} {m} {to} {a} {b} {c} h r v w =
-    let e : x / 256 ≡ x / 256 % 256 = omega arith in
-    subst (λ (y : ℕ). Written at (x % 256 ∷ y ∷ []) a to c) e (written-then r v w)
 
 packed-append : (xs ys : List ℕ) → packed (xs ++ ys) ≡ packed xs ++ packed ys
 packed-append [] ys = refl

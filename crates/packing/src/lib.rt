@@ -1,11 +1,9 @@
 // 16-bit entries packed in bytes, two bytes an entry, the lowest first.
-use text::put;
+use text::put_little;
 ghost use mathlib.Core.Path.{_≡_};
 ghost use Prim.Native.Nat.{_+_, _*_, _≤_};
 ghost use lib.ListN.{length, take};
 ghost use Rattle.lists.specs.Lists.{over};
-ghost use Rattle.text.specs.Little.{littleEndian};
-ghost use Rattle.text.specs.Writing.{Written};
 ghost use Rattle.packing.specs.Packing.{entries, packed};
 
 // The entry of two bytes.
@@ -27,15 +25,6 @@ pub fn unpack(bytes: &[u8], cells: &mut [u16], m: usize)
     }
 }
 
-// Writes an entry and answers the place behind it.
-fn put_entry(bytes: &mut [u8], at: usize, value: u16) -> usize
-    requires { ⌜ at + 2 ≤ length (now bytes) ⌝ }
-    ensures { λ r. ⌜ Written at (littleEndian 2 value) (now (bytes .entry)) r (now (bytes .exit)) ⌝ }
-{
-    let next = put(bytes, at, (value % 256) as u8);
-    put(bytes, next, (value / 256) as u8)
-}
-
 // The first m entries of the bytes become the first m cells.
 pub fn pack(cells: &[u16], bytes: &mut [u8], m: usize)
     requires { ⌜ (m ≤ length (now cells)) × (2 * m ≤ length (now bytes)) ⌝ }
@@ -44,7 +33,7 @@ pub fn pack(cells: &[u16], bytes: &mut [u8], m: usize)
     let mut next = 0;
     let mut i = 0;
     while i < m {
-        next = put_entry(bytes, next, cells[i]);
+        next = put_little(bytes, next, cells[i] as u64, 2);
         i += 1;
     }
 }

@@ -3,7 +3,7 @@ ghost use Prim.Native.Nat.{_≤_};
 ghost use lib.ListN.{length};
 ghost use Rattle.io.specs.Counts.{Counts};
 ghost use Rattle.text.specs.Decimal.{fields};
-ghost use Rattle.text.specs.Writing.{Written};
+ghost use Rattle.lists.specs.Writing.{Written};
 ghost use Rattle.read_report.specs.Reports.{report};
 
 // Writes the line of a file and answers the place behind it.

@@ -1,3 +1,3 @@
 -- Laws of decimal numbers and of what is written.
 pub mod Decimals
-pub mod Writings
+pub mod NumbersWritten

@@ -1,4 +1,3 @@
 -- Numbers as decimal digits and as bytes, written behind one another.
 pub mod Decimal
 pub mod Little
-pub mod Writing

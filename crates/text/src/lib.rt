@@ -4,7 +4,7 @@ ghost use Prim.Native.Nat.{suc, _+_, _<_, _≤_};
 ghost use lib.ListN.{length};
 ghost use Rattle.text.specs.Decimal.{decimal, fields};
 ghost use Rattle.text.specs.Little.{littleEndian};
-ghost use Rattle.text.specs.Writing.{Written};
+ghost use Rattle.lists.specs.Writing.{Written};
 
 // Writes one byte and answers the place behind it.
 pub fn put(out: &mut [u8], at: usize, byte: u8) -> usize

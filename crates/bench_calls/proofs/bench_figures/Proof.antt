@@ -22,7 +22,7 @@ fill-figures-requires c κs =
     admitted (pictureOf (s .args .a) (s .args .w) (s .args .h) (s .args .pixels .now)) _ (sym (t .work-fault .ensures) ∙ c .before .if1 .left)
     (λ i. let q = known .given i in omega arith)
     in
-    (a .picture, a .room)
+    (a .picture, a .faultless .room)
 
 same-length : tie.Need-same-length
 same-length c = search needs

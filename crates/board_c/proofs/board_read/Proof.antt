@@ -3,9 +3,9 @@ use mathlib.Core.Path.{_≡_, sym, subst, _∙_}
 use mathlib.Core.List.{List}
 use Prim.Native.Nat.{ℕ, _≤_}
 use lib.ListN.{length}
-use Rattle.text.specs.Writing.{Written}
+use Rattle.lists.specs.Writing.{Written}
 use native.Mathlib.Omega.{arith}
-use Rattle.text.proofs.Writings.{written-then}
+use Rattle.lists.proofs.Writings.{written-then}
 use Rattle.board_c.proofs.ForC.{read-fault, read-room, read-refused, read-done, header-is}
 use Rattle.board_c.specs.CalledByC.{readFaultForC}
 use borrow.Author.Needs.{needs}

@@ -1,7 +1,7 @@
 -- `board_c::put_pair` meets its contract.
 use native.Mathlib.Omega.{arith}
 use Rattle.text.specs.Little.{littleEndian}
-use Rattle.text.proofs.Writings.{written-then}
+use Rattle.lists.proofs.Writings.{written-then}
 use borrow.Author.Needs.{needs}
 use Rattle.board_c.proofs.put_pair.Statement.{statement}
 use Rattle.board_c.proofs.put_pair.Tie as tie

@@ -1,5 +1,5 @@
 -- `edges::print_case` is safe: the text lies within the memory.
-use Rattle.text.proofs.Writings.{text-within}
+use Rattle.lists.proofs.Writings.{text-within}
 use borrow.Author.Needs.{needs}
 use Rattle.edges.proofs.print_case.Statement.{statement}
 use Rattle.edges.proofs.print_case.Tie as tie

@@ -1,5 +1,5 @@
 -- `edges::print_file` is safe: the name and the file lie within the memory.
-use Rattle.text.proofs.Writings.{text-within}
+use Rattle.lists.proofs.Writings.{text-within}
 use borrow.Author.Needs.{needs}
 use Rattle.edges.proofs.print_file.Statement.{statement}
 use Rattle.edges.proofs.print_file.Tie as tie

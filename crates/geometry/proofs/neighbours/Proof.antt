@@ -7,7 +7,7 @@ use borrow.Author.Needs.{needs}
 use Rattle.geometry.specs.Steps.{stepAt}
 use Rattle.picture.proofs.Sides.{area-most}
 use Rattle.geometry.proofs.Steps.{step-unit}
-use Rattle.geometry.proofs.Front.{Front, stride-some, stride-most, front-start, front-turn, front-end, place-digits, put-digits}
+use Rattle.geometry.proofs.Front.{Front, stride-some, stride-most, front-start, front-size, front-turn, front-end, place-digits, put-digits}
 use Rattle.geometry.proofs.neighbours.Statement.{statement}
 use Rattle.geometry.proofs.neighbours.Tie as tie
 
@@ -51,7 +51,7 @@ put-step-requires c κs =
         placed = place-digits _ _ _ p;
         in-row = mod-lt (s .args .x) (p .some);
         unit = step-unit (l .i);
-        room = omega (arith, l .inv .large, l .inv .size, l .inv .under, c .before .before .loop-test .taken);
+        room = omega (arith, l .inv .large, front-size _ _ _ _ _ _ _ _ (l .inv), l .inv .under, c .before .before .loop-test .taken);
       },
       c .before .before .before .before .before .is-inner .ensures,
     )
@@ -72,11 +72,11 @@ loop-again c =
     let top = test .before in
     let s = top .before .before .before .before .args in
     rw (top .before .stride .ensures)
-    (front-turn _ _ _ _ _ _ _ _ _ _ (top .loop .inv) (test .loop-test .taken)
+    (front-turn _ _ _ _ _ _ _ _ (top .loop .inv) _ _ (test .loop-test .taken)
     (put-digits (s .w) (s .h) (s .x) (stepAt (top .loop .i) ∷ []) _ _ _ _ (c .before .before .put-step .ensures)))
 
 same-length : tie.Need-same-length Inv-loop μ-loop
-same-length c = search needs
+same-length c = front-size _ _ _ _ _ _ _ _ (c .before .loop .inv)
 
 returns : tie.Need-returns Inv-loop μ-loop
 returns c = front-end _ _ _ _ _ _ _ _ (c .before .loop .inv) (c .loop-test .left)

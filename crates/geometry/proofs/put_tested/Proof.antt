@@ -1,7 +1,6 @@
 -- `geometry::put_tested` meets its contract: each return is one law of what is put.
-use mathlib.Core.Path.{sym, _∙_}
 use native.Mathlib.Omega.{arith}
-use borrow.Author.Tests.{not-true, not-false}
+use Rattle.lists.proofs.Tests.{was-true, was-false}
 use Rattle.geometry.proofs.Front.{right-fits, down-fits, step-leads, target-place, put-beside, put-beyond, put-written}
 use borrow.Author.Needs.{needs}
 use Rattle.geometry.proofs.put_tested.Statement.{statement}
@@ -19,46 +18,46 @@ plus-one-requires-2 c κs = search needs
 add-down : tie.Need-add-down
 add-down c = let f = down-fits _ _ _ _ _ _ _ (c .before .before .before .before .before .pre) _ (c .plus-one2 .ensures) in record { fits = omega arith }
 
-inside-requires : tie.Need-inside-requires
-inside-requires c κs = search needs
+between-requires : tie.Need-between-requires
+between-requires c κs = search needs
 
 returns : tie.Need-returns
 returns c =
-    let t = c .before .inside in
+    let t = c .before .between in
     put-beside _ _ _ _ _ _ (step-leads _ _ _ _ _ _ _ (c .before .before .before .before .before .before .before .pre) _ _ (c .before .before .before .before .plus-one .ensures) (c .before .before .plus-one2 .ensures)) _ _
-    (sym (t .ensures) ∙ not-true (t .result) (c .if1 .taken))
+    (was-false (t .ensures) (c .if1 .taken))
 
-inside-requires-2 : tie.Need-inside-requires-2
-inside-requires-2 c κs = search needs
+between-requires-2 : tie.Need-between-requires-2
+between-requires-2 c κs = search needs
 
 returns-2 : tie.Need-returns-2
 returns-2 c =
-    let t = c .before .before .before .inside in
-    let u = c .before .inside2 in
+    let t = c .before .before .before .between in
+    let u = c .before .between2 in
     put-beyond _ _ _ _ _ _ (step-leads _ _ _ _ _ _ _ (c .before .before .before .before .before .before .before .before .before .pre) _ _ (c .before .before .before .before .before .before .plus-one .ensures) (c .before .before .before .before .plus-one2 .ensures)) _ _
-    (sym (t .ensures) ∙ not-false (t .result) (c .before .before .if1 .left))
-    (sym (u .ensures) ∙ not-true (u .result) (c .if2 .taken))
+    (was-true (t .ensures) (c .before .before .if1 .left))
+    (was-false (u .ensures) (c .if2 .taken))
 
 put-place-requires : tie.Need-put-place-requires
 put-place-requires c κs =
-    let t = c .before .before .before .before .inside in
-    let u = c .before .before .inside2 in
+    let t = c .before .before .before .before .between in
+    let u = c .before .before .between2 in
     target-place _ _ _ _ _ _ _ (c .before .before .before .before .before .before .before .before .before .before .pre) _ _ (c .before .before .before .before .before .before .before .plus-one .ensures) (c .before .before .before .before .before .plus-one2 .ensures)
-    (sym (t .ensures) ∙ not-false (t .result) (c .before .before .before .if1 .left))
-    (sym (u .ensures) ∙ not-false (u .result) (c .before .if2 .left))
+    (was-true (t .ensures) (c .before .before .before .if1 .left))
+    (was-true (u .ensures) (c .before .if2 .left))
 
 same-length : tie.Need-same-length
 same-length c = search needs
 
 returns-3 : tie.Need-returns-3
 returns-3 c =
-    let t = c .before .before .before .before .before .before .before .inside in
-    let u = c .before .before .before .before .before .inside2 in
+    let t = c .before .before .before .before .before .before .before .between in
+    let u = c .before .before .before .before .before .between2 in
     let p = c .before .before .before .before .before .before .before .before .before .before .before .before .before .pre in
     let q = c .before .before .put-place .ensures in
     put-written _ _ _ _ _ _ (step-leads _ _ _ _ _ _ _ p _ _ (c .before .before .before .before .before .before .before .before .before .before .plus-one .ensures) (c .before .before .before .before .before .before .before .before .plus-one2 .ensures)) _ _ _ _
-    (sym (t .ensures) ∙ not-false (t .result) (c .before .before .before .before .before .before .if1 .left))
-    (sym (u .ensures) ∙ not-false (u .result) (c .before .before .before .before .if2 .left))
+    (was-true (t .ensures) (c .before .before .before .before .before .before .if1 .left))
+    (was-true (u .ensures) (c .before .before .before .before .if2 .left))
     (p .room)
     (q .0)
     (q .1)
@@ -71,9 +70,9 @@ put-tested-spec =
     add-right
     plus-one-requires-2
     add-down
-    inside-requires
+    between-requires
     returns
-    inside-requires-2
+    between-requires-2
     returns-2
     put-place-requires
     same-length

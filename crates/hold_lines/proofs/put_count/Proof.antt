@@ -1,6 +1,6 @@
 -- `hold_lines::put_count` meets its contract.
 use native.Mathlib.Omega.{arith}
-use Rattle.text.proofs.Writings.{written-then, written-length}
+use Rattle.lists.proofs.Writings.{written-then, written-length}
 use Rattle.text.proofs.Decimals.{five-digits}
 use borrow.Author.Needs.{needs}
 use Rattle.hold_lines.proofs.put_count.Statement.{statement}

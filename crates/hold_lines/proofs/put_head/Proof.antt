@@ -4,8 +4,8 @@ use mathlib.Core.List.{List, [], _∷_}
 use Prim.Native.Nat.{ℕ}
 use native.Mathlib.Omega.{arith}
 use Rattle.text.specs.Decimal.{decimal, fields}
-use Rattle.text.specs.Writing.{Written}
-use Rattle.text.proofs.Writings.{written-then, written-length}
+use Rattle.lists.specs.Writing.{Written}
+use Rattle.lists.proofs.Writings.{written-then, written-length}
 use Rattle.hold_lines.specs.Lines.{pictureWord, patchesWord, lineWord}
 use Rattle.hold_lines.proofs.Lengths.{head-is}
 use Rattle.text.proofs.Decimals.{one-length, two-length}

@@ -6,7 +6,7 @@ use native.Mathlib.Omega.{arith}
 use lib.ListN.{length}
 use Rattle.picture.specs.Patches.{centre}
 use Rattle.text.specs.Decimal.{fields}
-use Rattle.text.specs.Writing.{Written}
+use Rattle.lists.specs.Writing.{Written}
 use Rattle.hold_lines.proofs.Lengths.{line-length, centre-most, line-is}
 use borrow.Author.Needs.{needs}
 use Rattle.hold_lines.proofs.put_line.Statement.{statement}

@@ -5,8 +5,8 @@ use Prim.Native.Nat.{ℕ, _+_, _-_, _*_, _≤_}
 use native.Mathlib.Omega.{arith}
 use borrow.Author.Needs.{needs}
 use Rattle.lists.specs.Lists.{range}
-use Rattle.text.specs.Writing.{Written}
-use Rattle.text.proofs.Writings.{written-length, lines-none, lines-next}
+use Rattle.lists.specs.Writing.{Written}
+use Rattle.lists.proofs.Writings.{written-length, lines-none, lines-next}
 use Rattle.hold_lines.specs.Figures.{lineAt}
 use Rattle.hold_lines.proofs.put_lines.Statement.{statement}
 use Rattle.hold_lines.proofs.put_lines.Tie as tie

@@ -1,6 +1,6 @@
 -- `hold_lines::put_word` meets its contract.
 use native.Mathlib.Omega.{arith}
-use Rattle.text.proofs.Writings.{written-then}
+use Rattle.lists.proofs.Writings.{written-then}
 use borrow.Author.Needs.{needs}
 use Rattle.hold_lines.proofs.put_word.Statement.{statement}
 use Rattle.hold_lines.proofs.put_word.Tie as tie

@@ -4,7 +4,7 @@ use mathlib.Core.List.{List}
 use Prim.Native.Nat.{ℕ}
 use native.Mathlib.Omega.{arith}
 use Rattle.picture.specs.Pictures.{Picture, pictureOf}
-use Rattle.text.specs.Writing.{Written}
+use Rattle.lists.specs.Writing.{Written}
 use Rattle.hold_list.proofs.Texts.{water-picture, holds-are}
 use borrow.Author.Needs.{needs}
 use Rattle.hold_list.proofs.put_holds_with.Statement.{statement}

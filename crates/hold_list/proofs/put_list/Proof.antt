@@ -7,8 +7,8 @@ use lib.ListN.{length}
 use Rattle.picture.specs.Pictures.{Picture, pictureOf}
 use Rattle.topology.proofs.Accepted.{Accepted, accepted-is}
 use Rattle.patches.specs.Figures.{PatchMap}
-use Rattle.text.specs.Writing.{Written}
-use Rattle.text.proofs.Writings.{written-then, written-length}
+use Rattle.lists.specs.Writing.{Written}
+use Rattle.lists.proofs.Writings.{written-then, written-length}
 use Rattle.answers.proofs.Calls.{lent-length}
 use Rattle.hold_list.proofs.Figured.{line-few, count-most, figured-lists, list-is}
 use borrow.Author.Needs.{needs}

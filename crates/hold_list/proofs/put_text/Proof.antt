@@ -6,7 +6,7 @@ use native.Mathlib.Omega.{arith}
 use Rattle.picture.specs.Pictures.{isPicture, pictureOf}
 use Rattle.p5.specs.Files.{readFile, numberOf}
 use Rattle.p5.proofs.Answers.{answer-within}
-use Rattle.text.specs.Writing.{Written}
+use Rattle.lists.specs.Writing.{Written}
 use Rattle.hold_lines.specs.Lines.{refusedLine}
 use Rattle.hold_list.specs.HoldText.{pictureIn, holdList}
 use Rattle.hold_list.proofs.Figured.{from}

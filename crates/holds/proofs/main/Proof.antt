@@ -1,6 +1,6 @@
 -- `holds::main` is safe: the text that it writes lies within the memory.
 use borrow.Author.Needs.{needs}
-use Rattle.text.proofs.Writings.{text-within}
+use Rattle.lists.proofs.Writings.{text-within}
 use Rattle.holds.proofs.main.Statement.{statement}
 use Rattle.holds.proofs.main.Tie as tie
 

@@ -5,10 +5,10 @@ use native.Mathlib.Omega.{arith}
 use lib.ListN.{length, take}
 use borrow.Author.Needs.{needs}
 use Rattle.lists.specs.Lists.{over}
-use Rattle.text.specs.Writing.{Written}
-use Rattle.text.proofs.Writings.{written-none}
+use Rattle.lists.specs.Writing.{Written}
+use Rattle.lists.proofs.Writings.{written-none, written-front}
 use Rattle.packing.specs.Packing.{packed}
-use Rattle.packing.proofs.Packed.{written-front, packed-next}
+use Rattle.packing.proofs.Packed.{packed-next}
 use Rattle.packing.proofs.pack.Statement.{statement}
 use Rattle.packing.proofs.pack.Tie as tie
 
@@ -21,14 +21,17 @@ abbrev μ-loop : tie.MeasureT-loop
 loop-holds : tie.Need-loop-holds Inv-loop μ-loop
 loop-holds c = (search needs, refl, refl, written-none (c .before .before .args .bytes .now) 0)
 
-mul-put-entry : tie.Need-mul-put-entry Inv-loop μ-loop
-mul-put-entry c = search needs
+mul-put-little : tie.Need-mul-put-little Inv-loop μ-loop
+mul-put-little c = search needs
 
-shared-slice-read-put-entry : tie.Need-shared-slice-read-put-entry Inv-loop μ-loop
-shared-slice-read-put-entry c = search needs
+shared-slice-read-put-little : tie.Need-shared-slice-read-put-little Inv-loop μ-loop
+shared-slice-read-put-little c = search needs
 
-put-entry-requires : tie.Need-put-entry-requires Inv-loop μ-loop
-put-entry-requires c κs = search needs
+cast-put-little : tie.Need-cast-put-little Inv-loop μ-loop
+cast-put-little c = omega (arith, c .shared-slice-known2 .given (c .before .before .before .loop .i))
+
+put-little-requires : tie.Need-put-little-requires Inv-loop μ-loop
+put-little-requires c κs = search needs
 
 add-i : tie.Need-add-i Inv-loop μ-loop
 add-i c = search needs
@@ -40,7 +43,7 @@ loop-again : tie.Need-loop-again Inv-loop μ-loop
 loop-again c =
     let s = c .before .before .before .before .before .before .before .before .before in
     let l = c .before .before .before .before .before .before .loop in
-    let t = c .before .before .put-entry in
+    let t = c .before .before .put-little in
     let w = packed-next (s .args .cells .now) (s .args .bytes .now) (l .bytes) (t .last .0) (l .next) (t .result) (l .i) (omega arith) (l .inv .3) (t .ensures) in
     (search needs, omega (arith, t .ensures .end), search needs, w)
 
@@ -61,9 +64,10 @@ pack-spec =
     Inv-loop
     μ-loop
     loop-holds
-    mul-put-entry
-    shared-slice-read-put-entry
-    put-entry-requires
+    mul-put-little
+    shared-slice-read-put-little
+    cast-put-little
+    put-little-requires
     add-i
     loop-less
     loop-again

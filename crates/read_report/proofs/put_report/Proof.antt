@@ -3,7 +3,7 @@ use native.Mathlib.Omega.{arith}
 use borrow.Author.Needs.{needs}
 use denote.Ref.{now}
 use Rattle.io.proofs.Counting.{counts}
-use Rattle.text.proofs.Writings.{written-length}
+use Rattle.lists.proofs.Writings.{written-length}
 use Rattle.p5.proofs.Answers.{answer-within}
 use Rattle.p5.proofs.Places.{place-within}
 use Rattle.read_report.proofs.Lines.{line-room, report-is}

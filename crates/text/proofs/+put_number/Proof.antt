@@ -1,7 +1,8 @@
 -- `text::put_number` meets its contract: the digits but the last, then the last. The number falls.
 use borrow.Author.Needs.{needs}
 use native.Mathlib.Omega.{arith}
-use Rattle.text.proofs.Writings.{written-length, number-one, number-more, number-room, number-some}
+use Rattle.lists.proofs.Writings.{written-length}
+use Rattle.text.proofs.NumbersWritten.{number-one, number-more, number-room, number-some}
 use Prim.Native.Nat.{ℕ, _<_, _≤_}
 use borrow.Fn.Kinds.{In}
 use borrow.Fn.PlainCycle.{Measures, is, falls, and}

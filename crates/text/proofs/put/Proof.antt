@@ -1,6 +1,6 @@
 -- `text::put` meets its contract.
 use borrow.Author.Needs.{needs}
-use Rattle.text.proofs.Writings.{written-byte}
+use Rattle.lists.proofs.Writings.{written-byte}
 use Rattle.text.proofs.put.Statement.{statement}
 use Rattle.text.proofs.put.Tie as tie
 

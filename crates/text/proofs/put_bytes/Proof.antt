@@ -6,8 +6,8 @@ use native.Mathlib.Omega.{arith}
 use lib.ListN.{length, take}
 use lib.Seq.{length-take-le, take-all}
 use borrow.Author.Needs.{needs}
-use Rattle.text.specs.Writing.{Written}
-use Rattle.text.proofs.Writings.{written-none, written-length, written-next}
+use Rattle.lists.specs.Writing.{Written}
+use Rattle.lists.proofs.Writings.{written-none, written-length, written-next}
 use Rattle.text.proofs.put_bytes.Statement.{statement}
 use Rattle.text.proofs.put_bytes.Tie as tie
 

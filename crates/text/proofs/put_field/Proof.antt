@@ -1,6 +1,6 @@
 -- `text::put_field` meets its contract.
 use native.Mathlib.Omega.{arith}
-use Rattle.text.proofs.Writings.{written-then}
+use Rattle.lists.proofs.Writings.{written-then}
 use borrow.Author.Needs.{needs}
 use Rattle.text.proofs.put_field.Statement.{statement}
 use Rattle.text.proofs.put_field.Tie as tie

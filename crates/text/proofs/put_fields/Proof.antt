@@ -5,8 +5,9 @@ use native.Mathlib.Omega.{arith}
 use borrow.Author.Needs.{needs}
 use lib.ListN.{length, take}
 use Rattle.text.proofs.Decimals.{spaced}
-use Rattle.text.specs.Writing.{Written}
-use Rattle.text.proofs.Writings.{written-none, written-length, spaced-more, fields-done, field-room}
+use Rattle.lists.specs.Writing.{Written}
+use Rattle.lists.proofs.Writings.{written-none, written-length}
+use Rattle.text.proofs.NumbersWritten.{spaced-more, fields-done, field-room}
 use Rattle.text.proofs.put_fields.Statement.{statement}
 use Rattle.text.proofs.put_fields.Tie as tie
 

@@ -6,8 +6,9 @@ use native.Mathlib.Omega.{arith}
 use borrow.Author.Needs.{needs}
 use lib.ListN.{length}
 use Rattle.text.specs.Little.{littleEndian}
-use Rattle.text.specs.Writing.{Written}
-use Rattle.text.proofs.Writings.{written-length, little-none, little-more}
+use Rattle.lists.specs.Writing.{Written}
+use Rattle.lists.proofs.Writings.{written-length}
+use Rattle.text.proofs.NumbersWritten.{little-none, little-more}
 use Rattle.text.proofs.put_little.Statement.{statement}
 use Rattle.text.proofs.put_little.Tie as tie
 

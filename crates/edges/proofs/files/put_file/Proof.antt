@@ -3,8 +3,8 @@ use mathlib.Core.Path.{subst}
 use Prim.Native.Nat.{ℕ}
 use native.Mathlib.Omega.{arith}
 use lib.ListN.{length-replicate}
-use Rattle.text.specs.Writing.{Written}
-use Rattle.text.proofs.Writings.{written-then, written-length}
+use Rattle.lists.specs.Writing.{Written}
+use Rattle.lists.proofs.Writings.{written-then, written-length}
 use Rattle.edges.specs.EdgeFiles.{edgePixels}
 use borrow.Author.Needs.{needs}
 use Rattle.edges.proofs.files.put_file.Statement.{statement}

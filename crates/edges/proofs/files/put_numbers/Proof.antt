@@ -1,6 +1,6 @@
 -- `edges::files::put_numbers` meets its contract.
 use native.Mathlib.Omega.{arith}
-use Rattle.text.proofs.Writings.{written-then, written-length}
+use Rattle.lists.proofs.Writings.{written-then, written-length}
 use Rattle.text.proofs.Decimals.{one-length, two-length}
 use borrow.Author.Needs.{needs}
 use Rattle.edges.proofs.files.put_numbers.Statement.{statement}

@@ -3,8 +3,8 @@ use mathlib.Core.Path.{_≡_, subst}
 use mathlib.Core.List.{[], _∷_}
 use Prim.Native.Nat.{ℕ, _+_, _-_, _≤_}
 use native.Mathlib.Omega.{arith}
-use Rattle.text.specs.Writing.{Written}
-use Rattle.text.proofs.Writings.{written-length, lines-none, lines-next}
+use Rattle.lists.specs.Writing.{Written}
+use Rattle.lists.proofs.Writings.{written-length, lines-none, lines-next}
 use Rattle.edges.specs.EdgeFiles.{edgePixel, edgePixels}
 use borrow.Author.Needs.{needs}
 use Rattle.edges.proofs.files.put_pixels.Statement.{statement}

@@ -3,7 +3,7 @@ use mathlib.Core.Path.{subst}
 use mathlib.Core.List.{List}
 use Prim.Native.Nat.{ℕ}
 use native.Mathlib.Omega.{arith}
-use Rattle.text.specs.Writing.{Written}
+use Rattle.lists.specs.Writing.{Written}
 use Rattle.edges.proofs.Sizes.{take-replicate, front-length}
 use borrow.Author.Needs.{needs}
 use Rattle.edges.proofs.files.put_spaces.Statement.{statement}

@@ -1,9 +1,9 @@
--- `p5::ranges::count_fits` meets its contract.
+-- `p5::samples::count_fits` meets its contract.
 use native.Mathlib.Omega.{arith}
 use borrow.Author.Needs.{needs}
 use Rattle.p5.proofs.Answers.{area}
-use Rattle.p5.proofs.ranges.count_fits.Statement.{statement}
-use Rattle.p5.proofs.ranges.count_fits.Tie as tie
+use Rattle.p5.proofs.samples.count_fits.Statement.{statement}
+use Rattle.p5.proofs.samples.count_fits.Tie as tie
 
 mul-places : tie.Need-mul-places
 mul-places c = omega (arith, area (c .args .width) (c .args .height) (c .pre))

@@ -1,7 +1,7 @@
--- `p5::ranges::between` meets its contract.
+-- `ranges::between` meets its contract.
 use borrow.Author.Tests.{le-leb, lt-leb}
-use Rattle.p5.proofs.ranges.between.Statement.{statement}
-use Rattle.p5.proofs.ranges.between.Tie as tie
+use Rattle.ranges.proofs.between.Statement.{statement}
+use Rattle.ranges.proofs.between.Tie as tie
 
 returns : tie.Need-returns
 returns c = rw (lt-leb _ _ (c .if1 .taken))

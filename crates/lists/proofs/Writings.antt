@@ -1,17 +1,15 @@
--- Laws of writing: nothing, one byte, more behind it.
+-- Laws of writing: nothing, one entry, more behind it; lengths; the values of a function one after the other.
 use mathlib.Core.Path.{_≡_, refl, sym, ap, subst, _∙_}
 use mathlib.Core.List.{List, [], _∷_, _++_, append-assoc, flatMap}
-use Prim.Native.Nat.{ℕ, suc, _+_, _-_, _/_, _%_, _≤_, _<_}
+use Prim.Native.Nat.{ℕ, _+_, _≤_, _<_}
 use native.Mathlib.Omega.{arith}
 use native.Mathlib.Numerals.{add-one}
 use lib.ListN.{length, getD, take, drop, set, length-append, length-drop, take-append-drop}
-use lib.Seq.{set-split, take-suc, take-at, drop-at, length-take-le, drop-drop}
-use Rattle.lists.specs.Lists.{range}
+use lib.Seq.{set-split, take-suc, take-at, drop-at, length-take-le}
+use Rattle.lists.specs.Lists.{range, over}
+use Rattle.lists.specs.Writing.{Written}
 use Rattle.lists.proofs.Lists.{flatMap-next}
-use Rattle.text.specs.Decimal.{decimal, fields}
-use Rattle.text.specs.Little.{littleEndian}
-use Rattle.text.proofs.Decimals.{spaced, decimal-one, decimal-more, fields-last, spaced-next, spaced-room}
-use Rattle.text.specs.Writing.{Written}
+use Rattle.lists.proofs.Cuts.{drop-more}
 
 pub written-byte : (l : List ℕ) (at b : ℕ) → at < length l → Written at (b ∷ []) l (at + 1) (set l at b)
 written-byte l at b h = record { end = refl; whole = set-split l at b h ∙ ap (λ (n : ℕ). take at l ++ (b ∷ drop n l)) (sym (add-one at)) }
@@ -52,10 +50,7 @@ written-then {at} {m} {to} {xs} {ys} {a} {b} {c} h p q =
     behind = ap (drop m) b-is ∙ drop-at (take at a ++ xs) (drop m a) m long
 
     back : drop to b ≡ drop to a
-    back =
-        ap (λ (n : ℕ). drop n b) (q .end) ∙
-        (sym (drop-drop (length ys) m b) ∙
-        (ap (drop (length ys)) behind ∙ (drop-drop (length ys) m a ∙ ap (λ (n : ℕ). drop n a) (sym (q .end)))))
+    back = let g = q .end in drop-more m to b a (omega arith) behind
 
 pub written-length : {at to : ℕ} {xs a b : List ℕ} → to ≤ length a → Written at xs a to b → length b ≡ length a
 written-length {at} {to} {xs} {a} {b} h p =
@@ -78,62 +73,10 @@ written-next bytes a b at i h r w =
     (sym (ap (λ (n : ℕ). take n bytes) (add-one i) ∙ take-suc bytes i 0 h))
     (written-then (omega arith) w (written-byte b (at + i) (getD bytes i 0) (omega arith))))
 
--- a number by its last digit
-pub number-one : (n : ℕ) {at to : ℕ} {a b : List ℕ} → n < 10 → Written at ((48 + n) ∷ []) a to b → Written at (decimal n) a to b
-number-one n {at} {to} {a} {b} h w = subst (λ (xs : List ℕ). Written at xs a to b) (sym (decimal-one n h)) w
-
-pub number-more :
-    (n : ℕ) {at m to : ℕ} {a b c : List ℕ} → 10 ≤ n → at ≤ length a →
-    Written at (decimal (n / 10)) a m b → Written m ((48 + n % 10) ∷ []) b to c → Written at (decimal n) a to c
-number-more n {at} {m} {to} {a} {b} {c} h r v w =
-    subst (λ (xs : List ℕ). Written at xs a to c) (sym (decimal-more n h)) (written-then r v w)
-
--- room for all digits but the last, and then for the last
-pub number-room : (n : ℕ) → 10 ≤ n → suc (length (decimal (n / 10))) ≡ length (decimal n)
-number-room n h =
-    let e = ap length (decimal-more n h) ∙ length-append (decimal (n / 10)) ((48 + n % 10) ∷ []) in omega arith
-
-pub number-some : (n : ℕ) → n < 10 → length (decimal n) ≡ 1
-number-some n h = ap length (decimal-one n h)
-
--- one number more of a line, and the last one with the byte that ends it
-pub spaced-more :
-    (ns a b c : List ℕ) (at to next i : ℕ) → i < length ns → at ≤ length a →
-    Written at (spaced (take i ns)) a to b → Written to (decimal (getD ns i 0) ++ (32 ∷ [])) b next c → Written at (spaced (take (i + 1) ns)) a next c
-spaced-more ns a b c at to next i h r v w =
-    subst (λ (xs : List ℕ). Written at xs a next c)
-    (sym (ap (λ (n : ℕ). spaced (take n ns)) (add-one i) ∙ spaced-next ns i h))
-    (written-then r v w)
-
-pub fields-done :
-    (ns a b c : List ℕ) (at to next i : ℕ) {byte : ℕ} → suc i ≡ length ns → at ≤ length a →
-    Written at (spaced (take i ns)) a to b → Written to (decimal (getD ns i 0) ++ (byte ∷ [])) b next c → byte ≡ 10 →
-    Written at (fields ns) a next c
-fields-done ns a b c at to next i h r v w e =
-    subst (λ (xs : List ℕ). Written at xs a next c)
-    (ap (λ (n : ℕ). spaced (take i ns) ++ (decimal (getD ns i 0) ++ (n ∷ []))) e ∙ sym (fields-last ns i h))
-    (written-then r v w)
-
--- room for the number at i behind those before it
-pub field-room :
-    (ns a b : List ℕ) (at to i : ℕ) → i < length ns → at + length (fields ns) ≤ length a →
-    Written at (spaced (take i ns)) a to b → to + suc (length (decimal (getD ns i 0))) ≤ length b
-field-room ns a b at to i h r w =
-    let e = w .end in
-    let k = spaced-room ns i h in
-    let l = written-length (omega arith) w in
-    omega arith
-
--- no byte of a number, and one byte before the others
-pub little-none : (l n at : ℕ) (a : List ℕ) → l ≡ 0 → Written at (littleEndian l n) a at a
-little-none l n at a e = subst (λ (k : ℕ). Written at (littleEndian k n) a at a) (sym e) (written-none a at)
-
-pub little-more :
-    (l n : ℕ) {at m to : ℕ} {a b c : List ℕ} → 1 ≤ l → at ≤ length a →
-    Written at (n % 256 ∷ []) a m b → Written m (littleEndian (l - 1) (n / 256)) b to c → Written at (littleEndian l n) a to c
-little-more l n {at} {m} {to} {a} {b} {c} h r v w =
-    let e : suc (l - 1) ≡ l = omega arith in
-    subst (λ (k : ℕ). Written at (littleEndian k n) a to c) e (written-then r v w)
+-- written from the beginning: in front of what was there
+pub written-front : {xs o o′ : List ℕ} {to : ℕ} → Written 0 xs o to o′ → o′ ≡ over xs o
+written-front {xs} {o} {o′} {to} w =
+    let e : to ≡ length xs = w .end ∙ omega arith in w .whole ∙ ap (λ (n : ℕ). xs ++ drop n o) e
 
 -- the texts of no number
 pub lines-none : (f : ℕ → List ℕ) (l : List ℕ) (at : ℕ) → Written at (flatMap f (range 0 0)) l at l

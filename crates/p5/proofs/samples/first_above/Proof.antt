@@ -1,4 +1,4 @@
--- `p5::ranges::first_above` meets its contract.
+-- `p5::samples::first_above` meets its contract.
 use mathlib.Core.Path.{_≡_, _∙_}
 use Prim.Native.Nat.{_+_, _-_}
 use native.Mathlib.Nat.{zero-add}
@@ -8,8 +8,8 @@ use lib.ListN.{length, drop}
 use Rattle.p5.specs.Files.{atMost}
 use Rattle.p5.specs.Headers.{leading}
 use Rattle.p5.proofs.Leading.{reach-pass, reach-stop, reach-past}
-use Rattle.p5.proofs.ranges.first_above.Statement.{statement}
-use Rattle.p5.proofs.ranges.first_above.Tie as tie
+use Rattle.p5.proofs.samples.first_above.Statement.{statement}
+use Rattle.p5.proofs.samples.first_above.Tie as tie
 
 abbrev Inv-loop : tie.InvT-loop
 Inv-loop pixels largest i₀ i = i + leading (atMost largest) (drop i pixels) ≡ leading (atMost largest) pixels
@@ -20,16 +20,16 @@ abbrev μ-loop : tie.MeasureT-loop
 loop-holds : tie.Need-loop-holds Inv-loop μ-loop
 loop-holds c = zero-add _
 
-shared-slice-read-wide : tie.Need-shared-slice-read-wide Inv-loop μ-loop
-shared-slice-read-wide c = search needs
+shared-slice-read-value : tie.Need-shared-slice-read-value Inv-loop μ-loop
+shared-slice-read-value c = search needs
 
-wide-requires : tie.Need-wide-requires Inv-loop μ-loop
-wide-requires c κs = search needs
+value-requires : tie.Need-value-requires Inv-loop μ-loop
+value-requires c κs = search needs
 
 returns : tie.Need-returns Inv-loop μ-loop
 returns c =
     let l = c .before .before .before .before in
-    let e = rw (c .before .wide .ensures) at (c .if1 .taken) in
+    let e = rw (c .before .value .ensures) at (c .if1 .taken) in
     reach-stop (atMost _) _ (l .loop .i) (c .before .before .before .loop-test .taken) (lt-leb _ _ e) ∙ l .loop .inv
 
 add-i : tie.Need-add-i Inv-loop μ-loop
@@ -41,7 +41,7 @@ loop-less c = search needs
 loop-again : tie.Need-loop-again Inv-loop μ-loop
 loop-again c =
     let l = c .before .before .before .before in
-    let e = rw (c .before .wide .ensures) at (c .if1 .left) in
+    let e = rw (c .before .value .ensures) at (c .if1 .left) in
     reach-pass (atMost _) _ (l .loop .i) (c .before .before .before .loop-test .taken) (le-leb _ _ e) ∙ l .loop .inv
 
 returns-2 : tie.Need-returns-2 Inv-loop μ-loop
@@ -54,8 +54,8 @@ first-above-spec =
     Inv-loop
     μ-loop
     loop-holds
-    shared-slice-read-wide
-    wide-requires
+    shared-slice-read-value
+    value-requires
     returns
     add-i
     loop-less

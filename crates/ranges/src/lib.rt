@@ -1,0 +1,25 @@
+// Numbers in a range, and the sides of a picture.
+ghost use mathlib.Core.Path.{_≡_};
+ghost use mathlib.Core.Bool.{_&&_};
+ghost use lib.Dec.{leb};
+ghost use Rattle.picture.specs.Pictures.{sideFits};
+
+// A number is at least `low` and at most `high`.
+pub fn between(low: usize, x: usize, high: usize) -> bool
+    ensures { λ r. ⌜ r ≡ leb low x && leb x high ⌝ }
+{
+    if x < low {
+        return false;
+    }
+    x <= high
+}
+
+// Both sides are 1 to 40.
+pub fn sides_fit(width: u32, height: u32) -> bool
+    ensures { λ r. ⌜ r ≡ sideFits width && sideFits height ⌝ }
+{
+    if !between(1, width as usize, 40) {
+        return false;
+    }
+    between(1, height as usize, 40)
+}
