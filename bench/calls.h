@@ -55,6 +55,11 @@ typedef uint64_t query_place_call(uint32_t a, uint32_t w, uint32_t h,
 extern uint64_t bench_figures(uint32_t a, uint32_t w, uint32_t h,
     const uint8_t *pixels, size_t n, uint16_t *work, size_t work_length);
 
+/* What list_patches answers for a list of so many records, the figures of the patches left in work. */
+extern uint64_t bench_gather(uint32_t a, uint32_t w, uint32_t h,
+    const uint8_t *pixels, size_t n, size_t room,
+    uint16_t *work, size_t work_length);
+
 extern label_section_call bench_label_section, peer_label_section;
 extern is_lowerable_call bench_is_lowerable, peer_is_lowerable;
 extern component_tree_call bench_component_tree, peer_component_tree;

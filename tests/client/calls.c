@@ -13,6 +13,8 @@
  *         [PASS]
  *   watershed ADJACENCY WIDTH HEIGHT PIXELS OUT-LENGTH WORK-LENGTH NUMBER [OUT]
  *   place ADJACENCY WIDTH HEIGHT PIXELS PLACE WORK-LENGTH NUMBER [VALUE PATCH]
+ *   patches ADJACENCY WIDTH HEIGHT PIXELS ROOM WORK-LENGTH NUMBER
+ *         [COUNT SIZES COLUMN-SUMS ROW-SUMS DEPTHS HEIGHTS]
  *
  * cases.h has the form of the fields. Lengths count entries; a 16-bit entry
  * is four hexadecimal digits, highest first. The fields in brackets stand
@@ -33,10 +35,14 @@
 /* The arguments of a call, and the lists that are lent or expected. */
 static uint32_t node_count, place, other_place;
 static uint8_t k;
-static size_t out_length, work_length;
+static size_t out_length, work_length, room;
 static size_t heights_length, fathers_length, firsts_length, map_length;
 static struct given pixels_given, heights_given, fathers_given, firsts_given;
 static struct given map_given, out_given;
+
+/* The figures of patches, a block of work each. */
+#define FIGURES 5
+static struct given figures_given[FIGURES];
 
 /* The number and the value that a call returns. */
 static uint64_t number, value;
@@ -50,12 +56,6 @@ static const struct {
                 {"fathers", &fathers}, {"firsts", &firsts},
                 {"map", &map}, {"output", &out}, {"work", &work}};
 #define MEMORIES (sizeof memories / sizeof *memories)
-
-static int malformed_case(void)
-{
-    printf("case malformed\n");
-    return 0;
-}
 
 static size_t take_length(void)
 {
@@ -165,6 +165,18 @@ static void take_place(void)
     value += take_number(1600);
 }
 
+static void take_patches(void)
+{
+    take_picture(&pixels_given);
+    room = take_length();
+    take_work_and_number();
+    if (number != 0)
+        return;
+    value = take_number(1600);
+    for (size_t index = 0; index < FIGURES; index++)
+        take_entries(&figures_given[index]);
+}
+
 static uint16_t *lent_entries(struct memory *memory)
 {
     return (uint16_t *)(void *)lent(memory);
@@ -203,13 +215,9 @@ static void expect_given(struct memory *memory, const struct given *given)
         expect(memory, given->bytes, given->length);
 }
 
-/* Checks the result and all memory; work is zero over 5 n entries after
- * success. */
-static int check(uint64_t result)
+/* Checks the result and all memory. */
+static int compare(uint64_t result)
 {
-    static const uint8_t zeros[MEMORY_ROOM];
-    if (number == 0)
-        expect(&work, zeros, 10 * pixels_given.length);
     if (result != (number << 32) + value) {
         printf("returned %lu and %lu, expected %lu and %lu\n",
                (unsigned long)(result >> 32),
@@ -223,6 +231,26 @@ static int check(uint64_t result)
             return 0;
         }
     return 1;
+}
+
+/* The same; work is zero over 5 n entries after success. */
+static int check(uint64_t result)
+{
+    static const uint8_t zeros[MEMORY_ROOM];
+    if (number == 0)
+        expect(&work, zeros, 10 * pixels_given.length);
+    return compare(result);
+}
+
+/* Says that after success each block of work begins with its figures; what
+ * follows there is left open. */
+static void expect_figures(void)
+{
+    size_t block = 2 * pixels_given.length;
+    expect(&work, lent(&work), FIGURES * block);
+    for (size_t index = 0; index < FIGURES; index++)
+        memcpy(work.before + work.start + index * block,
+               figures_given[index].bytes, figures_given[index].length);
 }
 
 static int run_label(unsigned turn)
@@ -283,6 +311,15 @@ static int run_place(unsigned turn)
     return check(bench_query_place(PICTURE, place, ENTRIES(work)));
 }
 
+static int run_patches(unsigned turn)
+{
+    prepare_picture_and_work(turn);
+    uint64_t result = bench_gather(PICTURE, room, ENTRIES(work));
+    if (number == 0)
+        expect_figures();
+    return compare(result);
+}
+
 int main(void)
 {
     static const struct kind kinds[] = {
@@ -293,6 +330,7 @@ int main(void)
         {"pass", take_pass, run_pass},
         {"watershed", take_watershed, run_watershed},
         {"place", take_place, run_place},
+        {"patches", take_patches, run_patches},
     };
     return run_cases(kinds, sizeof kinds / sizeof *kinds);
 }

@@ -187,8 +187,12 @@ struct kind {
     int (*run)(unsigned turn);
 };
 
-/* Says that a case is malformed and answers 0; each client has its own. */
-static int malformed_case(void);
+/* Says that a case is malformed and answers 0. */
+static int malformed_case(void)
+{
+    printf("case malformed\n");
+    return 0;
+}
 
 /* Takes the fields of a case and runs it twice. */
 static int run_case(const struct kind *kinds, size_t kind_count)

@@ -36,11 +36,6 @@ static int wrong(const char *what, uint32_t result, uint64_t wanted)
     return 0;
 }
 
-static int malformed_case(void)
-{
-    return wrong("case malformed", 0, 0);
-}
-
 /* Takes a number and expects it as eight bytes, lowest first, behind what is
  * expected already. */
 static void take_expected(uint64_t most)

@@ -3,6 +3,7 @@ use board::Answer;
 use board::patch_number;
 use faults::work_fault;
 use patch_lists::fill_figures;
+use patch_lists::gather;
 
 // The refusal's number above 32 bits of value.
 fn as_number(answer: Answer) -> u64 {
@@ -130,4 +131,17 @@ pub extern "C" fn bench_figures(a: u32, w: u32, h: u32, pixels: &[u8], work: &mu
         return 0;
     }
     fill_figures(a, w, h, pixels, work) as u64
+}
+
+// What the list of patches answers for a list of so many records, with the figures of the patches left in work: all of `list_patches` but the records.
+#[no_mangle]
+pub extern "C" fn bench_gather(
+    a: u32,
+    w: u32,
+    h: u32,
+    pixels: &[u8],
+    room: usize,
+    work: &mut [u16],
+) -> u64 {
+    as_number(gather(a, w, h, pixels, room, work))
 }

@@ -11,12 +11,16 @@
 //!     pass ADJACENCY WIDTH HEIGHT PIXELS TREE PLACE PLACE WORK-LENGTH NUMBER [PASS]
 //!     watershed ADJACENCY WIDTH HEIGHT PIXELS OUT-LENGTH WORK-LENGTH NUMBER [OUT]
 //!     place ADJACENCY WIDTH HEIGHT PIXELS PLACE WORK-LENGTH NUMBER [VALUE PATCH]
+//!     patches ADJACENCY WIDTH HEIGHT PIXELS ROOM WORK-LENGTH NUMBER
+//!         [COUNT SIZES COLUMN-SUMS ROW-SUMS DEPTHS HEIGHTS]
 
 use crate::generate;
 use crate::lent::LentTree;
 use crate::limits::{self, Change};
 use crate::literal::{Adjacency, Picture};
-use crate::question::{exact_call, exact_calls, other_adjacency, tree_of, Call, Question, KINDS};
+use crate::question::{
+    exact_call, exact_calls, other_adjacency, patches_of, tree_of, Call, Question, KINDS,
+};
 use crate::quick;
 use crate::random::Random;
 use crate::worked;
@@ -56,6 +60,7 @@ fn questions_of_picture(picture: &Picture, lent: LentTree) -> Vec<Question> {
     });
     questions.push(Question::Check { lent: lent.clone() });
     questions.push(Question::Watershed { out_length });
+    questions.extend((0..=out_length).map(|room| Question::Patches { room }));
     questions.extend((0..count).flat_map(|place| questions_of_place(&lent, count, place)));
     questions
 }
@@ -130,6 +135,7 @@ fn calls_of_h10() -> Vec<Call> {
         },
         Question::Watershed { out_length: 6 },
         Question::Place { place: 5 },
+        Question::Patches { room: 6 },
     ];
     exact_calls(&picture, questions)
 }
@@ -296,7 +302,10 @@ fn question(random: &mut Random, kind: &str, picture: &Picture) -> Question {
         "watershed" => Question::Watershed {
             out_length: count + random.one_of(&[0, 0, 1, 7, 100]),
         },
-        _ => Question::Place { place },
+        "place" => Question::Place { place },
+        _ => Question::Patches {
+            room: patches_of(picture).len() + random.one_of(&[0, 0, 1, 7, 100]),
+        },
     }
 }
 
@@ -373,7 +382,7 @@ mod tests {
     fn number_field(kind: &str) -> usize {
         match kind {
             "label" => 8,
-            "lowerable" | "watershed" | "place" => 7,
+            "lowerable" | "watershed" | "place" | "patches" => 7,
             "tree" => 10,
             "check" => 11,
             _ => 13,
@@ -382,7 +391,7 @@ mod tests {
 
     #[test]
     fn every_number_occurs() {
-        let expected: [(&str, &[u32]); 7] = [
+        let expected: [(&str, &[u32]); 8] = [
             ("label", &[0, 3, 7, 8, 9]),
             ("lowerable", &[0, 3, 7, 8, 9, 10]),
             ("tree", &[0, 3, 7, 8, 9]),
@@ -390,6 +399,7 @@ mod tests {
             ("pass", &[0, 3, 7, 8, 9, 10, 11]),
             ("watershed", &[0, 3, 7, 8, 9]),
             ("place", &[0, 3, 7, 8, 9, 10]),
+            ("patches", &[0, 3, 7, 8, 9]),
         ];
         limits::assert_numbers(&text(100), number_field, &expected, 2);
     }

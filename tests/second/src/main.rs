@@ -6,6 +6,7 @@
 //!     second compare HOLDS [count]  compares a `holds` program with this one
 //!     second cases [count]          test cases for the C client
 //!     second calls [count]          test cases for the calls on 16-bit memory
+//!     second records                what `list_patches` leaves for standard input
 //!     second wall                   an example picture as a P5 file
 
 mod arguments;
@@ -25,6 +26,7 @@ mod literal;
 mod question;
 mod quick;
 mod random;
+mod records;
 mod wall;
 mod worked;
 
@@ -46,8 +48,17 @@ fn print(bytes: &[u8]) -> ExitCode {
     }
 }
 
+/// Prints the text for standard input.
+fn answer(text: fn(&[u8]) -> String) -> ExitCode {
+    let mut input = Vec::new();
+    match std::io::stdin().read_to_end(&mut input) {
+        Ok(_) => print(text(&input).as_bytes()),
+        Err(_) => ExitCode::FAILURE,
+    }
+}
+
 fn usage() -> ExitCode {
-    eprintln!("usage: second holds | edges | compare HOLDS [count] | cases [count] | calls [count] | wall");
+    eprintln!("usage: second holds | edges | records | compare HOLDS [count] | cases [count] | calls [count] | wall");
     ExitCode::from(2)
 }
 
@@ -55,13 +66,8 @@ fn main() -> ExitCode {
     let arguments: Vec<String> = std::env::args().skip(1).collect();
     let words: Vec<&str> = arguments.iter().map(|argument| argument.as_str()).collect();
     match words.as_slice() {
-        ["holds"] => {
-            let mut input = Vec::new();
-            if std::io::stdin().read_to_end(&mut input).is_err() {
-                return ExitCode::FAILURE;
-            }
-            print(holds::text(&input).as_bytes())
-        }
+        ["holds"] => answer(holds::text),
+        ["records"] => answer(records::text),
         ["edges"] => print(edges::text().as_bytes()),
         ["compare", program, rest @ ..] => match count(rest, 600) {
             Some(count) if compare::compare(program, count) => ExitCode::SUCCESS,

@@ -4,7 +4,7 @@
 use crate::arguments;
 use crate::hexadecimal;
 use crate::lent::{entries_text, LentTree};
-use crate::literal::{self, Adjacency, Picture, PlaceAnswer, Tree};
+use crate::literal::{self, Adjacency, Patch, Picture, PlaceAnswer, Tree};
 use crate::quick;
 
 /// What a call asks of a picture, with the memory that it alone lends.
@@ -34,9 +34,13 @@ pub enum Question {
     Place {
         place: u32,
     },
+    /// The list of patches has room for so many records.
+    Patches {
+        room: usize,
+    },
 }
 
-pub const KINDS: [&str; 7] = [
+pub const KINDS: [&str; 8] = [
     "label",
     "lowerable",
     "tree",
@@ -44,6 +48,7 @@ pub const KINDS: [&str; 7] = [
     "pass",
     "watershed",
     "place",
+    "patches",
 ];
 
 #[derive(Clone)]
@@ -85,6 +90,30 @@ fn place_query_of(picture: &Picture, place: usize) -> PlaceAnswer {
     }
 }
 
+pub fn patches_of(picture: &Picture) -> Vec<Patch> {
+    if is_small(picture) {
+        literal::patches(picture)
+    } else {
+        quick::patches(picture)
+    }
+}
+
+/// How many patches there are, and a list of each of their figures.
+fn figures_text(patches: &[Patch]) -> String {
+    let figures: [fn(&Patch) -> usize; 5] = [
+        |patch| patch.size,
+        |patch| patch.column_sum,
+        |patch| patch.row_sum,
+        |patch| patch.depth as usize,
+        |patch| patch.height as usize,
+    ];
+    let lists = figures.map(|figure| {
+        let numbers: Vec<usize> = patches.iter().map(figure).collect();
+        format!(" {}", entries_text(&numbers))
+    });
+    format!(" {}{}", patches.len(), lists.concat())
+}
+
 impl Question {
     pub fn places(&self) -> Vec<u32> {
         match self {
@@ -106,13 +135,6 @@ impl Question {
         }
     }
 
-    pub fn lent(&self) -> Option<&LentTree> {
-        match self {
-            Question::Check { lent } | Question::Pass { lent, .. } => Some(lent),
-            _ => None,
-        }
-    }
-
     pub fn lent_mut(&mut self) -> Option<&mut LentTree> {
         match self {
             Question::Check { lent } | Question::Pass { lent, .. } => Some(lent),
@@ -130,6 +152,7 @@ impl Question {
             Question::Check { lent } | Question::Pass { lent, .. } => {
                 lent.set_length(which, length)
             }
+            Question::Patches { room } => *room = length,
             _ => {}
         }
     }
@@ -161,6 +184,7 @@ impl Question {
             }
             Question::Watershed { out_length } => ("watershed", format!("{} ", out_length)),
             Question::Place { place } => ("place", format!("{} ", place)),
+            Question::Patches { room } => ("patches", format!("{} ", room)),
         }
     }
 
@@ -189,6 +213,7 @@ impl Question {
                 let answer = place_query_of(picture, *place as usize);
                 format!(" {} {}", answer.value, answer.patch.unwrap_or(0))
             }
+            Question::Patches { .. } => figures_text(&patches_of(picture)),
         }
     }
 }
@@ -210,9 +235,17 @@ impl Call {
             },
             &self.question.places(),
         );
-        match self.question.lent() {
-            Some(lent) if number == 0 && !lent.is(&tree_of(&self.picture())) => 11,
-            _ => number,
+        if number != 0 {
+            return number;
+        }
+        match &self.question {
+            Question::Check { lent } | Question::Pass { lent, .. }
+                if !lent.is(&tree_of(&self.picture())) =>
+            {
+                11
+            }
+            Question::Patches { room } if *room < patches_of(&self.picture()).len() => 9,
+            _ => 0,
         }
     }
 
