@@ -125,7 +125,12 @@ static void compare_damaged_trees(unsigned picture)
         { ours.fathers, peer.fathers }, { ours.firsts, peer.firsts },
         { ours.map, peer.map },
     };
-    for (unsigned i = 0; i < n; i += 1 + n / 100)
+    for (unsigned i = 0; i < n; i += 1 + n / 100) {
+        ours.heights[i]++;
+        peer.heights[i]++;
+        same(CHECK, picture);
+        ours.heights[i]--;
+        peer.heights[i]--;
         for (unsigned list = 0; list < 3; list++) {
             lists[list][0][i]++;
             lists[list][1][i]++;
@@ -133,6 +138,7 @@ static void compare_damaged_trees(unsigned picture)
             lists[list][0][i]--;
             lists[list][1][i]--;
         }
+    }
 }
 
 /* Compares all calls, at all places where a call takes one; trees with one entry changed are compared too. */
@@ -208,9 +214,9 @@ static double figures_round(void)
 }
 
 /* The three in turn in every round, so that a slow phase of the machine is none of one alone. */
-static struct beside measure_beside(void)
+static struct against_tree measure_against_tree(void)
 {
-    struct beside least = { 1e9, 1e9, 1e9 };
+    struct against_tree least = { 1e9, 1e9, 1e9 };
     for (unsigned i = 0; i < BESIDE_ROUNDS; i++) {
         least.tree = lesser(least.tree, round_of(TREE, 1, BESIDE_CALLS));
         least.query = lesser(least.query, round_of(QUERY, 1, BESIDE_CALLS));
@@ -278,7 +284,7 @@ static void measure_one(unsigned adjacency, unsigned s, unsigned p)
 {
     measure(table[adjacency][s][p]);
     if (s == SIDES - 1)
-        beside[adjacency][p] = measure_beside();
+        against_tree[adjacency][p] = measure_against_tree();
 }
 
 int main(int arguments, char **argument)

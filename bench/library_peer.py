@@ -20,7 +20,8 @@ bytes_pointer = ctypes.POINTER(ctypes.c_uint8)
 words_pointer = ctypes.POINTER(ctypes.c_uint16)
 ours.bench_component_tree.restype = ctypes.c_uint64
 ours.bench_label_section.restype = ctypes.c_uint64
-names = (ctypes.c_char_p * 11).in_dll(ours, "picture_names")
+count = ctypes.c_uint.in_dll(ours, "picture_count").value
+names = (ctypes.c_char_p * count).in_dll(ours, "picture_names")
 
 
 def lent_words(count):

@@ -5,6 +5,8 @@
 
 #include <string.h>
 
+const unsigned picture_count = PICTURE_COUNT;
+
 const char *const picture_names[PICTURE_COUNT] = {
     "flat", "noise", "few values", "wall", "comb", "ladder", "checkerboard",
     "snake", "stairs", "saddles for 4", "saddles for 8",

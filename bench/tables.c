@@ -13,7 +13,7 @@ const char *const call_names[CALLS] = {
 };
 
 struct times table[2][SIDES][PICTURE_COUNT][CALLS];
-struct beside beside[2][PICTURE_COUNT];
+struct against_tree against_tree[2][PICTURE_COUNT];
 
 static void print_head(const char *first)
 {
@@ -85,9 +85,9 @@ static void print_against_tree(void)
     for (unsigned p = 0; p < PICTURE_COUNT; p++) {
         printf("| %s |", picture_names[p]);
         for (unsigned adjacency = 0; adjacency < 2; adjacency++)
-            printf(" %.2f |", beside[adjacency][p].query / beside[adjacency][p].tree);
+            printf(" %.2f |", against_tree[adjacency][p].query / against_tree[adjacency][p].tree);
         for (unsigned adjacency = 0; adjacency < 2; adjacency++)
-            printf(" %.2f |", beside[adjacency][p].figures / beside[adjacency][p].tree);
+            printf(" %.2f |", against_tree[adjacency][p].figures / against_tree[adjacency][p].tree);
         printf("\n");
     }
 }

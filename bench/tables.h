@@ -24,7 +24,7 @@ struct times {
 };
 
 /* The least times in seconds of the tree, of the place query and of the figures of all patches. */
-struct beside {
+struct against_tree {
     double tree, query, figures;
 };
 
@@ -32,7 +32,7 @@ struct beside {
 extern struct times table[2][SIDES][PICTURE_COUNT][CALLS];
 
 /* By adjacency and picture, at 40 by 40. */
-extern struct beside beside[2][PICTURE_COUNT];
+extern struct against_tree against_tree[2][PICTURE_COUNT];
 
 void print_tables(void);
 

@@ -1,6 +1,6 @@
 /*
- * Union-find in cells: below NODES a parent, which is a smaller place; from
- * NODES on a root with its state. The builder and the check join the pixels of
+ * Union-find in cells: below FIRST_NODE a parent, which is a smaller place; from
+ * FIRST_NODE on a root with its state. The builder and the check join the pixels of
  * one height after the other by it.
  */
 
@@ -13,19 +13,19 @@
 #include <stdint.h>
 
 enum {
-    NODES = 2048,               /* NODES + t: goes down to the node t */
+    FIRST_NODE = 2048,               /* FIRST_NODE + t: goes down to the node t */
     LISTED = 65533,             /* a new root that is in the list already */
     SEVERAL = 65534,            /* holds several components of the height below */
-    NONE = 65535                /* holds none */
+    NOTHING = 65535                /* holds none */
 };
 
 /* The root of a place, with path splitting. */
 static inline unsigned find(uint16_t *cells, unsigned x)
 {
     unsigned parent;
-    while ((parent = cells[x]) < NODES) {
+    while ((parent = cells[x]) < FIRST_NODE) {
         unsigned above = cells[parent];
-        if (above < NODES)
+        if (above < FIRST_NODE)
             cells[x] = (uint16_t)above;
         x = parent;
     }
@@ -33,16 +33,16 @@ static inline unsigned find(uint16_t *cells, unsigned x)
 }
 
 /* What happens to a tree where two roots with the states a and b, which both hold lower places, are joined at x; false if the tree is wrong there. */
-typedef bool meeting(void *tree, unsigned a, unsigned b, unsigned x);
+typedef bool two_below(void *tree, unsigned a, unsigned b, unsigned x);
 
-/* Hangs the root hi below the root lo, unless the tree is wrong there. */
-static inline bool hang(uint16_t *cells, unsigned lo, unsigned hi, unsigned x,
-                        meeting *meet, void *tree)
+/* Links the root hi below the root lo, unless the tree is wrong there. */
+static inline bool link_roots(uint16_t *cells, unsigned lo, unsigned hi, unsigned x,
+                        two_below *meet, void *tree)
 {
     unsigned a = cells[lo], b = cells[hi], state;
-    if (a == NONE) {
+    if (a == NOTHING) {
         state = b;
-    } else if (b == NONE) {
+    } else if (b == NOTHING) {
         state = a;
     } else {
         if (!meet(tree, a, b, x))
@@ -57,7 +57,7 @@ static inline bool hang(uint16_t *cells, unsigned lo, unsigned hi, unsigned x,
 /* Joins x, of value k, with its neighbours that are lower, or of the same value and before it; false as soon as the tree is wrong. */
 static inline bool absorb(struct grid g, const uint8_t *restrict pixels,
                           uint16_t *restrict cells, unsigned k, unsigned x,
-                          meeting *meet, void *tree)
+                          two_below *meet, void *tree)
 {
     uint16_t near[8];
     unsigned count = neighbours(g, x, near);
@@ -68,10 +68,10 @@ static inline bool absorb(struct grid g, const uint8_t *restrict pixels,
             continue;
         unsigned other = find(cells, y);
         if (other < root) {
-            if (!hang(cells, other, root, x, meet, tree))
+            if (!link_roots(cells, other, root, x, meet, tree))
                 return false;
             root = other;
-        } else if (other > root && !hang(cells, root, other, x, meet, tree)) {
+        } else if (other > root && !link_roots(cells, root, other, x, meet, tree)) {
             return false;
         }
     }

@@ -16,7 +16,7 @@ struct lent {
 /* The lent father of the node that a state names is the lent node of x. */
 static inline bool agrees(const struct lent *t, unsigned state, unsigned x)
 {
-    return state >= SEVERAL || t->fathers[state - NODES] == t->map[x];
+    return state >= SEVERAL || t->fathers[state - FIRST_NODE] == t->map[x];
 }
 
 static inline bool fathers_agree(void *tree, unsigned a, unsigned b, unsigned x)
@@ -35,7 +35,7 @@ static unsigned check_nodes(struct grid g, const uint8_t *pixels,
         if (f >= g.n || pixels[f] > k || cells[f] < SEVERAL
             || (c > begin && f <= t->firsts[c - 1]))
             return t->count + 1;
-        cells[f] = (uint16_t)(NODES + c);
+        cells[f] = (uint16_t)(FIRST_NODE + c);
     }
     return c;
 }
@@ -57,7 +57,7 @@ static inline bool check_map(struct grid g, const uint8_t *pixels,
     for (unsigned x = 0; x < g.n; x++)
         if (pixels[x] == k) {
             unsigned state = cells[find(cells, x)];
-            if (state >= SEVERAL || state != (unsigned)NODES + t->map[x])
+            if (state >= SEVERAL || state != (unsigned)FIRST_NODE + t->map[x])
                 return false;
         }
     return true;
@@ -77,7 +77,7 @@ static bool is_tree(struct grid g, const uint8_t *pixels, struct lent *t)
         if (c > t->count || !check_map(g, pixels, t, cells, k))
             return false;
     }
-    return c == t->count && t->fathers[c - 1] == NONE;
+    return c == t->count && t->fathers[c - 1] == NOTHING;
 }
 
 uint64_t peer_check_tree(uint32_t a, uint32_t w, uint32_t h,

@@ -5,16 +5,16 @@
 
 #include <string.h>
 
-enum { ABSENT = 65535 };        /* no candidate */
+enum { NO_CANDIDATE = 65535 };        /* no candidate */
 
 unsigned long peer_falls, peer_tests;
 
 /* The better of two candidates: of lesser value, then of smaller place. */
 static inline unsigned better(const uint8_t *pixels, unsigned a, unsigned b)
 {
-    if (a == ABSENT)
+    if (a == NO_CANDIDATE)
         return b;
-    if (b == ABSENT)
+    if (b == NO_CANDIDATE)
         return a;
     unsigned first = (unsigned)pixels[a] << 16 | a;
     unsigned second = (unsigned)pixels[b] << 16 | b;
@@ -72,7 +72,7 @@ static inline unsigned stop_of(const uint8_t *restrict out,
 }
 
 /* Lowers x as far as it falls, if it is lowerable, and makes candidates of the neighbours that may now be lowerable. */
-static inline void settle(struct grid g, unsigned x, uint8_t *restrict out,
+static inline void lower_place(struct grid g, unsigned x, uint8_t *restrict out,
                           uint16_t *restrict tree, uint16_t *restrict winners)
 {
     uint16_t near[8];
@@ -117,9 +117,9 @@ uint64_t peer_watershed_of(uint32_t a, uint32_t w, uint32_t h,
     build_tree(g, pixels, work, work + 4 * n);
     memcpy(out, pixels, n);
     fill_winners(out, winners, g.n);
-    for (unsigned x; (x = winners[1]) != ABSENT;) {
-        assign(out, winners, g.n, x, ABSENT);
-        settle(g, x, out, work, winners);
+    for (unsigned x; (x = winners[1]) != NO_CANDIDATE;) {
+        assign(out, winners, g.n, x, NO_CANDIDATE);
+        lower_place(g, x, out, work, winners);
     }
     memset(work, 0, 5 * n * sizeof *work);
     return 0;
