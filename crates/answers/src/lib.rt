@@ -3,6 +3,7 @@ use cells::clear;
 ghost use mathlib.Core.Path.{_≡_};
 ghost use Prim.Native.Nat.{_*_, _≤_};
 ghost use lib.ListN.{length};
+ghost use Rattle.lists.specs.Lists.{pick};
 ghost use Rattle.answers.specs.Answers.{afterCall, cleared};
 ghost use Rattle.answers.specs.Steps.{IsRefusal, IsValue, Finished};
 
@@ -30,6 +31,16 @@ pub fn accepted(value: u32) -> Answer
         number: 0,
         value: value,
     }
+}
+
+// 1 for yes, 0 for no: the value of a call that answers a test.
+pub fn one_if(yes: bool) -> u32
+    ensures { λ r. ⌜ r ≡ pick yes 1 0 ⌝ }
+{
+    if yes {
+        return 1;
+    }
+    0
 }
 
 // The first 5 n entries of work become 0.

@@ -12,8 +12,8 @@ use Rattle.picture.specs.Pictures.{Picture, places, valueAt}
 use Rattle.picture.specs.Patches.{patchAt}
 use Rattle.answers.specs.Answers.{cleared}
 use Rattle.answers.proofs.Calls.{refused-left, cleared-left}
-use Rattle.board.specs.declared.Ground.the-variants as G
-use Rattle.board.specs.declared.Queried.{Queried}
+use Rattle.board.specs.declared.query.Ground.the-variants as G
+use Rattle.board.specs.declared.query.Queried.{Queried}
 use Rattle.board.specs.Calls.{placeFaultOf, groundOf, QueryIs, QuerySays}
 
 -- the ground of a patch number that is not 0

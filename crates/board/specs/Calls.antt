@@ -13,9 +13,9 @@ use Rattle.faults.specs.Faults.{outputFault, placeFault}
 use Rattle.picture.specs.Patches.{patchAt}
 use Rattle.answers.specs.declared.Answer.{Answer}
 use Rattle.answers.specs.Answers.{afterCall, workAfter, WorkSays}
-use Rattle.board.specs.declared.Ground.{Ground}
-use Rattle.board.specs.declared.Ground.the-variants as G
-use Rattle.board.specs.declared.Queried.{Queried}
+use Rattle.board.specs.declared.query.Ground.{Ground}
+use Rattle.board.specs.declared.query.Ground.the-variants as G
+use Rattle.board.specs.declared.query.Queried.{Queried}
 
 -- the fault of a call that lends output and work
 abbrev pub outputFaultOf : Picture → List ℕ → List ℕ → ℕ

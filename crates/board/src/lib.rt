@@ -2,8 +2,8 @@
 // entries, for a list of patches from their number; then a core works, and work is cleared.
 pub use answers::Answer;
 use answers::clear_accepted;
-use answers::clear_work;
 use answers::finish;
+use answers::one_if;
 use answers::refused;
 use faults::least;
 use faults::output_fault;
@@ -15,26 +15,24 @@ use lent_tree::pass;
 use patch_lists::gather;
 pub use patch_records::Patch;
 use patch_records::write_records;
-use patches::cores::query;
+pub use query::Ground;
+pub use query::Queried;
+use query::answer_query;
+pub use query::patch_number;
+use query::query_cleared;
 pub use reading::Read;
 use tree_lists::build_lists;
 use trees::tree_fault;
 use watershed::whole::watershed_core;
 
+mod query;
 mod trees;
 
-ghost use mathlib.Core.Path.{_≡_};
-ghost use Prim.Native.Nat.{_*_, _<_};
-ghost use lib.ListN.{length};
-ghost use Rattle.lists.specs.Lists.{pick};
 ghost use Rattle.picture.specs.Pictures.{pictureOf};
-ghost use Rattle.faults.specs.Faults.{Admitted};
-ghost use Rattle.answers.specs.Answers.{cleared};
 ghost use Rattle.reading.specs.Reads.{ReadSays};
 ghost use Rattle.board.specs.Pixels.{PixelsSay};
-ghost use Rattle.board.specs.Calls.{LabelsSay, LowerableSays, WatershedSays, groundOf, patchNumber, QueryIs, QuerySays};
+ghost use Rattle.board.specs.Calls.{LabelsSay, LowerableSays, WatershedSays, QuerySays};
 ghost use Rattle.board.specs.Trees.{TreeSays, CheckSays, PassSays};
-ghost use Rattle.picture.specs.Patches.{patchAt};
 ghost use Rattle.board.specs.PatchLists.{PatchesSay};
 
 // Reads a P5 file: sides, largest sample and where the pixels begin, or the refusal with its place.
@@ -56,16 +54,6 @@ pub fn file_pixels<'a>(file: &'a [u8]) -> &'a [u8]
     } else {
         &file[..0]
     }
-}
-
-// 1 for yes, 0 for no.
-fn one_if(yes: bool) -> u32
-    ensures { λ r. ⌜ r ≡ pick yes 1 0 ⌝ }
-{
-    if yes {
-        return 1;
-    }
-    0
 }
 
 // The labels of the section at height k; answers the number of its components.
@@ -196,63 +184,6 @@ pub fn watershed_of(
     let whole = 5 * n;
     watershed_core(a, w, h, pixels, &mut out[..n], &mut work[..whole]);
     finish(work, n, 0)
-}
-
-// Where a place lies: on the line, or in the patch of a number.
-pub enum Ground {
-    Line,
-    Patch(u16),
-}
-
-// The patch number of where a place lies, 0 for the line.
-pub fn patch_number(ground: Ground) -> u16
-    ensures { λ r. ⌜ r ≡ patchNumber ground ⌝ }
-{
-    match ground {
-        Ground::Line => 0,
-        Ground::Patch(number) => number,
-    }
-}
-
-// The number of a refusal, or 0 with the pixel's value and where it lies.
-pub struct Queried {
-    pub number: u8,
-    pub value: u8,
-    pub ground: Ground,
-}
-
-// Where a place of a patch number lies.
-fn ground_of(number: u16) -> Ground
-    ensures { λ r. ⌜ r ≡ groundOf number ⌝ }
-{
-    if number == 0 {
-        return Ground::Line;
-    }
-    Ground::Patch(number)
-}
-
-// The answer of a place query.
-fn answer_query(number: u8, value: u8, patch: u16) -> Queried
-    ensures { λ r. ⌜ QueryIs number value patch r ⌝ }
-{
-    Queried {
-        number: number,
-        value: value,
-        ground: ground_of(patch),
-    }
-}
-
-// The patch number of a place, from work of 5 n entries that is cleared after it.
-fn query_cleared(a: u32, w: u32, h: u32, pixels: &[u8], place: usize, work: &mut [u16]) -> u16
-    requires { ⌜ Admitted (pictureOf a w h (now pixels)) (length (now work)) × (place < w * h) ⌝ }
-    ensures { λ r. ⌜ (r ≡ patchAt (pictureOf a w h (now (pixels .entry))) place) × (now (work .exit) ≡ cleared (length (now (pixels .entry))) (now (work .entry))) ⌝ }
-{
-    let n = pixels.len();
-    let whole = 5 * n;
-    let mut cells = [0u16; 1600];
-    let number = query(a, w, h, pixels, place, &mut work[..whole], &mut cells[..n]);
-    clear_work(work, n);
-    number
 }
 
 // The value of the pixel at a place, and the line or the number of its patch.

@@ -18,7 +18,7 @@ use Rattle.lists.proofs.Tests.{on-test}
 use Rattle.p5.specs.Files.{readFile, numberOf, headerOf}
 use Rattle.lists.specs.Writing.{Written}
 use Rattle.answers.specs.declared.Answer.{Answer}
-use Rattle.board.specs.declared.Queried.{Queried}
+use Rattle.board.specs.declared.query.Queried.{Queried}
 use Rattle.faults.specs.Faults.{workFault, workFaultOf, outputFault, Faultless}
 use Rattle.answers.specs.Answers.{afterCall, workAfter}
 use Rattle.board.specs.Calls.{outputFaultOf, placeFaultOf, groundOf, patchNumber, WatershedSays, QuerySays}

@@ -1,4 +1,4 @@
--- `board::query_cleared` meets its contract.
+-- `board::query::query_cleared` meets its contract.
 use mathlib.Core.Path.{sym, _∙_}
 use Prim.Native.Nat.{ℕ, _*_}
 use native.Mathlib.Omega.{arith}
@@ -6,8 +6,8 @@ use lib.ListN.{length, replicate, length-replicate}
 use Rattle.lists.proofs.Cuts.{over-same}
 use Rattle.answers.proofs.Calls.{lent-length, behind-lent}
 use borrow.Author.Needs.{needs}
-use Rattle.board.proofs.query_cleared.Statement.{statement}
-use Rattle.board.proofs.query_cleared.Tie as tie
+use Rattle.board.proofs.query.query_cleared.Statement.{statement}
+use Rattle.board.proofs.query.query_cleared.Tie as tie
 
 mul-whole : tie.Need-mul-whole
 mul-whole c = search needs

@@ -1,9 +1,9 @@
--- `board::answer_query` meets its contract.
+-- `board::query::answer_query` meets its contract.
 use mathlib.Core.Path.{ap}
-use Rattle.board.specs.declared.Ground.{Ground}
+use Rattle.board.specs.declared.query.Ground.{Ground}
 use borrow.Author.Needs.{needs}
-use Rattle.board.proofs.answer_query.Statement.{statement}
-use Rattle.board.proofs.answer_query.Tie as tie
+use Rattle.board.proofs.query.answer_query.Statement.{statement}
+use Rattle.board.proofs.query.answer_query.Tie as tie
 
 ground-of-requires : tie.Need-ground-of-requires
 ground-of-requires c κs = search needs

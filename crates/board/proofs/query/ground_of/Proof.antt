@@ -1,8 +1,8 @@
--- `board::ground_of` meets its contract.
+-- `board::query::ground_of` meets its contract.
 use Rattle.board.proofs.Queries.{ground-patch}
 use borrow.Author.Needs.{needs}
-use Rattle.board.proofs.ground_of.Statement.{statement}
-use Rattle.board.proofs.ground_of.Tie as tie
+use Rattle.board.proofs.query.ground_of.Statement.{statement}
+use Rattle.board.proofs.query.ground_of.Tie as tie
 
 returns : tie.Need-returns
 returns c = search needs
