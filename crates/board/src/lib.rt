@@ -1,4 +1,4 @@
-// The public calls; a is the adjacency. Each decides its refusal before it writes anything, from numbers and lengths, for a lent tree also from its
+// The public calls. Each decides its refusal before it writes anything, from numbers and lengths, for a lent tree also from its
 // entries, for a list of patches from their number; then a core works, and work is cleared.
 pub use answers::Answer;
 use answers::clear_accepted;
@@ -58,30 +58,45 @@ pub fn file_pixels<'a>(file: &'a [u8]) -> &'a [u8]
 
 // The labels of the section at height k; answers the number of its components.
 pub fn label_section(
-    a: u32,
-    w: u32,
-    h: u32,
+    adjacency: u32,
+    width: u32,
+    height: u32,
     pixels: &[u8],
     k: u8,
     out: &mut [u16],
     work: &mut [u16],
 ) -> Answer
-    ensures { λ r. ⌜ LabelsSay (pictureOf a w h (now (pixels .entry))) k (now (out .entry)) (now (out .exit)) (now (work .entry)) (now (work .exit)) r ⌝ }
+    ensures { λ r. ⌜ LabelsSay (pictureOf adjacency width height (now (pixels .entry))) k (now (out .entry)) (now (out .exit)) (now (work .entry)) (now (work .exit)) r ⌝ }
 {
-    let fault = output_fault(a, w, h, pixels.len(), out.len(), work.len());
+    let fault = output_fault(
+        adjacency,
+        width,
+        height,
+        pixels.len(),
+        out.len(),
+        work.len(),
+    );
     if fault != 0 {
         return refused(fault);
     }
     let n = pixels.len();
-    let count = label(a, w, h, pixels, k, &mut out[..n], &mut work[..n]);
+    let count = label(
+        adjacency,
+        width,
+        height,
+        pixels,
+        k,
+        &mut out[..n],
+        &mut work[..n],
+    );
     finish(work, n, count as u32)
 }
 
 // The component tree of a picture: heights, fathers, first places and map; answers the number of nodes.
 pub fn component_tree(
-    a: u32,
-    w: u32,
-    h: u32,
+    adjacency: u32,
+    width: u32,
+    height: u32,
     pixels: &[u8],
     heights: &mut [u8],
     fathers: &mut [u16],
@@ -89,22 +104,32 @@ pub fn component_tree(
     map: &mut [u16],
     work: &mut [u16],
 ) -> Answer
-    ensures { λ r. ⌜ TreeSays (pictureOf a w h (now (pixels .entry))) (now (heights .entry)) (now (heights .exit)) (now (fathers .entry)) (now (fathers .exit)) (now (firsts .entry)) (now (firsts .exit)) (now (map .entry)) (now (map .exit)) (now (work .entry)) (now (work .exit)) r ⌝ }
+    ensures { λ r. ⌜ TreeSays (pictureOf adjacency width height (now (pixels .entry))) (now (heights .entry)) (now (heights .exit)) (now (fathers .entry)) (now (fathers .exit)) (now (firsts .entry)) (now (firsts .exit)) (now (map .entry)) (now (map .exit)) (now (work .entry)) (now (work .exit)) r ⌝ }
 {
     let shortest = least(heights.len(), fathers.len(), firsts.len(), map.len());
-    let fault = output_fault(a, w, h, pixels.len(), shortest, work.len());
+    let fault = output_fault(adjacency, width, height, pixels.len(), shortest, work.len());
     if fault != 0 {
         return refused(fault);
     }
-    let count = build_lists(a, w, h, pixels, heights, fathers, firsts, map, work);
+    let count = build_lists(
+        adjacency,
+        width,
+        height,
+        pixels,
+        heights,
+        fathers,
+        firsts,
+        map,
+        work,
+    );
     finish(work, pixels.len(), count as u32)
 }
 
 // Refuses with 11 a lent tree of count nodes that is not the picture's; answers number and value 0 for the picture's.
 pub fn check_tree(
-    a: u32,
-    w: u32,
-    h: u32,
+    adjacency: u32,
+    width: u32,
+    height: u32,
     pixels: &[u8],
     count: u32,
     heights: &[u8],
@@ -113,11 +138,22 @@ pub fn check_tree(
     map: &[u16],
     work: &mut [u16],
 ) -> Answer
-    ensures { λ r. ⌜ CheckSays (pictureOf a w h (now (pixels .entry))) count (now (heights .entry)) (now (fathers .entry)) (now (firsts .entry)) (now (map .entry)) (now (work .entry)) (now (work .exit)) r ⌝ }
+    ensures { λ r. ⌜ CheckSays (pictureOf adjacency width height (now (pixels .entry))) count (now (heights .entry)) (now (fathers .entry)) (now (firsts .entry)) (now (map .entry)) (now (work .entry)) (now (work .exit)) r ⌝ }
 {
     let shortest = least(heights.len(), fathers.len(), firsts.len(), map.len());
-    let fault = output_fault(a, w, h, pixels.len(), shortest, work.len());
-    let fault = tree_fault(fault, a, w, h, pixels, count, heights, fathers, firsts, map);
+    let fault = output_fault(adjacency, width, height, pixels.len(), shortest, work.len());
+    let fault = tree_fault(
+        fault,
+        adjacency,
+        width,
+        height,
+        pixels,
+        count,
+        heights,
+        fathers,
+        firsts,
+        map,
+    );
     if fault != 0 {
         return refused(fault);
     }
@@ -126,9 +162,9 @@ pub fn check_tree(
 
 // The pass between two places, read off a lent tree of count nodes.
 pub fn pass_between(
-    a: u32,
-    w: u32,
-    h: u32,
+    adjacency: u32,
+    width: u32,
+    height: u32,
     pixels: &[u8],
     count: u32,
     heights: &[u8],
@@ -139,12 +175,23 @@ pub fn pass_between(
     y: u32,
     work: &mut [u16],
 ) -> Answer
-    ensures { λ r. ⌜ PassSays (pictureOf a w h (now (pixels .entry))) count (now (heights .entry)) (now (fathers .entry)) (now (firsts .entry)) (now (map .entry)) x y (now (work .entry)) (now (work .exit)) r ⌝ }
+    ensures { λ r. ⌜ PassSays (pictureOf adjacency width height (now (pixels .entry))) count (now (heights .entry)) (now (fathers .entry)) (now (firsts .entry)) (now (map .entry)) x y (now (work .entry)) (now (work .exit)) r ⌝ }
 {
     let shortest = least(heights.len(), fathers.len(), firsts.len(), map.len());
-    let fault = output_fault(a, w, h, pixels.len(), shortest, work.len());
+    let fault = output_fault(adjacency, width, height, pixels.len(), shortest, work.len());
     let fault = places_fault(fault, pixels.len(), x, y);
-    let fault = tree_fault(fault, a, w, h, pixels, count, heights, fathers, firsts, map);
+    let fault = tree_fault(
+        fault,
+        adjacency,
+        width,
+        height,
+        pixels,
+        count,
+        heights,
+        fathers,
+        firsts,
+        map,
+    );
     if fault != 0 {
         return refused(fault);
     }
@@ -153,63 +200,98 @@ pub fn pass_between(
 }
 
 // Whether the pixel at a place is lowerable: answers 1 for yes, 0 for no.
-pub fn is_lowerable(a: u32, w: u32, h: u32, pixels: &[u8], place: u32, work: &mut [u16]) -> Answer
-    ensures { λ r. ⌜ LowerableSays (pictureOf a w h (now (pixels .entry))) place (now (work .entry)) (now (work .exit)) r ⌝ }
+pub fn is_lowerable(
+    adjacency: u32,
+    width: u32,
+    height: u32,
+    pixels: &[u8],
+    place: u32,
+    work: &mut [u16],
+) -> Answer
+    ensures { λ r. ⌜ LowerableSays (pictureOf adjacency width height (now (pixels .entry))) place (now (work .entry)) (now (work .exit)) r ⌝ }
 {
-    let fault = place_fault(a, w, h, pixels.len(), work.len(), place);
+    let fault = place_fault(adjacency, width, height, pixels.len(), work.len(), place);
     if fault != 0 {
         return refused(fault);
     }
     let n = pixels.len();
-    let yes = lowerable(a, w, h, pixels, place as usize, &mut work[..n]);
+    let yes = lowerable(
+        adjacency,
+        width,
+        height,
+        pixels,
+        place as usize,
+        &mut work[..n],
+    );
     finish(work, n, one_if(yes))
 }
 
 // The watershed of a picture.
 pub fn watershed_of(
-    a: u32,
-    w: u32,
-    h: u32,
+    adjacency: u32,
+    width: u32,
+    height: u32,
     pixels: &[u8],
     out: &mut [u8],
     work: &mut [u16],
 ) -> Answer
-    ensures { λ r. ⌜ WatershedSays (pictureOf a w h (now (pixels .entry))) (now (out .entry)) (now (out .exit)) (now (work .entry)) (now (work .exit)) r ⌝ }
+    ensures { λ r. ⌜ WatershedSays (pictureOf adjacency width height (now (pixels .entry))) (now (out .entry)) (now (out .exit)) (now (work .entry)) (now (work .exit)) r ⌝ }
 {
-    let fault = output_fault(a, w, h, pixels.len(), out.len(), work.len());
+    let fault = output_fault(
+        adjacency,
+        width,
+        height,
+        pixels.len(),
+        out.len(),
+        work.len(),
+    );
     if fault != 0 {
         return refused(fault);
     }
     let n = pixels.len();
     let whole = 5 * n;
-    watershed_core(a, w, h, pixels, &mut out[..n], &mut work[..whole]);
+    watershed_core(
+        adjacency,
+        width,
+        height,
+        pixels,
+        &mut out[..n],
+        &mut work[..whole],
+    );
     finish(work, n, 0)
 }
 
 // The value of the pixel at a place, and the line or the number of its patch.
-pub fn query_place(a: u32, w: u32, h: u32, pixels: &[u8], place: u32, work: &mut [u16]) -> Queried
-    ensures { λ r. ⌜ QuerySays (pictureOf a w h (now (pixels .entry))) place (now (work .entry)) (now (work .exit)) r ⌝ }
+pub fn query_place(
+    adjacency: u32,
+    width: u32,
+    height: u32,
+    pixels: &[u8],
+    place: u32,
+    work: &mut [u16],
+) -> Queried
+    ensures { λ r. ⌜ QuerySays (pictureOf adjacency width height (now (pixels .entry))) place (now (work .entry)) (now (work .exit)) r ⌝ }
 {
-    let fault = place_fault(a, w, h, pixels.len(), work.len(), place);
+    let fault = place_fault(adjacency, width, height, pixels.len(), work.len(), place);
     if fault != 0 {
         return answer_query(fault, 0, 0);
     }
-    let number = query_cleared(a, w, h, pixels, place as usize, work);
+    let number = query_cleared(adjacency, width, height, pixels, place as usize, work);
     answer_query(0, pixels[place as usize], number)
 }
 
 // The patches of a picture in their order, a record each in the lent list; answers how many there are.
 pub fn list_patches(
-    a: u32,
-    w: u32,
-    h: u32,
+    adjacency: u32,
+    width: u32,
+    height: u32,
     pixels: &[u8],
     out: &mut [Patch],
     work: &mut [u16],
 ) -> Answer
-    ensures { λ r. ⌜ PatchesSay (pictureOf a w h (now (pixels .entry))) (now (out .entry)) (now (out .exit)) (now (work .entry)) (now (work .exit)) r ⌝ }
+    ensures { λ r. ⌜ PatchesSay (pictureOf adjacency width height (now (pixels .entry))) (now (out .entry)) (now (out .exit)) (now (work .entry)) (now (work .exit)) r ⌝ }
 {
-    let answer = gather(a, w, h, pixels, out.len(), work);
+    let answer = gather(adjacency, width, height, pixels, out.len(), work);
     write_records(out, work, pixels.len(), answer.value as usize);
     clear_accepted(work, pixels.len(), answer.number);
     answer

@@ -14,7 +14,7 @@ use Rattle.board.proofs.check_tree.Tie as tie
 
 -- the picture of the arguments
 abbrev pictured : tie.Start → Picture
-pictured s = pictureOf (s .args .a) (s .args .w) (s .args .h) (s .args .pixels .now)
+pictured s = pictureOf (s .args .adjacency) (s .args .width) (s .args .height) (s .args .pixels .now)
 
 -- the fault of the lengths, and the whole fault behind a fault f
 abbrev lengths : tie.Start → ℕ

@@ -13,7 +13,7 @@ use Rattle.board.proofs.label_section.Tie as tie
 
 -- the picture of the arguments
 abbrev pictured : tie.Start → Picture
-pictured s = pictureOf (s .args .a) (s .args .w) (s .args .h) (s .args .pixels .now)
+pictured s = pictureOf (s .args .adjacency) (s .args .width) (s .args .height) (s .args .pixels .now)
 
 abbrev size : tie.Start → ℕ
 size s = length (s .args .pixels .now)
