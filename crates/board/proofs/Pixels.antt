@@ -4,14 +4,14 @@ use mathlib.Core.List.{List, []}
 use Prim.Native.Nat.{ℕ}
 use borrow.Author.Tests.{eq-eqb, ne-eqb}
 use lib.ListN.{drop}
-use Rattle.p5.specs.Files.{readFile, numberOf, headerOf}
+use Rattle.p5.specs.Files.{readFile, outcomeNumber, headerOf}
 use Rattle.board.specs.Pixels.{pixelsOf}
 
 module _ (f : List ℕ) where
-  pub pixels-read : numberOf (readFile f) ≡ 0 → drop (headerOf (readFile f) .offset) f ≡ pixelsOf f
+  pub pixels-read : outcomeNumber (readFile f) ≡ 0 → drop (headerOf (readFile f) .offset) f ≡ pixelsOf f
   unfolding pixelsOf
   pixels-read e = rw (eq-eqb _ _ e)
 
-  pub pixels-none : (numberOf (readFile f) ≡ 0 → ⊥) → [] ≡ pixelsOf f
+  pub pixels-none : (outcomeNumber (readFile f) ≡ 0 → ⊥) → [] ≡ pixelsOf f
   unfolding pixelsOf
   pixels-none e = rw (ne-eqb _ _ e)

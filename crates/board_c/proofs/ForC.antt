@@ -15,7 +15,7 @@ use Rattle.faults.specs.PictureFault.{firstOf, when, pictureFaultOf}
 use Rattle.picture.specs.Watersheds.{watershed}
 use Rattle.picture.specs.Patches.{patchAt}
 use Rattle.lists.proofs.Tests.{on-test}
-use Rattle.p5.specs.Files.{readFile, numberOf, headerOf}
+use Rattle.p5.specs.Files.{readFile, outcomeNumber, headerOf}
 use Rattle.lists.specs.Writing.{Written}
 use Rattle.answers.specs.declared.Answer.{Answer}
 use Rattle.board.specs.declared.query.Queried.{Queried}
@@ -34,15 +34,15 @@ output-written : (f : ℕ) (bytes o o′ : List ℕ) {to : ℕ} → f ≡ 0 → 
 output-written f bytes o o′ e w = written-front w ∙ written-left f (over bytes o) o e
 
 module _ (f o : List ℕ) where
-  read-is : firstOf (numberOf (readFile f)) (when (ltb (length o) 32) 9) ≡ readFaultForC f o
+  read-is : firstOf (outcomeNumber (readFile f)) (when (ltb (length o) 32) 9) ≡ readFaultForC f o
   unfolding readFaultForC
   read-is = refl
 
-  pub read-fault : (n r : ℕ) → n ≡ numberOf (readFile f) → r ≡ firstOf n (when (ltb (length o) 32) 9) → r ≡ readFaultForC f o
+  pub read-fault : (n r : ℕ) → n ≡ outcomeNumber (readFile f) → r ≡ firstOf n (when (ltb (length o) 32) 9) → r ≡ readFaultForC f o
   read-fault n r e w = w ∙ (ap (λ (k : ℕ). firstOf k (when (ltb (length o) 32) 9)) e ∙ read-is)
 
   pub read-room : readFaultForC f o ≡ 0 → 32 ≤ length o
-  read-room z = ltb-false (length o) 32 (then-none (numberOf (readFile f)) 8 _ _ read-is z .1)
+  read-room z = ltb-false (length o) 32 (then-none (outcomeNumber (readFile f)) 8 _ _ read-is z .1)
 
   pub read-refused : (r : ℕ) → r ≡ readFaultForC f o → r ≢ 0 → ReadForC f o o r
   read-refused r e d = record { number = e; output = refused-left (readFaultForC f o) r e d (over (headerBytes f) o) o }

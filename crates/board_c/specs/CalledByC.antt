@@ -10,7 +10,7 @@ use Rattle.picture.specs.Pictures.{Picture, places, valueAt, allBytes}
 use Rattle.faults.specs.PictureFault.{firstOf, when, pictureFaultOf}
 use Rattle.picture.specs.Watersheds.{watershed}
 use Rattle.picture.specs.Patches.{patchAt}
-use Rattle.p5.specs.Files.{readFile, numberOf, headerOf}
+use Rattle.p5.specs.Files.{readFile, outcomeNumber, headerOf}
 use Rattle.text.specs.Little.{littleEndian}
 use Rattle.picture.specs.Kept.{Kept, OthersFail}
 use Rattle.board.specs.Demands.{leftBy}
@@ -22,7 +22,7 @@ pair x y = littleEndian 8 x ++ littleEndian 8 y
 
 -- reading for C: the refusals of reading, then 9 for output of fewer than 32 bytes
 unfoldable pub readFaultForC : List ℕ → List ℕ → ℕ
-readFaultForC f o = firstOf (numberOf (readFile f)) (when (ltb (length o) 32) 9)
+readFaultForC f o = firstOf (outcomeNumber (readFile f)) (when (ltb (length o) 32) 9)
 
 -- width, height, largest sample and the pixels' offset
 abbrev pub headerBytes : List ℕ → List ℕ

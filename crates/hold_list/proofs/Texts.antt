@@ -14,7 +14,7 @@ use Rattle.lists.proofs.Cuts.{take-rest}
 use Rattle.topology.proofs.Accepted.{accepted-is, is-accepted, at-byte}
 use Rattle.topology.proofs.Water.{watershed-shape}
 use Rattle.topology.proofs.Demand.{demand-3}
-use Rattle.p5.specs.Files.{readFile, numberOf, headerOf}
+use Rattle.p5.specs.Files.{readFile, outcomeNumber, headerOf}
 use Rattle.p5.proofs.Accepted.{accepted-number}
 use Rattle.hold_lines.specs.Lines.{refusedLine}
 use Rattle.hold_list.specs.HoldText.{patchList, holdList, pictureIn, holdText}
@@ -28,16 +28,16 @@ module _ (f : List ℕ) where
   unfolding holdText
   text-long h = rw (lt-ltb 4096 (length f) h, holdText)
 
-  pub text-refused : length f ≤ 4096 → numberOf (readFile f) ≢ 0 → holdText f ≡ refusedLine (numberOf (readFile f))
+  pub text-refused : length f ≤ 4096 → outcomeNumber (readFile f) ≢ 0 → holdText f ≡ refusedLine (outcomeNumber (readFile f))
   unfolding holdText
-  text-refused h d = rw (le-ltb 4096 (length f) h, ne-eqb (numberOf (readFile f)) 0 d, holdText)
+  text-refused h d = rw (le-ltb 4096 (length f) h, ne-eqb (outcomeNumber (readFile f)) 0 d, holdText)
 
-  pub text-list : length f ≤ 4096 → numberOf (readFile f) ≡ 0 → holdText f ≡ holdList (pictureIn f)
+  pub text-list : length f ≤ 4096 → outcomeNumber (readFile f) ≡ 0 → holdText f ≡ holdList (pictureIn f)
   unfolding holdText
-  text-list h e = rw (le-ltb 4096 (length f) h, eq-eqb (numberOf (readFile f)) 0 e, holdText)
+  text-list h e = rw (le-ltb 4096 (length f) h, eq-eqb (outcomeNumber (readFile f)) 0 e, holdText)
 
   -- an accepted file holds an accepted picture
-  pub file-picture : numberOf (readFile f) ≡ 0 → ((i : ℕ) → getD f i 0 ≤ 255) → isPicture (pictureIn f) ≡ true
+  pub file-picture : outcomeNumber (readFile f) ≡ 0 → ((i : ℕ) → getD f i 0 ≤ 255) → isPicture (pictureIn f) ≡ true
   file-picture e b =
       let h = headerOf (readFile f) in
       let a = accepted-number f .0 e in

@@ -7,7 +7,7 @@ use lib.ListN.{length, drop}
 use Rattle.picture.specs.Pictures.{Picture}
 use Rattle.picture.specs.Watersheds.{watershed}
 use Rattle.picture.specs.Patches.{Patch, patches, lineCount, centre}
-use Rattle.p5.specs.Files.{readFile, numberOf, headerOf}
+use Rattle.p5.specs.Files.{readFile, outcomeNumber, headerOf}
 use Rattle.text.specs.Decimal.{fields}
 use Rattle.hold_lines.specs.Lines.{headLines, refusedLine}
 
@@ -41,5 +41,5 @@ unfoldable pub holdText : List ℕ → List ℕ
 holdText f =
     elim (ltb 4096 (length f)) [
       | true ↦ refusedLine 12
-      | false ↦ elim (eqb (numberOf (readFile f)) 0) [ true ↦ holdList (pictureIn f) | false ↦ refusedLine (numberOf (readFile f)) ]
+      | false ↦ elim (eqb (outcomeNumber (readFile f)) 0) [ true ↦ holdList (pictureIn f) | false ↦ refusedLine (outcomeNumber (readFile f)) ]
     ]

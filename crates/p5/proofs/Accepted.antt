@@ -11,7 +11,7 @@ use Rattle.picture.specs.Pictures.{sideFits}
 use Rattle.p5.specs.declared.header.Header.{Header}
 use Rattle.p5.specs.declared.file.Outcome.{Outcome}
 use Rattle.p5.specs.declared.file.Outcome.the-variants.{Accepted, NotP5, Malformed, SideOutside, LargestOutside, CountDiffers, PixelAbove}
-use Rattle.p5.specs.Files.{atMost, onHeader, onWalk, readFile, numberOf, headerOf}
+use Rattle.p5.specs.Files.{atMost, onHeader, onWalk, readFile, outcomeNumber, headerOf}
 use Rattle.p5.specs.Shapes.{Inside, Accepts}
 use Rattle.lists.proofs.Tests.{and-both, and-left, and-right}
 use Rattle.p5.proofs.Leading.{leading-below, leading-full}
@@ -53,7 +53,7 @@ pub accepted : (f : List ℕ) (h : Header) → (readFile f ≡ Accepted h) ↔ A
 accepted f h = (λ e. accepts-of f h (subst (Verdict f) e (verdict f)), accepted-of f h)
 
 -- so the number is 0 if and only if the file has the shape of the header that is answered
-numbered-0 : (o : Outcome) → numberOf o ≡ 0 → o ≡ Accepted (headerOf o)
+numbered-0 : (o : Outcome) → outcomeNumber o ≡ 0 → o ≡ Accepted (headerOf o)
 numbered-0 (Accepted h) e = refl
 numbered-0 NotP5 e = absurd (omega arith)
 numbered-0 (Malformed p) e = absurd (omega arith)
@@ -62,5 +62,5 @@ numbered-0 LargestOutside e = absurd (omega arith)
 numbered-0 CountDiffers e = absurd (omega arith)
 numbered-0 (PixelAbove x) e = absurd (omega arith)
 
-pub accepted-number : (f : List ℕ) → (numberOf (readFile f) ≡ 0) ↔ Accepts f (headerOf (readFile f))
-accepted-number f = (λ e. accepted f _ .0 (numbered-0 (readFile f) e), λ a. ap numberOf (accepted f _ .1 a))
+pub accepted-number : (f : List ℕ) → (outcomeNumber (readFile f) ≡ 0) ↔ Accepts f (headerOf (readFile f))
+accepted-number f = (λ e. accepted f _ .0 (numbered-0 (readFile f) e), λ a. ap outcomeNumber (accepted f _ .1 a))

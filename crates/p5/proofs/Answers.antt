@@ -14,7 +14,7 @@ use Rattle.p5.specs.declared.header.Walk.the-variants.{Walked, Stopped}
 use Rattle.p5.specs.declared.file.Outcome.{Outcome}
 use Rattle.p5.specs.declared.file.Outcome.the-variants.{Accepted, NotP5, Malformed, SideOutside, LargestOutside, CountDiffers, PixelAbove}
 use Rattle.p5.specs.Headers.{beginsP5, leading, walk}
-use Rattle.p5.specs.Files.{largestFits, atMost, onPixels, onHeader, onWalk, readFile, numberOf, headerOf, noHeader}
+use Rattle.p5.specs.Files.{largestFits, atMost, onPixels, onHeader, onWalk, readFile, outcomeNumber, headerOf, noHeader}
 use Rattle.lists.proofs.Tests.{on-pick, and-left, and-right}
 use Rattle.p5.proofs.Walking.{offset-within}
 
@@ -83,7 +83,7 @@ answer-within f = on-pick (λ (o : Outcome). headerOf o .offset ≤ length f) (b
     walked (Walked h) e = header-within h _ (length f) (offset-within f e)
     walked (Stopped p) e = zero-le
 
-pub refused-header : (o : Outcome) → (numberOf o ≡ 0 → ⊥) → headerOf o ≡ noHeader
+pub refused-header : (o : Outcome) → (outcomeNumber o ≡ 0 → ⊥) → headerOf o ≡ noHeader
 refused-header (Accepted h) n = absurd (n refl)
 refused-header NotP5 n = refl
 refused-header (Malformed p) n = refl

@@ -19,7 +19,7 @@ use Rattle.p5.proofs.Shape.{p5-bytes}
 use Rattle.p5.proofs.Walking.{Walking, first, second, third, fourth}
 
 -- a gap and a number
-record Section (u : List ℕ) : Type 0 where
+record SpacedNumber (u : List ℕ) : Type 0 where
   gap : List ℕ
   numeral : List ℕ
   value : ℕ
@@ -37,11 +37,11 @@ space = record { some = omega arith; white = refl }
 nought : Numeral (48 ∷ []) 0
 nought = record { some = omega arith; most = omega arith; digits = refl; value = refl }
 
-plain-section : Section plain
-plain-section = record { gap = 32 ∷ []; numeral = 48 ∷ []; value = 0; bytes = refl; is-gap = space; is-number = nought }
+plain-number : SpacedNumber plain
+plain-number = record { gap = 32 ∷ []; numeral = 48 ∷ []; value = 0; bytes = refl; is-gap = space; is-number = nought }
 
 -- P5, three sections and a space are a header
-begins-of : (v a b c more : List ℕ) → Section a → Section b → Section c → v ++ more ≡ 80 ∷ 53 ∷ (a ++ (b ++ (c ++ 32 ∷ []))) → Begins v
+begins-of : (v a b c more : List ℕ) → SpacedNumber a → SpacedNumber b → SpacedNumber c → v ++ more ≡ 80 ∷ 53 ∷ (a ++ (b ++ (c ++ 32 ∷ []))) → Begins v
 begins-of v a b c more x y z e =
     record {
       more = more;
@@ -71,7 +71,7 @@ begins-of v a b c more x y z e =
 -- a number that stands in a file
 record Stood (f : List ℕ) (p q : ℕ) : Type 0 where
   part : List ℕ
-  section : Section part
+  spaced : SpacedNumber part
   taken : take q f ≡ take p f ++ part
   within : q ≤ length f
 
@@ -82,7 +82,7 @@ stood f p v q s =
     let long : q ≡ p + length u = s .end ∙ ap (λ (n : ℕ). p + n) (sym (length-append (s .gap) (s .numeral))) in
     record {
       part = u;
-      section = record { gap = s .gap; numeral = s .numeral; value = v; bytes = refl; is-gap = s .is-gap; is-number = s .is-number };
+      spaced = record { gap = s .gap; numeral = s .numeral; value = v; bytes = refl; is-gap = s .is-gap; is-number = s .is-number };
       taken = take-part f p q u (drop q f) bytes long;
       within = part-within f p q u (drop q f) (omega (arith, length-append (s .gap) (s .numeral), s .is-gap .some)) bytes long;
     }
@@ -91,18 +91,18 @@ stood f p v q s =
 record Short (f : List ℕ) (p q : ℕ) : Type 0 where
   part : List ℕ
   more : List ℕ
-  section : Section (part ++ more)
+  spaced : SpacedNumber (part ++ more)
   taken : take q f ≡ take p f ++ part
   within : q ≤ length f
 
 short : (f : List ℕ) (p q : ℕ) → p ≤ length f → Reads f p (Unfit q) → Short f p q
-short f p q l (no-gap e) = record { part = []; more = plain; section = plain-section; taken = sym (append-nil (take p f)); within = l }
+short f p q l (no-gap e) = record { part = []; more = plain; spaced = plain-number; taken = sym (append-nil (take p f)); within = l }
 short f p q l (no-digit e z) =
     let s = gap-split f p e in
     record {
       part = s .gap;
       more = 48 ∷ [];
-      section = record { gap = s .gap; numeral = 48 ∷ []; value = 0; bytes = refl; is-gap = s .is-gap; is-number = nought };
+      spaced = record { gap = s .gap; numeral = 48 ∷ []; value = 0; bytes = refl; is-gap = s .is-gap; is-number = nought };
       taken = take-part f p q (s .gap) _ (s .bytes) (s .end);
       within = part-within f p q (s .gap) _ (s .is-gap .some) (s .bytes) (s .end);
     }
@@ -114,7 +114,7 @@ short f p q l (sixth e k) =
     record {
       part = s .gap ++ d;
       more = [];
-      section =
+      spaced =
           record {
             gap = s .gap;
             numeral = d;
@@ -153,8 +153,8 @@ module _ (f : List ℕ) (e : beginsP5 f ≡ true) where
       record {
         within = x .within;
         fit =
-            begins-of (take p f) (x .part ++ x .more) plain plain (x .more ++ (plain ++ (plain ++ 32 ∷ []))) (x .section)
-            plain-section plain-section
+            begins-of (take p f) (x .part ++ x .more) plain plain (x .more ++ (plain ++ (plain ++ 32 ∷ []))) (x .spaced)
+            plain-number plain-number
             (rw (x .taken, letters) (simp append-assoc));
       }
   begun p (second a b) =
@@ -163,7 +163,7 @@ module _ (f : List ℕ) (e : beginsP5 f ≡ true) where
       record {
         within = y .within;
         fit =
-            begins-of (take p f) (x .part) (y .part ++ y .more) plain (y .more ++ (plain ++ 32 ∷ [])) (x .section) (y .section) plain-section
+            begins-of (take p f) (x .part) (y .part ++ y .more) plain (y .more ++ (plain ++ 32 ∷ [])) (x .spaced) (y .spaced) plain-number
             (rw (y .taken, x .taken, letters) (simp append-assoc));
       }
   begun p (third a b c) =
@@ -173,7 +173,7 @@ module _ (f : List ℕ) (e : beginsP5 f ≡ true) where
       record {
         within = z .within;
         fit =
-            begins-of (take p f) (x .part) (y .part) (z .part ++ z .more) (z .more ++ 32 ∷ []) (x .section) (y .section) (z .section)
+            begins-of (take p f) (x .part) (y .part) (z .part ++ z .more) (z .more ++ 32 ∷ []) (x .spaced) (y .spaced) (z .spaced)
             (rw (z .taken, y .taken, x .taken, letters) (simp append-assoc));
       }
   begun p (fourth a b c i) =
@@ -183,6 +183,6 @@ module _ (f : List ℕ) (e : beginsP5 f ≡ true) where
       record {
         within = z .within;
         fit =
-            begins-of (take p f) (x .part) (y .part) (z .part) (32 ∷ []) (x .section) (y .section) (z .section)
+            begins-of (take p f) (x .part) (y .part) (z .part) (32 ∷ []) (x .spaced) (y .spaced) (z .spaced)
             (rw (z .taken, y .taken, x .taken, letters) (simp append-assoc));
       }

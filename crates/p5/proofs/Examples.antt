@@ -1,19 +1,16 @@
 -- Small files and their answers, by computation.
 use mathlib.Core.Path.{_≡_, refl}
-use mathlib.Core.List.{List, [], _∷_}
+use mathlib.Core.List.{List, [], _∷_, map}
 use Prim.Native.Nat.{ℕ}
 use Rattle.p5.specs.declared.file.Outcome.{Outcome}
 use Rattle.p5.specs.declared.file.Outcome.the-variants.{Accepted, NotP5, Malformed, SideOutside, LargestOutside, CountDiffers, PixelAbove}
 use Rattle.p5.specs.Headers.{gapEnd, digitsAt, numberAt, endAt, walk}
 use Rattle.p5.specs.Files.{onPixels, onHeader, readFile}
 
+-- a file and its answer
 record Example : Type 0 where
   file : List ℕ
   answer : Outcome
-
-abbrev Right : List Example → Type 0
-Right [] = Unit {0}
-Right (e ∷ es) = (readFile (e .file) ≡ e .answer) × Right es
 
 abbrev accepted : ℕ → ℕ → ℕ → ℕ → Outcome
 accepted w h m o = Accepted (record { width = w; height = h; largest = m; offset = o })
@@ -53,36 +50,7 @@ examples =
     example (80 ∷ 53 ∷ 32 ∷ 51 ∷ 32 ∷ 49 ∷ 32 ∷ 57 ∷ 10 ∷ 9 ∷ 10 ∷ 11 ∷ []) (PixelAbove 1) ∷
     []
 
-right : Right examples
+-- each file has its answer
+right : map (λ (e : Example). readFile (e .file)) examples ≡ map (λ (e : Example). e .answer) examples
 unfolding gapEnd digitsAt numberAt endAt walk onPixels onHeader readFile
-right = (
-  refl,
-  (
-    refl,
-    (
-      refl,
-      (
-        refl,
-        (
-          refl,
-          (
-            refl,
-            (
-              refl,
-              (
-                refl,
-                (
-                  refl,
-                  (
-                    refl,
-                    (refl, (refl, (refl, (refl, (refl, (refl, (refl, (refl, (refl, tt))))))))),
-                  ),
-                ),
-              ),
-            ),
-          ),
-        ),
-      ),
-    ),
-  ),
-)
+right = refl

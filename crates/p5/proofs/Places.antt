@@ -12,7 +12,7 @@ use Rattle.p5.specs.declared.header.Walk.the-variants.{Walked, Stopped}
 use Rattle.p5.specs.declared.file.Outcome.{Outcome}
 use Rattle.p5.specs.declared.file.Outcome.the-variants.{Accepted, NotP5, Malformed, SideOutside, LargestOutside, CountDiffers, PixelAbove}
 use Rattle.p5.specs.Headers.{walk}
-use Rattle.p5.specs.Files.{atMost, readFile, numberOf, placeOf}
+use Rattle.p5.specs.Files.{atMost, readFile, outcomeNumber, placeOf}
 use Rattle.p5.specs.Shapes.{Headed, Above, Cause, Begins, FirstUnfit, FirstAbove}
 use Rattle.p5.proofs.Leading.{leading-below}
 use Rattle.p5.proofs.Shape.{headed-walk}
@@ -73,7 +73,7 @@ above-before f x y a b l =
     omega (arith, c .above, b .none x l)
 
 -- the answer of a number with a place
-numbered-2 : (o : Outcome) → numberOf o ≡ 2 → o ≡ Malformed (placeOf o)
+numbered-2 : (o : Outcome) → outcomeNumber o ≡ 2 → o ≡ Malformed (placeOf o)
 numbered-2 (Accepted h) e = absurd (omega arith)
 numbered-2 NotP5 e = absurd (omega arith)
 numbered-2 (Malformed p) e = refl
@@ -82,7 +82,7 @@ numbered-2 LargestOutside e = absurd (omega arith)
 numbered-2 CountDiffers e = absurd (omega arith)
 numbered-2 (PixelAbove x) e = absurd (omega arith)
 
-numbered-6 : (o : Outcome) → numberOf o ≡ 6 → o ≡ PixelAbove (placeOf o)
+numbered-6 : (o : Outcome) → outcomeNumber o ≡ 6 → o ≡ PixelAbove (placeOf o)
 numbered-6 (Accepted h) e = absurd (omega arith)
 numbered-6 NotP5 e = absurd (omega arith)
 numbered-6 (Malformed p) e = absurd (omega arith)
@@ -93,13 +93,13 @@ numbered-6 (PixelAbove x) e = refl
 
 -- an answer of the number n names the first place of its kind, and no other
 module _ (f : List ℕ) (n : ℕ) (make : ℕ → Outcome) (First : ℕ → Type 0)
-    (refusal : (numberOf (readFile f) ≡ n) ↔ (Cause f n × NoneBelow f n))
-    (number : (p : ℕ) → numberOf (make p) ≡ n)
-    (is : (o : Outcome) → numberOf o ≡ n → o ≡ make (placeOf o))
+    (refusal : (outcomeNumber (readFile f) ≡ n) ↔ (Cause f n × NoneBelow f n))
+    (number : (p : ℕ) → outcomeNumber (make p) ≡ n)
+    (is : (o : Outcome) → outcomeNumber o ≡ n → o ≡ make (placeOf o))
     (first : (p : ℕ) → Verdict f (make p) → First p)
     (before : (p q : ℕ) → First p → First q → p < q → ⊥) where
   first-at : (p : ℕ) → (readFile f ≡ make p) ↔ ((Cause f n × NoneBelow f n) × First p)
-  first-at p = (λ e. (refusal .0 (ap numberOf e ∙ number p), first p (subst (Verdict f) e (verdict f))), back)
+  first-at p = (λ e. (refusal .0 (ap outcomeNumber e ∙ number p), first p (subst (Verdict f) e (verdict f))), back)
     where
       back : (Cause f n × NoneBelow f n) × First p → readFile f ≡ make p
       back c =

@@ -13,7 +13,7 @@ use Rattle.picture.specs.Pictures.{sideFits}
 use Rattle.p5.specs.declared.header.Header.{Header}
 use Rattle.p5.specs.declared.file.Outcome.{Outcome}
 use Rattle.p5.specs.Headers.{beginsP5}
-use Rattle.p5.specs.Files.{largestFits, atMost, readFile, numberOf}
+use Rattle.p5.specs.Files.{largestFits, atMost, readFile, outcomeNumber}
 use Rattle.p5.specs.Shapes.{Headed, Inside, Outside, Above, Cause, other, unheaded, side, largest, count, above}
 use Rattle.lists.proofs.Tests.{and-left, and-right, and-fails}
 use Rattle.p5.proofs.Shape.{p5-bytes, headed-begins, headed-walk, headed-rest}
@@ -109,7 +109,7 @@ record Summary (f : List ℕ) (n : ℕ) : Type 0 where
 refusal : (f : List ℕ) (n : ℕ) → 1 ≤ n → Cause f n → NoneBelow f n → Summary f n
 refusal f n some c b = record { cause = λ _. c; first = b; clean = λ e. absurd (omega arith) }
 
-summary : (f : List ℕ) (o : Outcome) → Verdict f o → Summary f (numberOf o)
+summary : (f : List ℕ) (o : Outcome) → Verdict f o → Summary f (outcomeNumber o)
 summary f o (not-p5 e) = refusal f 1 (omega arith) (other (λ t b. false≢true (sym e ∙ ap beginsP5 b))) (below₁ f)
 summary f o (stopped e g) =
     refusal f 2 (omega arith)
@@ -134,26 +134,26 @@ summary f o (fits k e g n x) =
     }
 
 -- a refusal number is answered if and only if its cause holds and no earlier one does
-pub refused : (f : List ℕ) (n : ℕ) → 1 ≤ n → (numberOf (readFile f) ≡ n) ↔ (Cause f n × NoneBelow f n)
+pub refused : (f : List ℕ) (n : ℕ) → 1 ≤ n → (outcomeNumber (readFile f) ≡ n) ↔ (Cause f n × NoneBelow f n)
 refused f n some = (λ e. subst Both e (λ l. (s .cause l, s .first)) some, equal)
   where
-    s : Summary f (numberOf (readFile f))
+    s : Summary f (outcomeNumber (readFile f))
     s = summary f (readFile f) (verdict f)
 
     Both : ℕ → Type 0
     Both m = 1 ≤ m → Cause f m × NoneBelow f m
 
-    equal : Cause f n × NoneBelow f n → numberOf (readFile f) ≡ n
+    equal : Cause f n × NoneBelow f n → outcomeNumber (readFile f) ≡ n
     equal c =
-        let m = numberOf (readFile f) in
+        let m = outcomeNumber (readFile f) in
         let here : m ≡ 0 → ⊥ = λ e. s .clean e n (c .0) in
         let less : m < n → ⊥ = λ l. c .1 m l (s .cause (omega arith)) in
         let more : n < m → ⊥ = λ l. s .first n l (c .0) in
         omega arith
 
 -- and 0 if and only if no cause holds
-pub unrefused : (f : List ℕ) → (numberOf (readFile f) ≡ 0) ↔ ((j : ℕ) → Cause f j → ⊥)
-unrefused f = (s .clean, λ none. let here : 1 ≤ numberOf (readFile f) → ⊥ = λ l. none _ (s .cause l) in omega arith)
+pub unrefused : (f : List ℕ) → (outcomeNumber (readFile f) ≡ 0) ↔ ((j : ℕ) → Cause f j → ⊥)
+unrefused f = (s .clean, λ none. let here : 1 ≤ outcomeNumber (readFile f) → ⊥ = λ l. none _ (s .cause l) in omega arith)
   where
-    s : Summary f (numberOf (readFile f))
+    s : Summary f (outcomeNumber (readFile f))
     s = summary f (readFile f) (verdict f)

@@ -44,14 +44,14 @@ unfoldable pub readFile : List ℕ → Outcome
 readFile f = pick (beginsP5 f) (onWalk f (walk f)) NotP5
 
 -- the number of an answer, 0 for an accepted file
-abbrev pub numberOf : Outcome → ℕ
-numberOf (Accepted h) = 0
-numberOf NotP5 = 1
-numberOf (Malformed p) = 2
-numberOf SideOutside = 3
-numberOf LargestOutside = 4
-numberOf CountDiffers = 5
-numberOf (PixelAbove x) = 6
+abbrev pub outcomeNumber : Outcome → ℕ
+outcomeNumber (Accepted h) = 0
+outcomeNumber NotP5 = 1
+outcomeNumber (Malformed p) = 2
+outcomeNumber SideOutside = 3
+outcomeNumber LargestOutside = 4
+outcomeNumber CountDiffers = 5
+outcomeNumber (PixelAbove x) = 6
 
 -- the place of an answer: the offset of the first unfit byte, the first place above the largest sample, else 0
 abbrev pub placeOf : Outcome → ℕ
@@ -76,8 +76,3 @@ headerOf SideOutside = noHeader
 headerOf LargestOutside = noHeader
 headerOf CountDiffers = noHeader
 headerOf (PixelAbove x) = noHeader
-
--- the refusal of a walk that stopped; a whole header does not come here
-abbrev pub malformedAt : Walk → Outcome
-malformedAt (Walked h) = Malformed (h .offset)
-malformedAt (Stopped p) = Malformed p

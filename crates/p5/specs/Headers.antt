@@ -73,8 +73,3 @@ fromWidth f (Unfit p) = Stopped p
 -- the whole header: width, height, largest sample, one white space byte
 unfoldable pub walk : List ℕ → Walk
 walk f = fromWidth f (numberAt f 2)
-
--- the place where the walk stops at a field; a number does not come here
-abbrev pub stoppedAt : Field → Walk
-stoppedAt (Number n p) = Stopped p
-stoppedAt (Unfit p) = Stopped p

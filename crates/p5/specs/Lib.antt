@@ -2,3 +2,4 @@
 pub mod Headers
 pub mod Files
 pub mod Shapes
+pub mod Steps

@@ -40,7 +40,7 @@ pub record Headed (f : List ℕ) (h : Header) (rest : List ℕ) : Type 0 where
   pub is-last : isWhite last ≡ true
   pub offset : h .offset + length rest ≡ length f
 
--- a number is low to high, or outside
+-- x is from low to high
 abbrev pub Inside : ℕ → ℕ → ℕ → Type 0
 Inside low high x = (low ≤ x) × (x ≤ high)
 

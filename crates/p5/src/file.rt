@@ -8,7 +8,8 @@ use crate::samples::largest_fits;
 use ranges::sides_fit;
 ghost use mathlib.Core.Path.{_≡_};
 ghost use Rattle.p5.specs.Headers.{beginsP5};
-ghost use Rattle.p5.specs.Files.{onPixels, onHeader, readFile, malformedAt};
+ghost use Rattle.p5.specs.Files.{onPixels, onHeader, readFile};
+ghost use Rattle.p5.specs.Steps.{malformedAt};
 
 // The first two bytes of a file.
 pub const P5: [u8; 2] = *b"P5";

@@ -3,7 +3,8 @@ use crate::characters::is_white;
 use crate::field::Field;
 use crate::reader::Reader;
 ghost use mathlib.Core.Path.{_≡_};
-ghost use Rattle.p5.specs.Headers.{walk, endAt, stoppedAt};
+ghost use Rattle.p5.specs.Headers.{walk, endAt};
+ghost use Rattle.p5.specs.Steps.{stoppedAt};
 
 // The numbers of a header, and where the pixels begin.
 pub struct Header {

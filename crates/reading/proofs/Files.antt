@@ -2,11 +2,11 @@
 use mathlib.Core.Path.{_≡_, sym, ap, _∙_}
 use Rattle.p5.specs.declared.header.Header.{Header}
 use Rattle.p5.specs.declared.file.Outcome.{Outcome}
-use Rattle.p5.specs.Files.{numberOf, placeOf, headerOf, noHeader}
+use Rattle.p5.specs.Files.{outcomeNumber, placeOf, headerOf, noHeader}
 use Rattle.reading.specs.declared.Read.{Read}
 use Rattle.reading.specs.Reads.{ReadIs, RefusedRead}
 
-pub refused-read : (o : Outcome) {r : Read} → RefusedRead (numberOf o) (placeOf o) r → headerOf o ≡ noHeader → ReadIs o r
+pub refused-read : (o : Outcome) {r : Read} → RefusedRead (outcomeNumber o) (placeOf o) r → headerOf o ≡ noHeader → ReadIs o r
 refused-read o e h =
     record {
       number = ap (λ (x : Read). x .number) e;

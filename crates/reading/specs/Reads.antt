@@ -3,12 +3,12 @@ use mathlib.Core.Path.{_≡_}
 use mathlib.Core.List.{List}
 use Prim.Native.Nat.{ℕ}
 use Rattle.p5.specs.declared.file.Outcome.{Outcome}
-use Rattle.p5.specs.Files.{readFile, numberOf, placeOf, headerOf}
+use Rattle.p5.specs.Files.{readFile, outcomeNumber, placeOf, headerOf}
 use Rattle.reading.specs.declared.Read.{Read}
 
 -- the record of an answer has its number, its place and its header
 pub record ReadIs (o : Outcome) (r : Read) : Type 0 where
-  pub number : r .number ≡ numberOf o
+  pub number : r .number ≡ outcomeNumber o
   pub place : r .place ≡ placeOf o
   pub width : r .width ≡ headerOf o .width
   pub height : r .height ≡ headerOf o .height

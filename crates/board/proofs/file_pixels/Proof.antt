@@ -6,7 +6,7 @@ use borrow.Author.Needs.{needs}
 use denote.Ref.{now}
 use Rattle.lists.proofs.Cuts.{take-rest}
 use Rattle.p5.proofs.Answers.{answer-within, refused-header}
-use Rattle.p5.specs.Files.{numberOf, readFile}
+use Rattle.p5.specs.Files.{outcomeNumber, readFile}
 use Rattle.board.proofs.Pixels.{pixels-read, pixels-none}
 use Rattle.board.proofs.file_pixels.Statement.{statement}
 use Rattle.board.proofs.file_pixels.Tie as tie
@@ -40,7 +40,7 @@ returns-2 : tie.Need-returns-2
 returns-2 c =
     let f = now (c .before .before .before .before .args .file) in
     let r = c .before .before .read-file .ensures in
-    let refused : numberOf (readFile f) ≡ 0 → ⊥ = λ e. c .before .if1 .left (r .number ∙ e) in
+    let refused : outcomeNumber (readFile f) ≡ 0 → ⊥ = λ e. c .before .if1 .left (r .number ∙ e) in
     record { bytes = pixels-none f refused; memory = refl; start = rw (refused-header _ refused) (sym (add-zero _)) }
 
 pub file-pixels-spec : {M : Type 1} → statement M

@@ -4,7 +4,7 @@ use mathlib.Core.List.{List}
 use Prim.Native.Nat.{ℕ}
 use native.Mathlib.Omega.{arith}
 use Rattle.picture.specs.Pictures.{isPicture, pictureOf}
-use Rattle.p5.specs.Files.{readFile, numberOf}
+use Rattle.p5.specs.Files.{readFile, outcomeNumber}
 use Rattle.p5.proofs.Answers.{answer-within}
 use Rattle.lists.specs.Writing.{Written}
 use Rattle.hold_lines.specs.Lines.{refusedLine}
@@ -19,7 +19,7 @@ use Rattle.hold_list.proofs.put_text.Tie as tie
 abbrev origin : tie.Else2 → tie.Start
 origin c = c .before .before .before .before .before
 
-none : (c : tie.Else2) → numberOf (readFile (origin c .args .file .now)) ≡ 0
+none : (c : tie.Else2) → outcomeNumber (readFile (origin c .args .file .now)) ≡ 0
 none c = sym (c .before .read-file .ensures .number) ∙ c .if2 .left
 
 -- the picture that is lent is that of the file

@@ -1,6 +1,5 @@
 -- `patch_records::write_records` meets its contract: a walk of its MIR, by hand. The borrow of the list is opened once, before the loop, and closed once, after it; between the two the memory is the function's own.
 -- A turn passes a copy of the figures' reference to `record_at`, takes the element out of the row, stores the record and puts the element back. With t records left, the first count − t are written (`Filling` of crate `lists`).
---
 use mathlib.Core.Path.{_≡_, refl, sym, ap, subst}
 use mathlib.Core.Bool.{Bool}
 use mathlib.Core.List.{List, [], _∷_}

@@ -1,6 +1,5 @@
 -- `p5::field::digits_at` meets its contract.
 use Rattle.lists.proofs.Tests.{was-true, was-false}
--- `p5::field::digits_at` meets its contract.
 use mathlib.Core.Path.{_∙_}
 use Prim.Native.Nat.{_-_}
 use native.Mathlib.Omega.{arith}

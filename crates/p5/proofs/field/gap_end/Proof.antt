@@ -1,6 +1,5 @@
 -- `p5::field::gap_end` meets its contract.
 use Rattle.lists.proofs.Tests.{was-true, was-false}
--- `p5::field::gap_end` meets its contract.
 use mathlib.Core.Path.{_≡_, refl, _∙_}
 use Prim.Native.Nat.{_-_}
 use borrow.Author.Needs.{needs}

@@ -1,7 +1,7 @@
 -- `p5::file::malformed` meets its contract.
 use mathlib.Core.Path.{sym, ap}
 use borrow.Author.Needs.{needs}
-use Rattle.p5.specs.Files.{malformedAt}
+use Rattle.p5.specs.Steps.{malformedAt}
 use Rattle.p5.proofs.file.malformed.Statement.{statement}
 use Rattle.p5.proofs.file.malformed.Tie as tie
 

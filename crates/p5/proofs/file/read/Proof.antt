@@ -1,11 +1,11 @@
 -- `p5::file::read` meets its contract.
 use Rattle.lists.proofs.Tests.{was-true, was-false}
 use Rattle.lists.proofs.Cuts.{take-rest}
--- `p5::file::read` meets its contract.
 use mathlib.Core.Path.{sym, ap, _∙_}
 use borrow.Author.Needs.{needs}
 use denote.Ref.{now}
-use Rattle.p5.specs.Files.{onHeader, onWalk, malformedAt}
+use Rattle.p5.specs.Files.{onHeader, onWalk}
+use Rattle.p5.specs.Steps.{malformedAt}
 use Rattle.p5.proofs.Answers.{read-other, read-p5}
 use Rattle.p5.proofs.Walking.{offset-within}
 use Rattle.p5.proofs.file.read.Statement.{statement}

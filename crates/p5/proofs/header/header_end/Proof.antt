@@ -1,6 +1,5 @@
 -- `p5::header::header_end` meets its contract.
 use Rattle.lists.proofs.Tests.{was-true, was-false}
--- `p5::header::header_end` meets its contract.
 use borrow.Author.Needs.{needs}
 use Rattle.p5.proofs.Walking.{end-past, end-stop, end-white}
 use Rattle.p5.proofs.header.header_end.Statement.{statement}

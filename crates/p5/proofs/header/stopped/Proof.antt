@@ -1,7 +1,7 @@
 -- `p5::header::stopped` meets its contract.
 use mathlib.Core.Path.{sym, ap}
 use borrow.Author.Needs.{needs}
-use Rattle.p5.specs.Headers.{stoppedAt}
+use Rattle.p5.specs.Steps.{stoppedAt}
 use Rattle.p5.proofs.header.stopped.Statement.{statement}
 use Rattle.p5.proofs.header.stopped.Tie as tie
 

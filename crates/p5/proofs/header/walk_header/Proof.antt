@@ -1,6 +1,5 @@
 -- `p5::header::walk_header` meets its contract: a walk of its MIR, by hand. A `Reader` that one call returns is held in a local and passed to the header. All that the proof knows of `new` and of `header` is that each meets its contract.
 -- The machine value that `new` returns is stored and passed on as it is. In a local of a body MIR erases the lifetime of the struct's type, so the value is shown to have the type at `erased`: what the struct owns does not say the lifetime's name.
---
 use mathlib.Core.Path.{_≡_, refl, ap, _∙_}
 use Prim.Native.Nat.{ℕ}
 use mathlib.Core.List.{List, [], _∷_}

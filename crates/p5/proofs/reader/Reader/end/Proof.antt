@@ -1,6 +1,5 @@
 -- `p5::reader::Reader::end` meets its contract: a walk of its MIR, by hand. The struct is taken apart, and `header_end` is called on the slice, the three numbers and the position.
 -- The struct is Copy: what it owns is had twice, one copy is kept for the exit, and of the other what file owns goes to the callee, beside the lifetime's token, which comes back.
---
 use mathlib.Core.Path.{_≡_, refl}
 use Prim.Native.Nat.{ℕ, _<_, _^_}
 use mathlib.Core.List.{[], _∷_}

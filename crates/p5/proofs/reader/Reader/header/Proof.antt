@@ -1,7 +1,6 @@
 -- `p5::reader::Reader::header` meets its contract: a walk of its MIR, by hand. Three times the reader's copy is passed to `number`, the answer is taken apart by a `let .. else`, and the position moves on.
 -- The struct is Copy: what it owns as it was passed is kept for the exit, and at each call it is had twice, the second time with the present position in the place of the first.
 -- An answer that is no number is passed to `stopped`, whose answer is returned. What a local holds is forgotten once it is dead, so that all returns leave alike (`leaves`).
---
 use mathlib.Core.Path.{_≡_, refl, ap, _∙_}
 use Prim.Native.Nat.{ℕ, _<_, _^_}
 use mathlib.Core.List.{List, [], _∷_}
@@ -46,7 +45,8 @@ use denote.Triple.Table.{entered, cited}
 use denote.Triple.Walked.{says, Stays, stay-none, walkOf, goes-none, Walks, ends-at, walked, walk-meets}
 use denote.Exit.{yes}
 use denote.Triple.Clauses.{ensured, lasts}
-use Rattle.p5.specs.Headers.{numberAt, endAt, fromLargest, fromHeight, fromWidth, stoppedAt}
+use Rattle.p5.specs.Headers.{numberAt, endAt, fromLargest, fromHeight, fromWidth}
+use Rattle.p5.specs.Steps.{stoppedAt}
 use Rattle.p5.specs.declared.reader.Reader.{Reader}
 use Rattle.p5.specs.declared.field.Field.{Field}
 use Rattle.p5.specs.declared.field.Field.the-variants.{Number, Unfit}

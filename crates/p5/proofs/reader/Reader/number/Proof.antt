@@ -1,6 +1,5 @@
 -- `p5::reader::Reader::number` meets its contract: a walk of its MIR, by hand. The struct is taken apart, and `number_at` is called on the slice and the number. All that the proof knows of `number_at` is that it meets its contract.
 -- The struct is Copy: what it owns is had twice, one copy is kept whole for the exit, and of the other what file owns goes to the callee, beside the lifetime's token, which comes back.
---
 use mathlib.Core.Path.{_≡_, refl}
 use Prim.Native.Nat.{_<_, _^_}
 use mathlib.Core.List.{[], _∷_}
