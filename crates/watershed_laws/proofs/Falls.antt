@@ -13,7 +13,7 @@ use Rattle.picture.specs.Pictures.{Picture, places, valueAt, withPixels, touch}
 use Rattle.picture.specs.Watersheds.{lowerable, best, waterFrom, watershed}
 use Rattle.lists.proofs.Tests.{on-test, clash}
 use Rattle.lists.proofs.Sums.{total-lowered}
-use Rattle.topology.proofs.Adjacency.{Adj, adj-sym, adj-irreflexive}
+use Rattle.topology.proofs.Adjacency.{Adj, adj-sym}
 use Rattle.topology.proofs.Bridge.{lowerable-above, lowerable-lowers, lowers-lowerable}
 use Rattle.topology.proofs.Water.{Leads, less, ties, Best, nobody, leader, best-is, water-stop, water-step, set-fallen}
 use Rattle.watershed_laws.proofs.Oracle.{Drops, drops-lowers, drops-wakes}
@@ -82,7 +82,7 @@ module _ (f : Picture) where
         ⊎-elim
         (λ m. before (first y c (lowers-lowerable (with xs) y c k m)) vx vy b)
         (λ m. let n = m .1 in less (omega arith))
-        (drops-wakes (places f) (Adj f) (adj-sym f) (adj-irreflexive f) (valueAt (with xs)) x low (suc j) shorter decide (valueAt (with (set xs x (suc j)))) fall y k q lo))
+        (drops-wakes (places f) (Adj f) (adj-sym f) (valueAt (with xs)) x low (suc j) shorter decide (valueAt (with (set xs x (suc j)))) fall y k q lo))
       where
         decide : (y z : ℕ) → Adj f y z ⊎ (Adj f y z → ⊥)
         decide y z = on-test (touch f y z) (λ h. inl h) (λ h. inr (λ g. clash g h))
@@ -111,7 +111,7 @@ module _ (f : Picture) where
         ap (λ (ys : List ℕ). watershed (with ys)) (sym (set-set xs x (suc j) j)) ∙
         (step-water (set xs x (suc j)) x j (length-set xs x (suc j) ∙ e) (d .within) (set-fallen f xs x (suc j) inside .at)
         (lowers-lowerable (with (set xs x (suc j))) x (d .within) j
-        (drops-lowers (places f) (Adj f) (adj-sym f) (adj-irreflexive f) (valueAt (with xs)) x low s d
+        (drops-lowers (places f) (Adj f) (adj-sym f) (valueAt (with xs)) x low s d
         (valueAt (with (set xs x (suc j)))) j a (omega arith) (set-fallen f xs x (suc j) inside)))
         at-top ∙
         fall-by l (suc j) (omega arith) (omega arith))

@@ -17,7 +17,7 @@ use Rattle.picture.proofs.Sides.{area-most}
 use Rattle.lists.proofs.Tests.{on-pick, on-test, clash}
 use Rattle.lists.proofs.Sums.{total-less}
 use Rattle.topology.proofs.Keeping.{Lowers, Fallen}
-use Rattle.topology.proofs.Adjacency.{Adj, adj-sym, adj-irreflexive}
+use Rattle.topology.proofs.Adjacency.{Adj, adj-sym}
 use Rattle.topology.proofs.Bridge.{lowerable-above, lowerable-lowers, lowers-lowerable}
 use Rattle.topology.proofs.Climb.{Meet, meet-same}
 use Rattle.topology.proofs.Water.{less, set-fallen}
@@ -189,7 +189,7 @@ module _ (f : Picture) (g tree t : List ℕ) (x : ℕ) (p : TurnOf f g tree t x)
   stays-there h j l =
       by-cases (decLt (getD g low 0) (getD g x 0))
       (λ b.
-      stops-there (places f) (Adj f) (adj-sym f) (adj-irreflexive f) (valueAt (withPixels f g)) (Meets (places f) tree) (run .oracle) x low s (found b)
+      stops-there (places f) (Adj f) (adj-sym f) (valueAt (withPixels f g)) (Meets (places f) tree) (run .oracle) x low s (found b)
       (valueAt (withPixels f g)) (getD g x 0) (record { at = refl; other = λ y d. refl }) h (omega arith) (inr refl) j l)
       (λ b.
       let q = found-none f g tree x ys m low s around lowest (omega arith) (l .near) (l .below .within) (l .touches) in
@@ -219,7 +219,7 @@ module _ (f : Picture) (g tree t : List ℕ) (x : ℕ) (p : TurnOf f g tree t x)
 
     drops : Drops (places f) (Adj f) (valueAt (withPixels f g)) x low s
     drops =
-        stops-drops (places f) (Adj f) (adj-sym f) (adj-irreflexive f) (valueAt (withPixels f g)) (Meets (places f) tree) (run .oracle) x low s
+        stops-drops (places f) (Adj f) (adj-sym f) (valueAt (withPixels f g)) (Meets (places f) tree) (run .oracle) x low s
         (found low-below) falls
 
     inside : x < length g
@@ -254,7 +254,7 @@ module _ (f : Picture) (g tree t : List ℕ) (x : ℕ) (p : TurnOf f g tree t x)
               (λ q. let e = getD-set-other g x y s 0 q in let c = run .bytes y in omega arith);
           climbs = map-climbs (places f) tree (run .climbs) x low (p .within) (lowest .within);
           oracle =
-              drops-oracle (places f) (Adj f) (adj-sym f) (adj-irreflexive f) (valueAt (withPixels f g)) (valueAt (withPixels f lowered-to))
+              drops-oracle (places f) (Adj f) (adj-sym f) (valueAt (withPixels f g)) (valueAt (withPixels f lowered-to))
               (Meets (places f) tree) (Meets (places f) remapped) x low s
               (answers (places f) tree (run .climbs) x low (p .within) (lowest .within))
               (run .oracle) drops fallen
@@ -281,7 +281,7 @@ module _ (f : Picture) (g tree t : List ℕ) (x : ℕ) (p : TurnOf f g tree t x)
             by-cases (ℕ-discrete y x)
             (λ q.
             absurd
-            (stops-there (places f) (Adj f) (adj-sym f) (adj-irreflexive f) (valueAt (withPixels f g)) (Meets (places f) tree) (run .oracle) x low s (found low-below)
+            (stops-there (places f) (Adj f) (adj-sym f) (valueAt (withPixels f g)) (Meets (places f) tree) (run .oracle) x low s (found low-below)
             (valueAt (withPixels f lowered-to)) s fallen (omega arith) (omega arith) (inl refl) k
             (subst (λ (z : ℕ). Lowers (places f) (Adj f) (valueAt (withPixels f lowered-to)) z k) q lo)))
             (λ q.
@@ -289,7 +289,7 @@ module _ (f : Picture) (g tree t : List ℕ) (x : ℕ) (p : TurnOf f g tree t x)
             (λ u.
             ⊎-elim (λ e. inl e) (λ e. absurd (q e)) (run .awake y b (lowers-lowerable (withPixels f g) y b k u)))
             (λ (a, c, d). let e = fallen .other y q in inr (record { near = a; above = omega arith; most = omega arith }))
-            (drops-wakes (places f) (Adj f) (adj-sym f) (adj-irreflexive f) (valueAt (withPixels f g)) x low s drops (decide-adj f) (valueAt (withPixels f lowered-to)) fallen y k q lo))
+            (drops-wakes (places f) (Adj f) (adj-sym f) (valueAt (withPixels f g)) x low s drops (decide-adj f) (valueAt (withPixels f lowered-to)) fallen y k q lo))
 
     -- the neighbours are woken, and the turn is done
     pub settle-woken :
