@@ -1,5 +1,4 @@
 // The lines of the hold list: its head, a line a patch from its figures, the line of a refusal.
-use patches::figures::centre;
 use text::put_bytes;
 use text::put_fields;
 use text::put_number;
@@ -8,15 +7,25 @@ ghost use mathlib.Core.List.{_++_, flatMap};
 ghost use Prim.Native.Nat.{_+_, _*_, _<_, _≤_};
 ghost use lib.ListN.{length};
 ghost use Rattle.lists.specs.Lists.{range};
+ghost use Rattle.picture.specs.Patches.{centre};
 ghost use Rattle.text.specs.Writing.{Written};
 ghost use Rattle.hold_lines.specs.Figures.{lineOf, lineAt, Lists};
 ghost use Rattle.hold_lines.specs.Lines.{patchesWord, headLines, refusedLine};
 ghost use Rattle.text.specs.Decimal.{decimal, fields};
 
+// A cell as a number of 32 bits.
 fn wide(n: u16) -> u32
     ensures { λ r. ⌜ r ≡ n ⌝ }
 {
     n as u32
+}
+
+// A centre in tenths, from a sum of columns or rows and the size.
+fn centre(sum: u32, size: u32) -> u32
+    requires { ⌜ (1 ≤ size) × (sum ≤ 65535) ⌝ }
+    ensures { λ r. ⌜ r ≡ centre sum size ⌝ }
+{
+    10 * sum / size
 }
 
 // Writes the line of a patch and answers the place behind it; a line has at most 37 bytes.

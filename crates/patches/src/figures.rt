@@ -5,11 +5,10 @@ use patch_numbers::map_patches;
 use patch_numbers::number;
 use patch_sums::put_sums;
 ghost use mathlib.Core.Path.{_≡_};
-ghost use Prim.Native.Nat.{_+_, _-_, _*_, _/_, _≤_, _<_};
+ghost use Prim.Native.Nat.{_-_, _*_, _≤_, _<_};
 ghost use lib.ListN.{length};
 ghost use lib.Dec.{leb};
 ghost use Rattle.lists.specs.Lists.{pick, highest};
-ghost use Rattle.picture.specs.Patches.{centre};
 ghost use Rattle.picture.specs.Pictures.{pictureOf};
 ghost use Rattle.patch_numbers.specs.Numbers.{FiveBlocks, Mapped};
 ghost use Rattle.patches.specs.Figures.{TreeInWork, depthIn, PatchPut, Patched, Figures};
@@ -117,12 +116,4 @@ pub fn figures(
     let r = put_patches(n, pixels, cells, most, work);
     put_sums(width, height, n, cells, work);
     r
-}
-
-// A centre in tenths, from a sum of columns or rows and the size.
-pub fn centre(sum: u32, size: u32) -> u32
-    requires { ⌜ (1 ≤ size) × (sum ≤ 65535) ⌝ }
-    ensures { λ r. ⌜ r ≡ centre sum size ⌝ }
-{
-    10 * sum / size
 }
