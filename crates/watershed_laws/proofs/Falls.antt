@@ -22,6 +22,9 @@ use Rattle.watershed_laws.proofs.Oracle.{Drops, drops-lowers, drops-wak
 unfoldable pub First : Picture → ℕ → Type 0
 First g x = (y : ℕ) → y < places g → lowerable g y ≡ true → Leads g x y
 
+pub adj-dec : (f : Picture) (y z : ℕ) → Adj f y z ⊎ (Adj f y z → ⊥)
+adj-dec f y z = on-test (touch f y z) (λ h. inl h) (λ h. inr (λ g. clash g h))
+
 -- a picture in which nothing is lowerable is its own watershed
 pub watershed-end : (g : Picture) → ((y : ℕ) → y < places g → lowerable g y ≡ true → ⊥) → watershed g ≡ g
 unfolding watershed
@@ -82,11 +85,8 @@ module _ (f : Picture) where
         ⊎-elim
         (λ m. before (first y c (lowers-lowerable (with xs) y c k m)) vx vy b)
         (λ m. let n = m .1 in less (omega arith))
-        (drops-wakes (places f) (Adj f) (adj-sym f) (valueAt (with xs)) x low (suc j) shorter decide (valueAt (with (set xs x (suc j)))) fall y k q lo))
+        (drops-wakes (places f) (Adj f) (adj-sym f) (valueAt (with xs)) x low (suc j) shorter (adj-dec f) (valueAt (with (set xs x (suc j)))) fall y k q lo))
       where
-        decide : (y z : ℕ) → Adj f y z ⊎ (Adj f y z → ⊥)
-        decide y z = on-test (touch f y z) (λ h. inl h) (λ h. inr (λ g. clash g h))
-
         shorter : Drops (places f) (Adj f) (valueAt (with xs)) x low (suc j)
         shorter =
             let r = d .reach in

@@ -4,8 +4,9 @@ use mathlib.Core.List.{List, _++_, append-nil}
 use Prim.Native.Nat.{ℕ, _+_, _-_, _*_, _≤_, _<_}
 use native.Mathlib.Omega.{arith}
 use lib.ListN.{length, getD, take, drop, set, length-set, length-drop, drop-of-length-le}
-use lib.Seq.{take-all, take-at, drop-at, length-take-le, take-set-lt, drop-set-lt, getD-take, getD-drop}
+use lib.Seq.{take-at, drop-at, length-take-le, take-set-lt, drop-set-lt, getD-take, getD-drop}
 use borrow.Rule.Slice.PartMut.{midOf, putMid, same-len-mid}
+use Rattle.lists.proofs.Cuts.{take-rest}
 use Rattle.picture.specs.Pictures.{Picture, places, withPixels}
 use Rattle.topology.proofs.Accepted.{Accepted}
 use Rattle.watershed_laws.proofs.WinnerTree.{Winner}
@@ -14,11 +15,8 @@ use Rattle.watershed_laws.proofs.Stopping.{Lowest, Stopped, Around}
 use Rattle.watershed_laws.proofs.Running.{Running, NoPlace, TurnOf, Settled, Turning, Turned, settle-falls, settle-woken}
 use Rattle.watershed_laws.proofs.Turns.{Holds, running-start, turn-of, turn-done}
 
--- the cells from e on, lent and back
+-- the cells from e on come back
 module _ (l : List ℕ) (e : ℕ) where
-  lent : midOf e (length l - e) l ≡ drop e l
-  lent = take-all (length l - e) (drop e l) (omega (arith, length-drop e l))
-
   -- what comes back lies behind, and what lies in front is as it was
   pub back-drop : (t : List ℕ) → e ≤ length l → drop e (putMid e (length l - e) l t) ≡ t
   back-drop t h =
@@ -35,7 +33,7 @@ module _ (f : Picture) (g l : List ℕ) where
 
   -- the start: the winner tree is built
   pub start-lent : length l ≡ 5 * places f → length (midOf e (length l - e) l) ≡ 2 * places f
-  start-lent size = ap length (lent l e) ∙ (length-drop e l ∙ omega arith)
+  start-lent size = ap length (take-rest e l) ∙ (length-drop e l ∙ omega arith)
 
   pub size-back : (t : List ℕ) → length l ≡ 5 * places f → length t ≡ 2 * places f → length (putMid e (length l - e) l t) ≡ 5 * places f
   size-back t size q = same-len-mid e (length l - e) l t (q ∙ sym (start-lent size)) ∙ size
@@ -50,10 +48,10 @@ module _ (f : Picture) (g l : List ℕ) where
   -- a turn: the winner is taken away
   module _ (x : ℕ) (p : Turning f g (take e l) (drop e l) x) (size : length l ≡ 5 * places f) where
     pub turn-winner : Winner (places f) g (midOf e (length l - e) l) 1 0
-    turn-winner = rw (lent l e) (p .running .winner)
+    turn-winner = rw (take-rest e l) (p .running .winner)
 
     assigned : (t : List ℕ) → Assigned (places f) g (midOf e (length l - e) l) x 65535 t → Assigned (places f) g (drop e l) x 65535 t
-    assigned t a = subst (λ (u : List ℕ). Assigned (places f) g u x 65535 t) (lent l e) a
+    assigned t a = subst (λ (u : List ℕ). Assigned (places f) g u x 65535 t) (take-rest e l) a
 
     pub turn-back :
         (t : List ℕ) → Assigned (places f) g (midOf e (length l - e) l) x 65535 t →
@@ -86,7 +84,7 @@ module _ (f : Picture) (g l : List ℕ) where
     stored-size = length-set l (2 * places f + x) (getD l (2 * places f + low) 0) ∙ size
 
     stored-lent : midOf e (length stored - e) stored ≡ drop e l
-    stored-lent = lent stored e ∙ drop-set-lt e l (2 * places f + x) (getD l (2 * places f + low) 0) in-front
+    stored-lent = take-rest e stored ∙ drop-set-lt e l (2 * places f + x) (getD l (2 * places f + low) 0) in-front
 
     stored-take : take e stored ≡ set (take e l) (2 * places f + x) (getD (take e l) (2 * places f + low) 0)
     stored-take =

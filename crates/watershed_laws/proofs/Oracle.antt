@@ -146,7 +146,6 @@ pub record Stops (n : ℕ) (R : ℕ → ℕ → Type 0) (v : ℕ → ℕ) (Q : �
   pub lowest : low < n
   pub near : R x low
   pub least : (y : ℕ) → y < n → R x y → v low ≤ v y
-  pub below : v low < v x
   pub reach : v low ≤ s
   pub clear : (y : ℕ) → y < n → R x y → v y < v x → (h : ℕ) × Q y low h × ((h ≤ v y) ⊎ (h ≤ s))
   pub tight : (s ≡ v low) ⊎ ((y : ℕ) × (y < n) × R x y × (v y < v x) × (v y < s) × Q y low s)

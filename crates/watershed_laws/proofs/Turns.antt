@@ -12,10 +12,9 @@ use Rattle.lists.specs.Lists.{total}
 use Rattle.picture.specs.Pictures.{Picture, places, valueAt, withPixels}
 use Rattle.picture.specs.Trees.{nodes, nodeAt, fatherOf, mapOf}
 use Rattle.picture.specs.Watersheds.{lowerable, watershed}
-use Rattle.picture.proofs.Sides.{area-most}
 use Rattle.lists.proofs.Sums.{total-less, total-bounded}
 use Rattle.topology.proofs.Adjacency.{Adj}
-use Rattle.topology.proofs.Accepted.{Accepted, byte-at}
+use Rattle.topology.proofs.Accepted.{Accepted, places-bound}
 use Rattle.topology.proofs.Nodes.{nodes-few}
 use Rattle.topology.proofs.Fathers.{map-found}
 use Rattle.topology.proofs.Climb.{father-of, father-greater}
@@ -26,6 +25,9 @@ use Rattle.watershed_laws.proofs.Falls.{First, watershed-end}
 use Rattle.watershed_laws.proofs.WinnerTree.{Beats, last, less as beats-less, ties as beats-ties, winner-beats, winner-place, candidates, candidates-most, candidates-fewer}
 use Rattle.watershed_laws.proofs.WinnerSteps.{Assigned, Building}
 use Rattle.watershed_laws.proofs.Running.{Running, NoPlace, no-place, TurnOf, Settled, Turning, Turned, measure, running-with}
+
+pub places-some : (p : Picture) → Accepted p → 1 ≤ places p
+places-some p a = mul-le-mul (a .some) (a .tall)
 
 -- the cells hold heights, fathers and map of the tree of p
 pub record Holds (p : Picture) (tree : List ℕ) : Type 0 where
@@ -42,12 +44,7 @@ module _ (f : Picture) (g tree t : List ℕ) where
   pub running-start : Accepted p → Holds p tree → Building (places f) g t 1 → Running f g tree t NoPlace
   running-start ok h b =
       record {
-        filled = mul-le-mul (ok .some) (ok .tall);
-        some = ok .some;
-        wide = ok .wide;
-        high = ok .high;
-        size = ok .size;
-        bytes = byte-at g (ok .bytes);
+        accepted = ok;
         climbs =
             record {
               size = h .size;
@@ -67,7 +64,7 @@ module _ (f : Picture) (g tree t : List ℕ) where
                   λ y z k j l q.
                   tree-oracle p ok (λ i. getD tree i 0) (λ i. getD tree (places f + i) 0) (λ x. getD tree (2 * places f + x) 0)
                   (h .heights) (h .fathers) (h .map) .meets y z k j l
-                  (record { node = q .node; meet = q .meet; height = q .height });
+                  (q .at);
             };
         leaves = b .size;
         winner = b .winner;
@@ -76,7 +73,7 @@ module _ (f : Picture) (g tree t : List ℕ) where
 
   module _ (run : Running f g tree t NoPlace) where
     most : places f ≤ 1600
-    most = area-most (f .width) (f .height) (run .wide) (run .high)
+    most = places-bound (withPixels f g) (run .accepted)
 
     -- at the end
     pub running-end : getD t 1 0 ≡ 65535 → watershed (withPixels f g) ≡ withPixels f g
@@ -97,7 +94,7 @@ module _ (f : Picture) (g tree t : List ℕ) where
     place : (x < places f) × (getD t (places f + x) 0 ≡ x)
     place =
         let e = p .top in
-        let (a, b) = winner-place (places f) g t (run₁ .winner) (run₁ .filled) (λ q. p .candidate (e ∙ q)) in
+        let (a, b) = winner-place (places f) g t (run₁ .winner) (places-some (withPixels f g) (run₁ .accepted)) (λ q. p .candidate (e ∙ q)) in
         (omega arith, subst (λ (z : ℕ). getD t (places f + z) 0 ≡ z) (sym e) b)
 
     -- the winner is a place, and leads the lowerable ones

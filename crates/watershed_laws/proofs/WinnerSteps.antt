@@ -54,9 +54,6 @@ pub record Waking (n : ℕ) (g before : List ℕ) (s k : ℕ) (ys t : List ℕ) 
       (j : ℕ) → j < i → s < getD g (getD ys j 0) 0 → getD g (getD ys j 0) 0 ≤ k →
       getD t (n + getD ys j 0) 0 ≡ getD ys j 0
 
-pub fill-start : (n : ℕ) (t : List ℕ) → length t ≡ 2 * n → Filling n t 0
-fill-start n t e = record { size = e; set-below = λ x h. absurd (omega arith) }
-
 pub fill-turn : (n : ℕ) (t : List ℕ) (i : ℕ) → Filling n t i → i < n → Filling n (set t (n + i) i) (i + 1)
 fill-turn n t i p h =
     let s = p .size in

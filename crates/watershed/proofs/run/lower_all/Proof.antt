@@ -1,16 +1,15 @@
 -- `watershed::run::lower_all` meets its contract. The invariant is Running with the watershed unchanged, the measure that of Turned.
-use native.Mathlib.Nat.{mul-le-mul}
 use mathlib.Core.Path.{_≡_, refl, sym, ap, _∙_}
 use mathlib.Core.List.{[]}
-use Prim.Native.Nat.{_*_, _≤_}
+use Prim.Native.Nat.{_*_}
 use native.Mathlib.Omega.{arith}
 use lib.ListN.{length, getD, take, drop}
 use lib.Seq.{getD-drop}
-use Rattle.picture.specs.Pictures.{Picture, places, pictureOf}
+use Rattle.picture.specs.Pictures.{Picture, pictureOf}
 use Rattle.picture.specs.Watersheds.{watershed}
 use Rattle.topology.proofs.Accepted.{accepted-is, places-bound}
 use Rattle.watershed_laws.proofs.Running.{Running, NoPlace, measure}
-use Rattle.watershed_laws.proofs.Turns.{running-end}
+use Rattle.watershed_laws.proofs.Turns.{places-some, running-end}
 use Rattle.watershed_laws.proofs.Lending.{start-lent, start-back, size-back}
 use Rattle.watershed.proofs.Held.{tree-holds}
 use borrow.Author.Needs.{needs}
@@ -49,7 +48,7 @@ build-requires c κs = let s = c .before .before .before .before in
     let f = pictureOf (s .args .a) (s .args .w) (s .args .h) (s .args .out .now) in
     let ok = accepted-is f (s .pre .0) in (
       start-lent f (s .args .out .now) (s .args .work .now) (s .pre .1),
-      mul-le-mul (ok .some) (ok .tall),
+      places-some f ok,
       places-bound f ok,
       ok .size,
     )
@@ -64,9 +63,8 @@ slice-read-wide : tie.Need-slice-read-wide Inv-loop μ-loop
 slice-read-wide c = let s = c .before .before .before .before .before .before .before .before in
     let f = pictureOf (s .args .a) (s .args .w) (s .args .h) (s .args .out .now) in
     let ok = accepted-is f (s .pre .0) in
-    let filled : 1 ≤ places f = mul-le-mul (ok .some) (ok .tall) in
     omega
-    (arith, size-back f (s .args .out .now) (s .args .work .now) (c .before .before .before .build .last .1 .0) (s .pre .1) (c .before .before .before .build .ensures .size))
+    (arith, places-some f ok, size-back f (s .args .out .now) (s .args .work .now) (c .before .before .before .build .last .1 .0) (s .pre .1) (c .before .before .before .build .ensures .size))
 
 wide-requires : tie.Need-wide-requires Inv-loop μ-loop
 wide-requires c κs = search needs
@@ -99,7 +97,7 @@ loop-again c = let t = c .before .before .before .before .turn .ensures in
 
 same-length : tie.Need-same-length Inv-loop μ-loop
 same-length c = let s = c .before .before .before .before .before .before .before .before .before .before .before in
-    c .before .loop .inv .0 .size ∙ sym (accepted-is (pictureOf (s .args .a) (s .args .w) (s .args .h) (s .args .out .now)) (s .pre .0) .size)
+    c .before .loop .inv .0 .accepted .size ∙ sym (accepted-is (pictureOf (s .args .a) (s .args .w) (s .args .h) (s .args .out .now)) (s .pre .0) .size)
 
 same-length-2 : tie.Need-same-length-2 Inv-loop μ-loop
 same-length-2 c = search needs

@@ -5,7 +5,7 @@ use native.Mathlib.Omega.{arith}
 use lib.ListN.{getD, take, length-set}
 use Rattle.picture.specs.Pictures.{Picture, places, pictureOf}
 use Rattle.watershed_laws.proofs.Stopping.{Around, Lowest, Stopped, listed-around, around-places}
-use Rattle.picture.proofs.Sides.{area-most}
+use Rattle.topology.proofs.Accepted.{places-bound, byte-at}
 use Rattle.watershed_laws.proofs.Running.{settle-stays}
 use Rattle.watershed_laws.proofs.Lending.{fall-winner, fall-lent, fall-back}
 use borrow.Author.Needs.{needs}
@@ -19,12 +19,12 @@ frame-at c = pictureOf (c .before .before .before .before .before .before .befor
 around-at :
     (c : tie.After-stop-at) →
     Around (frame-at c) (c .before .before .before .before .before .before .before .before .before .before .before .before .before .before .args .x) (c .before .before .before .before .before .before .before .before .before .before .neighbours .last .1 .1 .1 .1 .0) (c .before .before .before .before .before .before .before .before .before .before .neighbours .result)
-around-at c = listed-around (frame-at c) _ _ _ _ (c .before .before .before .before .before .before .before .before .before .before .before .before .before .before .pre .0 .running .some) (c .before .before .before .before .before .before .before .before .before .before .neighbours .ensures)
+around-at c = listed-around (frame-at c) _ _ _ _ (c .before .before .before .before .before .before .before .before .before .before .before .before .before .before .pre .0 .running .accepted .some) (c .before .before .before .before .before .before .before .before .before .before .neighbours .ensures)
 
 lowest-at :
     (c : tie.After-stop-at) →
     Lowest (places (frame-at c)) (c .before .before .before .before .before .before .before .before .before .before .before .before .before .before .args .out .now) (c .before .before .before .before .before .before .before .before .before .before .before .before .before .before .args .x) (c .before .before .before .before .before .before .before .before .before .before .neighbours .last .1 .1 .1 .1 .0) (c .before .before .before .before .before .before .before .before .before .before .neighbours .result) (c .before .before .before .before .lowest .result)
-lowest-at c = rw (c .before .before .before .before .before .before .before .before .before .before .before .before .before .before .pre .0 .running .size) at (c .before .before .before .before .lowest .ensures)
+lowest-at c = rw (c .before .before .before .before .before .before .before .before .before .before .before .before .before .before .pre .0 .running .accepted .size) at (c .before .before .before .before .lowest .ensures)
 
 stopped-at :
     (c : tie.After-stop-at) →
@@ -53,7 +53,7 @@ lowest-requires : tie.Need-lowest-requires
 lowest-requires c κs = let s = c .before .before .before .before .before .before .before .before .before in
     let r = s .pre .0 .running in
     let f = pictureOf (s .args .a) (s .args .w) (s .args .h) [] in
-    (rw (r .size) (around-places f _ _ _ (listed-around f _ _ _ _ (r .some) (c .before .before .before .before .before .neighbours .ensures))), rw (r .size) (s .pre .0 .within))
+    (rw (r .accepted .size) (around-places f _ _ _ (listed-around f _ _ _ _ (r .accepted .some) (c .before .before .before .before .before .neighbours .ensures))), rw (r .accepted .size) (s .pre .0 .within))
 
 slice-reshare-prefix-stop-at : tie.Need-slice-reshare-prefix-stop-at
 slice-reshare-prefix-stop-at c = search needs
@@ -66,10 +66,10 @@ stop-at-requires c κs = let s = c .before .before .before .before .before .befo
     let r = s .pre .0 .running in
     let f = pictureOf (s .args .a) (s .args .w) (s .args .h) [] in (
       r .climbs,
-      area-most (f .width) (f .height) (r .wide) (r .high),
-      r .size,
-      omega (arith, r .size, c .before .before .before .lowest .ensures .within),
-      around-places f _ _ _ (listed-around f _ _ _ _ (r .some) (c .before .before .before .before .before .before .before .before .before .neighbours .ensures)),
+      places-bound _ (r .accepted),
+      r .accepted .size,
+      omega (arith, r .accepted .size, c .before .before .before .lowest .ensures .within),
+      around-places f _ _ _ (listed-around f _ _ _ _ (r .accepted .some) (c .before .before .before .before .before .before .before .before .before .neighbours .ensures)),
     )
 
 same-length : tie.Need-same-length
@@ -86,7 +86,7 @@ returns c = let s = c .before .before .before .before .before .before .before .b
 cast-out : tie.Need-cast-out
 cast-out c = let s = c .before .before .before .before .before .before .before .before .before .before .before .before .before .before .before in
     let r = s .pre .0 .running in
-    omega (arith, c .before .before .before .before .before .before .before .before .value .ensures, r .bytes (s .args .x), c .if1 .left)
+    omega (arith, c .before .before .before .before .before .before .before .before .value .ensures, byte-at (s .args .out .now) (r .accepted .bytes) (s .args .x), c .if1 .left)
 
 slice-write-out : tie.Need-slice-write-out
 slice-write-out c = search needs
@@ -134,8 +134,8 @@ wake-all-requires c κs = let s = c .before .before .before .before .before .bef
     let f = pictureOf (s .args .a) (s .args .w) (s .args .h) [] in
     let h = rw (c .before .before .before .before .before .before .before .before .before .before .before .before .value .ensures) at (c .before .before .before .before .if1 .left) in (
       fall-winner _ _ _ _ (s .pre .0) (s .pre .1) _ _ _ _ (around-at q) (lowest-at q) (stopped-at q) h,
-      area-most (f .width) (f .height) (r .wide) (r .high),
-      simp length-set (r .size),
+      places-bound _ (r .accepted),
+      simp length-set (r .accepted .size),
       fall-lent _ _ _ _ (s .pre .0) (s .pre .1) _ _ _ _ (around-at q) (lowest-at q) (stopped-at q) h,
       around-places f _ _ _ (around-at q),
     )

@@ -5,8 +5,8 @@ use mathlib.Core.Path.{refl}
 use mathlib.Core.Logic.{inr}
 use mathlib.Core.List.{[]}
 use native.Mathlib.Omega.{arith}
-use Rattle.picture.proofs.Sides.{area-most}
-use Rattle.watershed_laws.proofs.Turns.{turn-place}
+use Rattle.topology.proofs.Accepted.{places-bound}
+use Rattle.watershed_laws.proofs.Turns.{places-some, turn-place}
 use borrow.Author.Needs.{needs}
 use Rattle.watershed.proofs.run.turn.Statement.{statement}
 use Rattle.watershed.proofs.run.turn.Tie as tie
@@ -34,8 +34,8 @@ assign-requires c κs = let s = c .before .before .before .before in
     let r = s .pre .0 .running in
     let f = pictureOf (s .args .a) (s .args .w) (s .args .h) [] in (
       turn-winner f _ _ _ (s .pre .0) (s .pre .1),
-      area-most (f .width) (f .height) (r .wide) (r .high),
-      r .size,
+      places-bound _ (r .accepted),
+      r .accepted .size,
       start-lent f (s .args .out .now) (s .args .work .now) (s .pre .1),
       turn-place f _ _ _ _ (s .pre .0),
       inr refl,
@@ -59,7 +59,7 @@ slice-read-wide c = let s = c .before .before .before .before .before .before .b
     let f = pictureOf (s .args .a) (s .args .w) (s .args .h) [] in
     omega (
       arith,
-      s .pre .0 .running .filled,
+      places-some _ (s .pre .0 .running .accepted),
       c .before .before .before .before .before .lower-place .kept .1 .1 .1 .1 .1 .0,
       size-back f (s .args .out .now) (s .args .work .now) (c .before .before .before .before .before .before .before .before .before .before .assign .last .1 .0) (s .pre .1) (c .before .before .before .before .before .before .before .before .before .before .assign .ensures .size),
     )
