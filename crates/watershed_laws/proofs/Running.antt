@@ -81,7 +81,7 @@ pub record Turning (f : Picture) (g tree t : List ℕ) (x : ℕ) : Type 0 where
 
 -- what falls with each turn: the sum of the pixels, then the number of candidates
 unfoldable pub measure : ℕ → List ℕ → List ℕ → ℕ
-measure n g t = 1601 * total g + candidates n t n
+measure n g t = 1601 * total g + candidates n t
 
 -- after a turn r is the winner, the watershed is the same, and the measure is less
 pub record Turned (f : Picture) (g t g₁ tree₁ t₁ : List ℕ) (r : ℕ) : Type 0 where

@@ -149,14 +149,14 @@ module _ (f : Picture) (g tree t : List ℕ) where
           top = e;
           less =
               ⊎-elim
-              (λ h. let c = candidates-most (places f) t₂ (places f) in let k = most run₁ in omega arith)
+              (λ h. let c = candidates-most (places f) t₂ in let k = most run₁ in omega arith)
               (λ (u, v).
               let (inside, own) = place in
               let c =
-              candidates-fewer (places f) t t₁ x (λ z. p .candidate (sym own ∙ z)) (a .own) (a .other) (places f) (omega arith) inside
+              candidates-fewer (places f) t t₁ x inside (λ z. p .candidate (sym own ∙ z)) (a .own) (a .other)
               in
               let w = ap total u in
-              let z = ap (λ (l : List ℕ). candidates (places f) l (places f)) v in
+              let z = ap (candidates (places f)) v in
               omega arith)
               (q .less);
         }

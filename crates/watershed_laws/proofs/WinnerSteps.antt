@@ -1,17 +1,13 @@
 -- What the loops over a winner tree keep: it is filled, built, replayed after a leaf has changed, and neighbours become candidates.
 use mathlib.Core.Path.{_≡_, refl, sym, ap, subst, _∙_}
-use mathlib.Core.Logic.{_⊎_, inl, inr, ⊎-elim, _≢_, by-cases}
+use mathlib.Core.Logic.{_⊎_, inl, inr, _≢_, by-cases}
 use mathlib.Core.List.{List}
 use Prim.Native.Nat.{ℕ, suc, _+_, _-_, _*_, _/_, _≤_, _<_}
 use native.Mathlib.Decide.{ℕ-discrete}
 use native.Mathlib.Omega.{arith}
 use lib.ListN.{length, getD, set, length-set}
 use lib.Seq.{getD-set-same, getD-set-other}
-use Rattle.watershed_laws.proofs.WinnerTree.{Better, Winner, Played, same, moved, winner-set, winner-leaf, winner-right}
-
--- a cell holds a place or 65535
-pub record Candidate (n c : ℕ) : Type 0 where
-  pub either : (c ≡ 65535) ⊎ (c < n)
+use Rattle.watershed_laws.proofs.WinnerTree.{Better, Candidate, better-candidate, Winner, Played, same, moved, winner-set, winner-leaf, winner-right}
 
 -- after replays of the tree before the cell i is next; the leaves are as they were
 pub record Replaying (n : ℕ) (g before t : List ℕ) (i : ℕ) : Type 0 where
@@ -74,10 +70,6 @@ played-less g t j after r h (same b e f) = omega arith
 played-less g t j after r h (moved c b e f) = omega arith
 
 module _ (n : ℕ) (g : List ℕ) where
-  -- a cell of the tree can be played
-  pub winner-cell : (t : List ℕ) (from hole i : ℕ) → Winner n g t from hole → from ≤ i → i < 2 * n → Candidate n (getD t i 0)
-  winner-cell t from hole i w h l = record { either = w .cell i h l }
-
   pub replay-turn :
       (before t : List ℕ) (i : ℕ) (after : List ℕ) (r : ℕ) →
       Replaying n g before t i → 1 ≤ i → Played g t i after r → Replaying n g before after r
@@ -132,7 +124,7 @@ module _ (n : ℕ) (g : List ℕ) where
                   let x = i - n in
                   let at : n + x ≡ i = omega arith in
                   let e = ap (λ (m : ℕ). getD t m 0) (sym at) ∙ p .set-below x (omega arith) in
-                  inr (omega arith);
+                  record { either = inr (omega arith) };
               node = λ i h l d. absurd (omega arith);
             };
       }
@@ -152,7 +144,9 @@ module _ (n : ℕ) (g : List ℕ) where
               cell =
                   λ j a l.
                   by-cases (ℕ-discrete j i)
-                  (λ q. subst (λ (m : ℕ). (getD t m 0 ≡ 65535) ⊎ (getD t m 0 < n)) (sym q) (own-cell b))
+                  (λ q.
+                  subst (λ (m : ℕ). Candidate n (getD t m 0)) (sym q)
+                  (better-candidate g n b (w .cell (2 * i) (omega arith) (omega arith)) (w .cell (2 * i + 1) (omega arith) (omega arith))))
                   (λ q. w .cell j (omega arith) l);
               node =
                   λ j a l d.
@@ -161,13 +155,6 @@ module _ (n : ℕ) (g : List ℕ) where
                   (λ q. w .node j (omega arith) l d);
             };
       })
-    where
-      own-cell : Better g (getD t (2 * i) 0) (getD t (2 * i + 1) 0) (getD t i 0) → (getD t i 0 ≡ 65535) ⊎ (getD t i 0 < n)
-      own-cell b =
-          ⊎-elim
-          (λ q. ⊎-elim (λ u. inl (q ∙ u)) (λ u. inr (omega arith)) (p .winner .cell (2 * i) (omega arith) (omega arith)))
-          (λ q. ⊎-elim (λ u. inl (q ∙ u)) (λ u. inr (omega arith)) (p .winner .cell (2 * i + 1) (omega arith) (omega arith)))
-          (b .either)
   build-down t i after r p some h (moved c b e f) =
       let w =
       winner-set n g t (suc i) 0 i i c (p .size) some h (omega arith)

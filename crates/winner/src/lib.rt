@@ -5,8 +5,8 @@ ghost use mathlib.Core.Path.{_≡_};
 ghost use mathlib.Core.Logic.{_⊎_};
 ghost use Prim.Native.Nat.{_+_, _*_, _≤_, _<_};
 ghost use lib.ListN.{length, getD};
-ghost use Rattle.watershed_laws.proofs.WinnerTree.{Better, Winner, Played};
-ghost use Rattle.watershed_laws.proofs.WinnerSteps.{Candidate, Replaying, Assigned, Filling, Building, Woken, Waking};
+ghost use Rattle.watershed_laws.proofs.WinnerTree.{Better, Candidate, Winner, Played};
+ghost use Rattle.watershed_laws.proofs.WinnerSteps.{Replaying, Assigned, Filling, Building, Woken, Waking};
 ghost use Rattle.watershed_laws.proofs.Stopping.{Places};
 
 // The mark of no candidate.

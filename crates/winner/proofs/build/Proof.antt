@@ -2,7 +2,7 @@
 use mathlib.Core.Path.{_≡_, subst}
 use Prim.Native.Nat.{_≤_}
 use native.Mathlib.Omega.{arith}
-use Rattle.watershed_laws.proofs.WinnerSteps.{Building, build-start, build-turn, winner-cell}
+use Rattle.watershed_laws.proofs.WinnerSteps.{Building, build-start, build-turn}
 use borrow.Author.Needs.{needs}
 use Rattle.winner.proofs.build.Statement.{statement}
 use Rattle.winner.proofs.build.Tie as tie
@@ -27,8 +27,8 @@ play-requires c κs = let p = c .before .before .before .before .before .before 
     let l = c .before .before .loop .inv in (
       omega arith,
       omega arith,
-      rw (p .3) (winner-cell _ _ _ _ _ _ (l .0 .winner) (omega arith) (omega arith)),
-      rw (p .3) (winner-cell _ _ _ _ _ _ (l .0 .winner) (omega arith) (omega arith)),
+      rw (p .3) (l .0 .winner .cell _ (omega arith) (omega arith)),
+      rw (p .3) (l .0 .winner .cell _ (omega arith) (omega arith)),
     )
 
 loop-less : tie.Need-loop-less Inv-loop μ-loop
