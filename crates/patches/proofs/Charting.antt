@@ -3,8 +3,9 @@ use mathlib.Core.Path.{_≡_, refl, sym, ap, subst, _∙_}
 use mathlib.Core.Bool.{Bool, true, false}
 use mathlib.Core.Logic.{inl, ⊎-elim, by-cases}
 use mathlib.Core.List.{List}
-use Prim.Native.Nat.{ℕ, suc, _+_, _-_, _*_, _≤_, _<_}
+use Prim.Native.Nat.{ℕ, suc, _-_, _*_, _≤_, _<_}
 use native.Mathlib.Decide.{ℕ-discrete, decLt}
+use native.Mathlib.Nat.{zero-add}
 use native.Mathlib.Omega.{arith}
 use lib.ListN.{length, getD}
 use borrow.Author.Tests.{lt-ltb, le-ltb}
@@ -14,7 +15,7 @@ use Rattle.picture.specs.Trees.{Node, nodes, nodeAt, fatherOf, mapOf}
 use Rattle.picture.specs.Patches.{patchAt, depthOf}
 use Rattle.lists.specs.Blocks.{blockEntry, UntouchedOutside}
 use Rattle.tree.specs.Arrays.{TreeIn}
-use Rattle.lists.proofs.Tests.{on-test, same-test, clash}
+use Rattle.lists.proofs.Tests.{on-test, same-test, clash, pick-in, pick-out}
 use Rattle.lists.proofs.Lists.{tally-same, range-mem}
 use Rattle.topology.proofs.Accepted.{Accepted, places-bound}
 use Rattle.topology.proofs.Nodes.{nodes-few, node-is}
@@ -24,24 +25,11 @@ use Rattle.topology.proofs.PatchFigures.{bottom-number}
 use Rattle.topology.proofs.LeafNodes.{leafNode, leaf-bottom, bottom-map, bottom-leaf, leaf-mapped, map-bottom, patch-leaf, patch-line, father-leaf, childless-leaf, depth-root, depth-father}
 use Rattle.patch_numbers.specs.Numbers.{starts, Leaves, patchIn}
 use Rattle.patches.specs.Figures.{depthIn}
-use Rattle.patch_numbers.proofs.Numbering.{kept-row, starts-true, starts-is, patch-other, patch-node}
+use Rattle.patch_numbers.proofs.Numbering.{kept-row, starts-true, starts-is, patch-is}
 
--- the arrays of the tree of p in blocks of n
-pub record Arrays (p : Picture) (n : ℕ) (work : List ℕ) : Type 0 where
-  pub heights : (i : ℕ) → i < length (nodes p) → getD work i 0 ≡ nodeAt p i .height
-  pub fathers : (i : ℕ) → i < length (nodes p) → blockEntry work n i ≡ fatherOf p (nodeAt p i)
-  pub map : (x : ℕ) → x < n → blockEntry work (2 * n) x ≡ mapOf p x
-  pub firsts : (i : ℕ) → i < length (nodes p) → blockEntry work (3 * n) i ≡ nodeAt p i .first
-
-pub arrays : (p : Picture) (n : ℕ) (work : List ℕ) → n ≡ places p → TreeIn p work → Arrays p n work
-arrays p n work e t =
-    subst (λ (m : ℕ). Arrays p m work) (sym e)
-    (record {
-      heights = λ i h. let z : 0 + i ≡ i = omega arith in subst (λ (j : ℕ). getD work j 0 ≡ nodeAt p i .height) z (t .heights i h);
-      fathers = t .fathers;
-      map = t .map;
-      firsts = t .firsts;
-    })
+-- the height of a node stands in the first block
+height-at : (p : Picture) (work : List ℕ) → TreeIn p work → (i : ℕ) → i < length (nodes p) → getD work i 0 ≡ nodeAt p i .height
+height-at p work t i h = ap (λ (j : ℕ). getD work j 0) (sym (zero-add i)) ∙ t .heights i h
 
 -- depths by the arrays
 module _ (n : ℕ) (work : List ℕ) (most m f : ℕ) (e : f ≡ blockEntry work n m) where
@@ -73,11 +61,14 @@ depth-kept n most m work l k h =
     let c = depth-top n work most m f refl (omega arith) in
     omega arith)
 
-module _ (p : Picture) (ok : Accepted p) (n : ℕ) (e : n ≡ places p) (work : List ℕ) (t : Arrays p n work) where
+module _ (p : Picture) (ok : Accepted p) (work : List ℕ) (t : TreeIn p work) where
+  abbrev n : ℕ
+  n = places p
+
   pub map-in : (x : ℕ) → x < n → blockEntry work (2 * n) x < n
   map-in x h =
       let a = t .map x h in
-      let b = map-found p ok x (omega arith) in
+      let b = map-found p ok x h in
       let c = nodes-few p in
       omega arith
 
@@ -85,13 +76,13 @@ module _ (p : Picture) (ok : Accepted p) (n : ℕ) (e : n ≡ places p) (work : 
   pub depth-is : (most m : ℕ) → m < length (nodes p) → most ≡ highest (p .pixels) → depthIn n work most m ≡ depthOf p (nodeAt p m)
   depth-is most m b q =
       let f = t .fathers m b in
-      let own = t .heights m b in
+      let own = height-at p work t m b in
       ⊎-elim
       (λ h.
       let small = number-small p ok (fatherOf p (nodeAt p m)) h in
       let few = nodes-few p in
       let d = depth-father p (nodeAt p m) (λ z. absurd (omega arith)) in
-      let high = t .heights (fatherOf p (nodeAt p m)) h in
+      let high = height-at p work t (fatherOf p (nodeAt p m)) h in
       let a = depth-below n work most m (fatherOf p (nodeAt p m)) (sym f) (omega arith) in
       omega arith)
       (λ h.
@@ -127,11 +118,10 @@ module _ (p : Picture) (ok : Accepted p) (n : ℕ) (e : n ≡ places p) (work : 
 
     -- the places that start a leaf are the first places of minima
     starts-bottom : (x : ℕ) → x < n → starts n (l .cleared) (l .marks) x ≡ bottom p x
-    starts-bottom x h =
-        let b : x < places p = omega arith in
+    starts-bottom x b =
         let m = mapOf p x in
         let i = map-found p ok x b in
-        let e = same-map x h in
+        let e = same-map x b in
         same-test (starts n (l .cleared) (l .marks) x) (bottom p x)
         (λ s.
         let q = starts-is n (l .cleared) (l .marks) x s in
@@ -154,39 +144,34 @@ module _ (p : Picture) (ok : Accepted p) (n : ℕ) (e : n ≡ places p) (work : 
         let z = nodeAt p m .first in
         let (k, q) = leaf-bottom p ok m b h in
         let zb = node-is p m b .place .within in
-        let zn : z < n = omega arith in
-        let s = starts-bottom z zn ∙ q in
-        ap (blockEntry after (4 * n)) (sym (same-map z zn ∙ leaf-mapped p ok m b h)) ∙
-        (l .numbers .number z zn s ∙ (ap suc (same-tally z (omega arith)) ∙ sym (bottom-number p ok z zb q)))
+        ap (blockEntry after (4 * n)) (sym (same-map z zb ∙ leaf-mapped p ok m b h)) ∙
+        (l .numbers .number z zb (starts-bottom z zb ∙ q) ∙ (ap suc (same-tally z (omega arith)) ∙ sym (bottom-number p ok z zb q)))
 
     fork-number : (m : ℕ) → m < length (nodes p) → leafNode p m ≡ false → blockEntry after (4 * n) m ≡ 0
     fork-number m b h =
         let few = nodes-few p in
         l .numbers .other m (omega arith)
-        (λ z zn s q.
-        let zb : z < places p = omega arith in
-        let i : mapOf p z ≡ m = sym (same-map z zn) ∙ q in
-        clash (subst (λ (j : ℕ). leafNode p j ≡ true) i (bottom-leaf p ok z zb (sym (starts-bottom z zn) ∙ s))) h)
+        (λ z zb s q.
+        let i : mapOf p z ≡ m = sym (same-map z zb) ∙ q in
+        clash (subst (λ (j : ℕ). leafNode p j ≡ true) i (bottom-leaf p ok z zb (sym (starts-bottom z zb) ∙ s))) h)
 
     -- the patch of a place
     pub leaves-patch : (x : ℕ) → x < n → patchIn n (p .pixels) after x ≡ patchAt p x
-    leaves-patch x h =
-        let b : x < places p = omega arith in
+    leaves-patch x b =
         let m = mapOf p x in
         let i = map-found p ok x b in
         let few = nodes-few p in
         let mapped : m ≡ blockEntry after (2 * n) x =
-        sym (kept-row (4 * n) n (2 * n) x (l .numbers .kept) (omega arith) ∙ same-map x h)
+        sym (kept-row (4 * n) n (2 * n) x (l .numbers .kept) (omega arith) ∙ same-map x b)
         in
         let own : getD after m 0 ≡ nodeAt p m .height =
-        l .numbers .kept .outside m (inl (omega arith)) ∙ (l .kept .outside m (inl (omega arith)) ∙ t .heights m i)
+        l .numbers .kept .outside m (inl (omega arith)) ∙ (l .kept .outside m (inl (omega arith)) ∙ height-at p work t m i)
         in
+        sym (patch-is n (p .pixels) after x m mapped) ∙
         by-cases (ℕ-discrete (valueAt p x) (getD after m 0))
         (λ v.
-        patch-node n (p .pixels) after x m (valueAt p x) mapped refl v ∙
+        pick-in _ _ _ _ v ∙
         on-test (leafNode p m)
         (λ f. leaf-number m i f ∙ sym (patch-leaf p ok x b (sym (v ∙ own)) f))
         (λ f. fork-number m i f ∙ sym (patch-line p ok x b (λ u. f))))
-        (λ v.
-        sym (patch-other n (p .pixels) after x m (valueAt p x) mapped refl v) ∙
-        sym (patch-line p ok x b (λ u. absurd (v (sym (own ∙ u))))))
+        (λ v. pick-out _ _ _ _ v ∙ sym (patch-line p ok x b (λ u. absurd (v (sym (own ∙ u))))))

@@ -1,4 +1,4 @@
--- The laws of the figures in their blocks: depths and heights by first place, sums by number.
+-- The laws of the depths and the heights of the patches in their blocks, by first place.
 use mathlib.Core.Path.{_≡_, refl, sym, ap, subst, _∙_}
 use mathlib.Core.Bool.{true}
 use mathlib.Core.Logic.{_≢_, by-cases}
@@ -26,7 +26,7 @@ use Rattle.patch_numbers.specs.Numbers.{Mapped}
 use Rattle.patches.specs.Figures.{depthIn, PatchPut, passed, begun, noPatch, DepthsBefore, Charted, Patched}
 use Rattle.lists.proofs.Blocks.{kept-refl, kept-store}
 use Rattle.patch_numbers.proofs.Numbering.{kept-row}
-use Rattle.patches.proofs.Charting.{arrays, depth-is, depth-kept}
+use Rattle.patches.proofs.Charting.{depth-is, depth-kept}
 
 module _ (n : ℕ) (pixels numbers : List ℕ) (most : ℕ) (work : List ℕ) where
   pub patched-start : Patched n pixels numbers most 0 work 0 work
@@ -73,7 +73,7 @@ module _ (n : ℕ) (pixels numbers : List ℕ) (most : ℕ) (work : List ℕ) wh
           test-false (bottom p x)
           (λ b.
           let a = bottom-number p ok x place b in
-          let q = c .patch x h in
+          let q = c .map .patch x place in
           let e = before .count in
           d (omega arith))
           in
@@ -88,7 +88,7 @@ module _ (n : ℕ) (pixels numbers : List ℕ) (most : ℕ) (work : List ℕ) wh
       -- the next patch begins at x
       begins : getD numbers x 0 ≡ r + 1 → bottom p x ≡ true
       begins e =
-          let q = c .patch x h in
+          let q = c .map .patch x place in
           let a = before .count in
           next-bottom p ok x place (omega arith)
 
@@ -109,17 +109,17 @@ module _ (n : ℕ) (pixels numbers : List ℕ) (most : ℕ) (work : List ℕ) wh
         unfolding value
         value-is =
             let m = mapOf p x in
-            let t = arrays p n work (c .size) (c .tree) in
             let i = map-found p ok x place in
             let few = nodes-few p in
             let big = c .size in
             let mb : m < n = omega arith in
-            let at : blockEntry l (2 * n) x ≡ m = kept-row (3 * n) (2 * n) (2 * n) x (f .kept) (omega arith) ∙ t .map x h in
+            let at : blockEntry l (2 * n) x ≡ m = kept-row (3 * n) (2 * n) (2 * n) x (f .kept) (omega arith) ∙ (ap (λ (k : ℕ). blockEntry work (2 * k) x) big ∙ c .tree .map x place) in
             ap (depthIn n l most) at ∙
             (depth-kept n most m work l (f .kept) mb ∙
-            (depth-is p ok n (c .size) work t most m i (c .largest ∙ ap highest (sym (c .same))) ∙
+            (ap (λ (k : ℕ). depthIn k work most m) big ∙
+            (depth-is p ok work (c .tree) most m i (c .largest ∙ ap highest (sym (c .same))) ∙
             (sym (patch-depth p ok x noPatch place (begins e)) ∙
-            ap (λ (j : ℕ). getD (patches p) j noPatch .depth) (sym (before .count)))))
+            ap (λ (j : ℕ). getD (patches p) j noPatch .depth) (sym (before .count))))))
 
         height-is : getD pixels x 0 ≡ getD (patches p) r noPatch .height
         height-is =

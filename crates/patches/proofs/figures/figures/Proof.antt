@@ -2,8 +2,7 @@
 use mathlib.Core.Path.{refl, _∙_}
 use borrow.Author.Needs.{needs}
 use Rattle.picture.specs.Pictures.{pictureOf}
-use Rattle.topology.proofs.Accepted.{accepted-is}
-use Rattle.patches.proofs.Figuring.{tree-mapped, tree-few, numbered-mapped, numbered-size, patched-frame, figures-all}
+use Rattle.patches.proofs.Figuring.{tree-mapped, tree-few, numbered-mapped, numbered-sizes, patched-frame, figures-all}
 use Rattle.patches.proofs.figures.figures.Statement.{statement}
 use Rattle.patches.proofs.figures.figures.Tie as tie
 
@@ -21,11 +20,7 @@ map-patches-requires c κs =
     let s = c .before .before .before .before .before .before .before .before .before .before .before .before in
     let p = pictureOf (s .args .a) (s .args .w) (s .args .h) (s .args .pixels .now) in
     let l = c .before .before .before .before .before .before .number .ensures in (
-      record {
-        few = s .pre .1 .few;
-        blocks = numbered-size p _ _ (s .pre .0) _ _ l ∙ s .pre .1 .blocks;
-        beside = accepted-is p (s .pre .0 .accepted) .size;
-      },
+      numbered-sizes p _ _ (s .pre .0) _ _ l _ (s .pre .1),
       numbered-mapped p _ _ (s .pre .0) _ _ l,
       let z = s .pre .1 .beside in search needs,
     )
@@ -41,11 +36,7 @@ put-patches-requires c κs =
     let s = c .before .before .before .before .before .before .before .before .before .before .before .before .before .before .before .before .before .before .before in
     let p = pictureOf (s .args .a) (s .args .w) (s .args .h) (s .args .pixels .now) in
     let l = c .before .before .before .before .before .before .before .before .before .before .before .before .before .number .ensures in (
-      record {
-        few = s .pre .1 .few;
-        blocks = numbered-size p _ _ (s .pre .0) _ _ l ∙ s .pre .1 .blocks;
-        beside = accepted-is p (s .pre .0 .accepted) .size;
-      },
+      numbered-sizes p _ _ (s .pre .0) _ _ l _ (s .pre .1),
       let z = s .pre .1 .beside in search needs,
       numbered-mapped p _ _ (s .pre .0) _ _ l,
     )
@@ -57,7 +48,7 @@ put-sums-requires c κs =
     let l = c .before .before .before .before .before .before .before .before .before .before .before .before .before .before .before .before .before .before .number .ensures in (
       patched-frame p _ _ (s .pre .0) _ _ l _ (let z = s .pre .1 .beside in search needs) (c .before .before .before .before .before .before .before .before .before .before .before .map-patches .ensures),
       refl,
-      c .before .before .before .before .put-patches .ensures .kept .size ∙ (numbered-size p _ _ (s .pre .0) _ _ l ∙ s .pre .1 .blocks),
+      c .before .before .before .before .put-patches .ensures .kept .size ∙ numbered-sizes p _ _ (s .pre .0) _ _ l _ (s .pre .1) .blocks,
     )
 
 same-length : tie.Need-same-length

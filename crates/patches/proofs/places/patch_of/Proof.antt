@@ -2,8 +2,7 @@
 use mathlib.Core.Path.{_∙_}
 use borrow.Author.Needs.{needs}
 use Rattle.picture.specs.Pictures.{pictureOf}
-use Rattle.topology.proofs.Accepted.{accepted-is}
-use Rattle.patches.proofs.Figuring.{tree-mapped, tree-few, numbered-mapped, numbered-size, numbered-patch}
+use Rattle.patches.proofs.Figuring.{tree-mapped, tree-few, numbered-mapped, numbered-sizes, numbered-patch}
 use Rattle.patches.proofs.places.patch_of.Statement.{statement}
 use Rattle.patches.proofs.places.patch_of.Tie as tie
 
@@ -21,11 +20,7 @@ patch-at-requires c κs =
     let s = c .before .before .before .before .before .before .before .before .before .before .before in
     let p = pictureOf (s .args .a) (s .args .w) (s .args .h) (s .args .pixels .now) in
     let l = c .before .before .before .before .before .number .ensures in (
-      record {
-        few = s .pre .1 .few;
-        blocks = numbered-size p _ _ (s .pre .0) _ _ l ∙ s .pre .1 .blocks;
-        beside = accepted-is p (s .pre .0 .accepted) .size;
-      },
+      numbered-sizes p _ _ (s .pre .0) _ _ l _ (s .pre .1),
       numbered-mapped p _ _ (s .pre .0) _ _ l,
       s .pre .2,
     )
