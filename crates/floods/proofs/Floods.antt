@@ -9,10 +9,10 @@ use mathlib.Core.Bool.{false}
 use lib.Dec.{leb}
 use borrow.Author.Tests.{leb-false}
 use lib.ListN.{length, getD, set, drop, length-set}
-use lib.Seq.{drop-cons, drop-length}
+use lib.Seq.{drop-length}
 use Rattle.picture.specs.Pictures.{Picture, places}
 use Rattle.picture.specs.Geometry.{neighboursIn}
-use Rattle.picture.proofs.Neighbours.{neighbour-at, neighbours-touch}
+use Rattle.picture.proofs.Neighbours.{neighbour-next, neighbours-touch}
 use Rattle.lists.proofs.Lists.{in-mem, set-back}
 use Rattle.topology.proofs.Connected.{start, conn-target}
 use Rattle.topology.proofs.Adjacency.{Adj}
@@ -108,11 +108,9 @@ module _ (p : Picture) (k c q : ℕ) where
       Spread p k c q (neighboursIn p q) (drop (i + 1) (neighboursIn p q)) l stack t o last u
   spread-next i y l stack t m after r o last u a b g d f v =
       let ns = neighboursIn p q in
-      let (h, e) = neighbour-at p q i b in
-      rw (add-one i)
-      (spread-turn (getD ns i 0) ns (drop (suc i) ns) l stack t m after r o last u a h e d
-      (subst (λ us. Spread p k c q ns us l stack t m after r) (drop-cons ns i 0 b) f)
-      (subst (λ z. Visited (p .pixels) k z c m after r o last u) g v))
+      let (h, e, split) = neighbour-next p q i y b g in
+      spread-turn y ns (drop (i + 1) ns) l stack t m after r o last u a h e d
+      (subst (λ us. Spread p k c q ns us l stack t m after r) split f) v
 
   pub spread-end :
       (i : ℕ) (l stack : List ℕ) (t : ℕ) (m after : List ℕ) (r : ℕ) → i ≡ length (neighboursIn p q) →

@@ -5,6 +5,7 @@ use Prim.Native.Nat.{suc, _+_, _*_, _-_}
 use native.Mathlib.Omega.{arith}
 use lib.ListN.{set, length-set}
 use Rattle.picture.specs.Pictures.{Picture, pictureOf}
+use Rattle.picture.proofs.Neighbours.{placed-other}
 use Rattle.labelling_laws.proofs.Flood.{unmarked}
 use Rattle.floods.proofs.Floods.{FloodRun, seed-some, run-start, run-top, run-room, run-turn, run-end}
 use Rattle.floods.proofs.flood.Statement.{statement}
@@ -64,7 +65,7 @@ spread-requires c κs =
     let e : t ≡ suc (t - 1) = omega arith in
     let below = run-top (pictured top) _ _ _ _ _ _ _ t (t - 1) e (top .loop .inv) in
     let b = w .wide .ensures in (
-      record { some = s .pre .0 .some; wide = s .pre .0 .wide; high = s .pre .0 .high; inside = omega arith },
+      placed-other (s .pre .0) (omega arith),
       run-room (pictured top) _ _ _ _ _ _ _ t (t - 1) e (top .loop .inv),
       seed-some (pictured top) _ _ _ _ (s .pre .2),
     )

@@ -3,6 +3,7 @@ use Prim.Native.Nat.{_+_, _*_}
 use native.Mathlib.Omega.{arith}
 use lib.ListN.{set}
 use borrow.Author.Needs.{needs}
+use Rattle.picture.proofs.Neighbours.{placed-other}
 use Rattle.labelling_laws.proofs.ZoneScan.{unvisited}
 use Rattle.picture.specs.Pictures.{pictureOf}
 use Rattle.minima.proofs.Floods.{ZoneRunning, running-start, running-top, running-turn, running-end}
@@ -45,9 +46,8 @@ spread-requires : tie.Need-spread-requires Inv-loop μ-loop
 spread-requires c κs =
     let s = c .before .before .before .before .before .before .before in
     let p = pictureOf (s .args .a) (s .args .w) (s .args .h) (s .args .pixels .now) in
-    let top = running-top p _ _ _ _ _ (c .before .before .before .loop .inv) (c .before .if1 .taken) in
-    let a = s .pre .0 in (
-      record { some = a .some; wide = a .wide; high = a .high; inside = top .0 },
+    let top = running-top p _ _ _ _ _ (c .before .before .before .loop .inv) (c .before .if1 .taken) in (
+      placed-other (s .pre .0) (top .0),
       c .before .before .before .loop .inv .room,
       s .pre .2,
       c .before .if1 .taken,

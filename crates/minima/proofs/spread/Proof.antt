@@ -8,7 +8,7 @@ use Rattle.picture.specs.Geometry.{neighboursOf, Placed}
 use Rattle.picture.proofs.Neighbours.{neighbour-at, listed-at}
 use Rattle.picture.specs.Pictures.{pictureOf}
 use Rattle.minima.specs.Minima.{ZoneSpread}
-use Rattle.minima.proofs.Floods.{spread-none, spread-next, spread-room, spread-turn}
+use Rattle.minima.proofs.Floods.{zone-moved-room, spread-none, spread-next, spread-turn}
 use Rattle.minima.proofs.spread.Statement.{statement}
 use Rattle.minima.proofs.spread.Tie as tie
 
@@ -76,7 +76,7 @@ visit-requires c κs =
     let p = pictureOf (s .args .a) (s .args .w) (s .args .h) (s .args .pixels .now) in
     let n = c .before .before .before .before .before .before .before .neighbours .ensures .count in
     let e = s .pre .2 in (
-      spread-room p _ _ _ _ _ _ _ _ _ _ (s .pre .1) (c .before .before .before .loop .inv .1),
+      zone-moved-room _ _ _ _ _ _ (s .pre .1) (c .before .before .before .loop .inv .1 .moved),
       omega (arith, near-is (c .before), neighbour-at p (c .before .before .before .before .before .before .before .before .before .wide .result) (c .before .before .before .loop .i) (omega arith) .0),
     )
 
