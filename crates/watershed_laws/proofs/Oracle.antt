@@ -91,10 +91,10 @@ module _ (n : ℕ) (R : ℕ → ℕ → Type 0) (symmetric : (y z : ℕ) → R y
         (λ a. let f = d .falls in keeps-same n R (same-sections e k (λ h. absurd (omega arith)) (λ h. absurd (omega arith))))
 
     -- who is lowerable after the fall was so before, or is a neighbour of x above s and not above x
-    pub drops-wakes :
+    pub drops-lowerable :
         ((y z : ℕ) → R y z ⊎ (R y z → ⊥)) → (w : ℕ → ℕ) → Fallen v w x s → (y j : ℕ) → y ≢ x → Lowers n R w y j →
         Lowers n R v y j ⊎ (R x y × (s < v y) × (v y ≤ v x))
-    drops-wakes decide w e y j apart-y l =
+    drops-lowerable decide w e y j apart-y l =
         by-cases (decLe s j)
         (λ a.
         by-cases (decLt j (v x))

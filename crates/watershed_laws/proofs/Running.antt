@@ -19,10 +19,10 @@ use Rattle.topology.proofs.Adjacency.{Adj, adj-sym}
 use Rattle.topology.proofs.Bridge.{lowerable-above, lowerable-lowers, lowers-lowerable}
 use Rattle.topology.proofs.Climb.{Meet, meet-same}
 use Rattle.topology.proofs.Water.{less, set-fallen}
-use Rattle.watershed_laws.proofs.Oracle.{Oracle, Stops, Drops, stops-drops, stops-there, drops-wakes, drops-oracle}
+use Rattle.watershed_laws.proofs.Oracle.{Oracle, Stops, Drops, stops-drops, stops-there, drops-lowerable, drops-oracle}
 use Rattle.watershed_laws.proofs.Falls.{First, adj-dec, fall-water}
 use Rattle.watershed_laws.proofs.WinnerTree.{Winner, winner-fallen, candidates}
-use Rattle.watershed_laws.proofs.WinnerSteps.{Waking}
+use Rattle.watershed_laws.proofs.WinnerSteps.{MakingCandidates}
 use Rattle.watershed_laws.proofs.Stopping.{Climbs, Meets, Lowest, Stopped, Around, found-stops, found-none}
 
 -- the state of the run on the frame f: pixels g, the tree's cells, the winner tree t; a lowerable place is a candidate or exempt
@@ -32,20 +32,20 @@ pub record Running (f : Picture) (g tree t : List ℕ) (Exempt : ℕ → Type 0)
   pub oracle : Oracle (places f) (Adj f) (valueAt (withPixels f g)) (Meets (places f) tree)
   pub leaves : length t ≡ 2 * places f
   pub winner : Winner (places f) g t 1 0
-  pub awake : (y : ℕ) → y < places f → lowerable (withPixels f g) y ≡ true → (getD t (places f + y) 0 ≡ y) ⊎ Exempt y
+  pub lowerables : (y : ℕ) → y < places f → lowerable (withPixels f g) y ≡ true → (getD t (places f + y) 0 ≡ y) ⊎ Exempt y
 
 -- the same pixels and cells with another winner tree, and others exempt
 pub running-with :
     {f : Picture} {g tree t t₁ : List ℕ} {Exempt Exempt₁ : ℕ → Type 0} → Running f g tree t Exempt → length t₁ ≡ 2 * places f → Winner (places f) g t₁ 1 0 →
     ((y : ℕ) → y < places f → lowerable (withPixels f g) y ≡ true → (getD t₁ (places f + y) 0 ≡ y) ⊎ Exempt₁ y) → Running f g tree t₁ Exempt₁
-running-with r leaves winner awake =
+running-with r leaves winner lowerables =
     record {
       accepted = r .accepted;
       climbs = r .climbs;
       oracle = r .oracle;
       leaves = leaves;
       winner = winner;
-      awake = awake;
+      lowerables = lowerables;
     }
 
 -- no place is exempt
@@ -55,7 +55,7 @@ pub no-place : {C : Type 0} {y : ℕ} → NoPlace y → C
 no-place = elim [ ]
 
 -- the place x alone is exempt, is no candidate, and leads the lowerable places
-pub record TurnOf (f : Picture) (g tree t : List ℕ) (x : ℕ) : Type 0 where
+pub record WinnerTaken (f : Picture) (g tree t : List ℕ) (x : ℕ) : Type 0 where
   pub running : Running f g tree t (λ y. y ≡ x)
   pub within : x < places f
   pub unset : getD t (places f + x) 0 ≡ 65535
@@ -68,13 +68,13 @@ pub record Window (f : Picture) (g : List ℕ) (x s k y : ℕ) : Type 0 where
   pub most : getD g y 0 ≤ k
 
 -- the run goes on with the same watershed; something has fallen, or all is as it was
-pub record Settled (f : Picture) (g t g₁ tree₁ t₁ : List ℕ) : Type 0 where
+pub record LoweredPlace (f : Picture) (g t g₁ tree₁ t₁ : List ℕ) : Type 0 where
   pub running : Running f g₁ tree₁ t₁ NoPlace
   pub water : watershed (withPixels f g₁) ≡ watershed (withPixels f g)
   pub less : (total g₁ < total g) ⊎ ((g₁ ≡ g) × (t₁ ≡ t))
 
 -- the place x is the winner
-pub record Turning (f : Picture) (g tree t : List ℕ) (x : ℕ) : Type 0 where
+pub record WinnerIs (f : Picture) (g tree t : List ℕ) (x : ℕ) : Type 0 where
   pub running : Running f g tree t NoPlace
   pub top : x ≡ getD t 1 0
   pub candidate : x ≢ 65535
@@ -84,7 +84,7 @@ unfoldable pub measure : ℕ → List ℕ → List ℕ → ℕ
 measure n g t = 1601 * total g + candidates n t
 
 -- after a turn r is the winner, the watershed is the same, and the measure is less
-pub record Turned (f : Picture) (g t g₁ tree₁ t₁ : List ℕ) (r : ℕ) : Type 0 where
+pub record TurnDone (f : Picture) (g t g₁ tree₁ t₁ : List ℕ) (r : ℕ) : Type 0 where
   pub running : Running f g₁ tree₁ t₁ NoPlace
   pub water : watershed (withPixels f g₁) ≡ watershed (withPixels f g)
   pub less : measure (places f) g₁ t₁ < measure (places f) g t
@@ -150,7 +150,7 @@ module _ (n : ℕ) (tree : List ℕ) (c : Climbs n tree) (x low : ℕ) (hx : x <
         at = record { node = q .at .node; meet = m₃; height = q .at .height ∙ map-before (q .at .node) (omega arith) };
       }
 
-module _ (f : Picture) (g tree t : List ℕ) (x : ℕ) (p : TurnOf f g tree t x) (ys : List ℕ) (m low s : ℕ)
+module _ (f : Picture) (g tree t : List ℕ) (x : ℕ) (p : WinnerTaken f g tree t x) (ys : List ℕ) (m low s : ℕ)
     (around : Around f x ys m) (lowest : Lowest (places f) g x ys m low) (stopped : Stopped (places f) g tree low (getD g x 0) ys m s) where
   abbrev run : Running f g tree t (λ y. y ≡ x)
   run = p .running
@@ -170,8 +170,8 @@ module _ (f : Picture) (g tree t : List ℕ) (x : ℕ) (p : TurnOf f g tree t x)
       omega (arith, l .value, l .below .low))
 
   -- it does not fall: it was not lowerable
-  pub settle-stays : getD g x 0 ≤ s → Settled f g t g tree t
-  settle-stays h =
+  pub lowered-stays : getD g x 0 ≤ s → LoweredPlace f g t g tree t
+  lowered-stays h =
       record {
         running =
             running-with run (run .leaves) (run .winner)
@@ -182,7 +182,7 @@ module _ (f : Picture) (g tree t : List ℕ) (x : ℕ) (p : TurnOf f g tree t x)
             absurd
             (stays-there h k
             (subst (λ (z : ℕ). Lowers (places f) (Adj f) (valueAt (withPixels f g)) z k) e (lowerable-lowers (withPixels f g) y b k v l))))
-            (run .awake y b l));
+            (run .lowerables y b l));
         water = refl;
         less = inr (refl, refl);
       }
@@ -212,8 +212,8 @@ module _ (f : Picture) (g tree t : List ℕ) (x : ℕ) (p : TurnOf f g tree t x)
     fall-same-water = fall-water f g (run .accepted .size) x low s drops (p .first)
 
     -- it falls to s and is mapped as low is; its neighbours between s and its old value are exempt
-    pub settle-falls : Running f lowered-to remapped t (Window f lowered-to x s (getD g x 0))
-    settle-falls =
+    pub lowered-falls : Running f lowered-to remapped t (Window f lowered-to x s (getD g x 0))
+    lowered-falls =
         record {
           accepted =
               accepted-with (withPixels f g) lowered-to (run .accepted) (length-set g x s ∙ run .accepted .size)
@@ -237,16 +237,16 @@ module _ (f : Picture) (g tree t : List ℕ) (x : ℕ) (p : TurnOf f g tree t x)
               winner-fallen (places f) g t (run .winner) x s (p .within)
               (omega (arith, places-bound (withPixels f g) (run .accepted)))
               (p .unset);
-          awake = awake;
+          lowerables = lowerables;
         }
       where
         fallen : Fallen (valueAt (withPixels f g)) (valueAt (withPixels f lowered-to)) x s
         fallen = set-fallen f g x s inside
 
-        awake :
+        lowerables :
             (y : ℕ) → y < places f → lowerable (withPixels f lowered-to) y ≡ true →
             (getD t (places f + y) 0 ≡ y) ⊎ Window f lowered-to x s (getD g x 0) y
-        awake y b l =
+        lowerables y b l =
             let (k, v) = lowerable-above (withPixels f lowered-to) y b l in
             let lo = lowerable-lowers (withPixels f lowered-to) y b k v l in
             by-cases (ℕ-discrete y x)
@@ -258,16 +258,16 @@ module _ (f : Picture) (g tree t : List ℕ) (x : ℕ) (p : TurnOf f g tree t x)
             (λ q.
             ⊎-elim
             (λ u.
-            ⊎-elim (λ e. inl e) (λ e. absurd (q e)) (run .awake y b (lowers-lowerable (withPixels f g) y b k u)))
+            ⊎-elim (λ e. inl e) (λ e. absurd (q e)) (run .lowerables y b (lowers-lowerable (withPixels f g) y b k u)))
             (λ (a, c, d). let e = fallen .other y q in inr (record { near = a; above = omega arith; most = omega arith }))
-            (drops-wakes (places f) (Adj f) (adj-sym f) (valueAt (withPixels f g)) x low s drops (adj-dec f) (valueAt (withPixels f lowered-to)) fallen y k q lo))
+            (drops-lowerable (places f) (Adj f) (adj-sym f) (valueAt (withPixels f g)) x low s drops (adj-dec f) (valueAt (withPixels f lowered-to)) fallen y k q lo))
 
-    -- the neighbours are woken, and the turn is done
-    pub settle-woken :
-        (t₁ : List ℕ) → Waking (places f) lowered-to t s (getD g x 0) ys t₁ m →
-        Settled f g t lowered-to remapped t₁
-    settle-woken t₁ w =
-        let r = settle-falls in
+    -- the neighbours become candidates, and the turn is done
+    pub lowered-made :
+        (t₁ : List ℕ) → MakingCandidates (places f) lowered-to t s (getD g x 0) ys t₁ m →
+        LoweredPlace f g t lowered-to remapped t₁
+    lowered-made t₁ w =
+        let r = lowered-falls in
         record {
           running =
               running-with r (w .size) (w .winner)
@@ -279,8 +279,8 @@ module _ (f : Picture) (g tree t : List ℕ) (x : ℕ) (p : TurnOf f g tree t x)
               let (j, i, e) = around .every y b (v .near) in
               subst
               (λ (z : ℕ). s < getD lowered-to z 0 → getD lowered-to z 0 ≤ getD g x 0 → getD t₁ (places f + z) 0 ≡ z)
-              e (w .woken j i) (v .above) (v .most))
-              (r .awake y b l)));
+              e (w .made j i) (v .above) (v .most))
+              (r .lowerables y b l)));
           water = fall-same-water;
           less = inl fall-total;
         }

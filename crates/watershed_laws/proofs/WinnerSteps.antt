@@ -9,6 +9,13 @@ use lib.ListN.{length, getD, set, length-set}
 use lib.Seq.{getD-set-same, getD-set-other}
 use Rattle.watershed_laws.proofs.WinnerTree.{Better, Candidate, better-candidate, Winner, Played, same, moved, winner-set, winner-leaf, winner-right}
 
+-- a winner tree of n places in 2 n cells, over n pixels
+pub record WinnerReady (n : ℕ) (g t : List ℕ) : Type 0 where
+  pub winner : Winner n g t 1 0
+  pub few : n ≤ 1600
+  pub pixels : length g ≡ n
+  pub cells : length t ≡ 2 * n
+
 -- after replays of the tree before the cell i is next; the leaves are as they were
 pub record Replaying (n : ℕ) (g before t : List ℕ) (i : ℕ) : Type 0 where
   pub size : length t ≡ 2 * n
@@ -35,18 +42,18 @@ pub record Building (n : ℕ) (g t : List ℕ) (i : ℕ) : Type 0 where
   pub full : (x : ℕ) → x < n → getD t (n + x) 0 ≡ x
 
 -- candidates stay so, and the place y is one if its value is above s and at most k
-pub record Woken (n : ℕ) (g before : List ℕ) (s k y : ℕ) (t : List ℕ) : Type 0 where
+pub record MadeCandidate (n : ℕ) (g before : List ℕ) (s k y : ℕ) (t : List ℕ) : Type 0 where
   pub size : length t ≡ 2 * n
   pub winner : Winner n g t 1 0
   pub stay : (z : ℕ) → z < n → getD before (n + z) 0 ≡ z → getD t (n + z) 0 ≡ z
-  pub woken : s < getD g y 0 → getD g y 0 ≤ k → getD t (n + y) 0 ≡ y
+  pub made : s < getD g y 0 → getD g y 0 ≤ k → getD t (n + y) 0 ≡ y
 
 -- the same for the first i of the listed places ys
-pub record Waking (n : ℕ) (g before : List ℕ) (s k : ℕ) (ys t : List ℕ) (i : ℕ) : Type 0 where
+pub record MakingCandidates (n : ℕ) (g before : List ℕ) (s k : ℕ) (ys t : List ℕ) (i : ℕ) : Type 0 where
   pub size : length t ≡ 2 * n
   pub winner : Winner n g t 1 0
   pub stay : (z : ℕ) → z < n → getD before (n + z) 0 ≡ z → getD t (n + z) 0 ≡ z
-  pub woken :
+  pub made :
       (j : ℕ) → j < i → s < getD g (getD ys j 0) 0 → getD g (getD ys j 0) 0 ≤ k →
       getD t (n + getD ys j 0) 0 ≡ getD ys j 0
 
@@ -176,8 +183,8 @@ module _ (n : ℕ) (g : List ℕ) where
       build-down t (k - 1) after r (subst (Building n g t) e p) (omega arith) (omega arith) q
 
   module _ (before : List ℕ) (s k y : ℕ) where
-    pub woken-now : (t : List ℕ) → Assigned n g before y y t → Woken n g before s k y t
-    woken-now t a =
+    pub candidate-made : (t : List ℕ) → Assigned n g before y y t → MadeCandidate n g before s k y t
+    candidate-made t a =
         record {
           size = a .size;
           winner = a .winner;
@@ -186,27 +193,27 @@ module _ (n : ℕ) (g : List ℕ) where
               by-cases (ℕ-discrete z y)
               (λ e. subst (λ (m : ℕ). getD t (n + m) 0 ≡ m) (sym e) (a .own))
               (λ d. a .other z h d ∙ q);
-          woken = λ p q. a .own;
+          made = λ p q. a .own;
         }
 
   module _ (before : List ℕ) (s k : ℕ) (ys : List ℕ) where
-    pub wake-turn :
+    pub making-turn :
         (t : List ℕ) (i : ℕ) (after : List ℕ) → getD ys i 0 < n →
         ((j : ℕ) → j < i → getD ys j 0 < n) →
-        Waking n g before s k ys t i → Woken n g t s k (getD ys i 0) after → Waking n g before s k ys after (i + 1)
-    wake-turn t i after inside places p q =
+        MakingCandidates n g before s k ys t i → MadeCandidate n g t s k (getD ys i 0) after → MakingCandidates n g before s k ys after (i + 1)
+    making-turn t i after inside places p q =
         record {
           size = q .size;
           winner = q .winner;
           stay = λ z h e. q .stay z h (p .stay z h e);
-          woken =
+          made =
               λ j h a b.
               by-cases (ℕ-discrete j i)
               (λ e.
               subst
               (λ (m : ℕ). s < getD g (getD ys m 0) 0 → getD g (getD ys m 0) 0 ≤ k → getD after (n + getD ys m 0) 0 ≡ getD ys m 0)
-              (sym e) (q .woken) a b)
+              (sym e) (q .made) a b)
               (λ d.
               let l : j < i = omega arith in
-              q .stay (getD ys j 0) (places j l) (p .woken j l a b));
+              q .stay (getD ys j 0) (places j l) (p .made j l a b));
         }

@@ -1,4 +1,4 @@
--- `watershed::run::lower_all` meets its contract. The invariant is Running with the watershed unchanged, the measure that of Turned.
+-- `watershed::run::lower_all` meets its contract. The invariant is Running with the watershed unchanged, the measure that of TurnDone.
 use mathlib.Core.Path.{_≡_, refl, sym, ap, _∙_}
 use mathlib.Core.List.{[]}
 use Prim.Native.Nat.{_*_}
@@ -11,7 +11,7 @@ use Rattle.topology.proofs.Accepted.{accepted-is, places-bound}
 use Rattle.watershed_laws.proofs.Running.{Running, NoPlace, measure}
 use Rattle.watershed_laws.proofs.Turns.{places-some, running-end}
 use Rattle.watershed_laws.proofs.Lending.{start-lent, start-back, size-back}
-use Rattle.watershed.proofs.Held.{tree-holds}
+use Rattle.watershed.proofs.BuiltTree.{tree-holds}
 use borrow.Author.Needs.{needs}
 use Rattle.watershed.proofs.run.lower_all.Statement.{statement}
 use Rattle.watershed.proofs.run.lower_all.Tie as tie
@@ -31,20 +31,20 @@ mul-n c = search needs
 mul-e : tie.Need-mul-e Inv-loop μ-loop
 mul-e c = search needs
 
-mul-build : tie.Need-mul-build Inv-loop μ-loop
-mul-build c = search needs
+mul-build-winners : tie.Need-mul-build-winners Inv-loop μ-loop
+mul-build-winners c = search needs
 
-sub-build : tie.Need-sub-build Inv-loop μ-loop
-sub-build c = search needs
+sub-build-winners : tie.Need-sub-build-winners Inv-loop μ-loop
+sub-build-winners c = search needs
 
-part-build-start : tie.Need-part-build-start Inv-loop μ-loop
-part-build-start c = search needs
+part-build-winners-start : tie.Need-part-build-winners-start Inv-loop μ-loop
+part-build-winners-start c = search needs
 
-part-build-end : tie.Need-part-build-end Inv-loop μ-loop
-part-build-end c = search needs
+part-build-winners-end : tie.Need-part-build-winners-end Inv-loop μ-loop
+part-build-winners-end c = search needs
 
-build-requires : tie.Need-build-requires Inv-loop μ-loop
-build-requires c κs = let s = c .before .before .before .before in
+build-winners-requires : tie.Need-build-winners-requires Inv-loop μ-loop
+build-winners-requires c κs = let s = c .before .before .before .before in
     let f = pictureOf (s .args .a) (s .args .w) (s .args .h) (s .args .out .now) in
     let ok = accepted-is f (s .pre .0) in (
       start-lent f (s .args .out .now) (s .args .work .now) (s .pre .1),
@@ -64,7 +64,7 @@ slice-read-wide c = let s = c .before .before .before .before .before .before .b
     let f = pictureOf (s .args .a) (s .args .w) (s .args .h) (s .args .out .now) in
     let ok = accepted-is f (s .pre .0) in
     omega
-    (arith, places-some f ok, size-back f (s .args .out .now) (s .args .work .now) (c .before .before .before .build .last .1 .0) (s .pre .1) (c .before .before .before .build .ensures .size))
+    (arith, places-some f ok, size-back f (s .args .out .now) (s .args .work .now) (c .before .before .before .build-winners .last .1 .0) (s .pre .1) (c .before .before .before .build-winners .ensures .size))
 
 wide-requires : tie.Need-wide-requires Inv-loop μ-loop
 wide-requires c κs = search needs
@@ -73,12 +73,12 @@ loop-holds : tie.Need-loop-holds Inv-loop μ-loop
 loop-holds c = let s = c .before .before .before .before .before .before .before .before .before in
     let f = pictureOf (s .args .a) (s .args .w) (s .args .h) [] in
     let p = pictureOf (s .args .a) (s .args .w) (s .args .h) (s .args .out .now) in (
-      start-back f (s .args .out .now) (s .args .work .now) (c .before .before .before .before .build .last .1 .0) (s .pre .1) (accepted-is p (s .pre .0))
+      start-back f (s .args .out .now) (s .args .work .now) (c .before .before .before .before .build-winners .last .1 .0) (s .pre .1) (accepted-is p (s .pre .0))
           (tree-holds p (s .args .work .now) (omega (arith, s .pre .1)) (s .pre .2))
-          (c .before .before .before .before .build .ensures),
+          (c .before .before .before .before .build-winners .ensures),
       c .wide .ensures ∙ sym (getD-drop (3 * (s .args .w * s .args .h)) _ 1 0),
       refl,
-      size-back f (s .args .out .now) (s .args .work .now) (c .before .before .before .before .build .last .1 .0) (s .pre .1) (c .before .before .before .before .build .ensures .size),
+      size-back f (s .args .out .now) (s .args .work .now) (c .before .before .before .before .build-winners .last .1 .0) (s .pre .1) (c .before .before .before .before .build-winners .ensures .size),
     )
 
 cast-loop : tie.Need-cast-loop Inv-loop μ-loop
@@ -116,11 +116,11 @@ lower-all-spec =
     μ-loop
     mul-n
     mul-e
-    mul-build
-    sub-build
-    part-build-start
-    part-build-end
-    build-requires
+    mul-build-winners
+    sub-build-winners
+    part-build-winners-start
+    part-build-winners-end
+    build-winners-requires
     add-wide
     mul-wide
     slice-read-wide

@@ -1,11 +1,10 @@
--- `watershed::run::turn` meets its contract: the winner's leaf is unset, and the winner settled.
+-- `watershed::run::turn` meets its contract: the winner's leaf is unset, and the winner lowered.
 use Rattle.picture.specs.Pictures.{pictureOf}
-use Rattle.watershed_laws.proofs.Lending.{size-back, start-lent, turn-winner, turn-back, turn-over}
+use Rattle.watershed_laws.proofs.Lending.{size-back, turn-ready, turn-back, turn-over}
 use mathlib.Core.Path.{refl}
 use mathlib.Core.Logic.{inr}
 use mathlib.Core.List.{[]}
 use native.Mathlib.Omega.{arith}
-use Rattle.topology.proofs.Accepted.{places-bound}
 use Rattle.watershed_laws.proofs.Turns.{places-some, turn-place}
 use borrow.Author.Needs.{needs}
 use Rattle.watershed.proofs.run.turn.Statement.{statement}
@@ -31,12 +30,8 @@ part-assign-end c = search needs
 
 assign-requires : tie.Need-assign-requires
 assign-requires c κs = let s = c .before .before .before .before in
-    let r = s .pre .0 .running in
     let f = pictureOf (s .args .a) (s .args .w) (s .args .h) [] in (
-      turn-winner f _ _ _ (s .pre .0) (s .pre .1),
-      places-bound _ (r .accepted),
-      r .accepted .size,
-      start-lent f (s .args .out .now) (s .args .work .now) (s .pre .1),
+      turn-ready f _ _ _ (s .pre .0) (s .pre .1),
       turn-place f _ _ _ _ (s .pre .0),
       inr refl,
     )
