@@ -21,7 +21,7 @@ use Rattle.labelling_laws.proofs.ZoneScan.{unvisited-set, Scanned, scan-start, 
 use Rattle.topology.proofs.Leaves.{bottom}
 use Rattle.topology.proofs.Accepted.{accepted-is, places-bound, placed}
 use Rattle.minima.specs.declared.Stack.{Stack}
-use Rattle.minima.specs.Minima.{CellEach, ZoneRoom, ZoneMoved, popped, ZoneFloods, Visit, ZoneSpread, Turn, ZoneSeed, Counting}
+use Rattle.minima.specs.Minima.{CellEach, ZoneRoom, ZoneMoved, popped, ZoneFloods, Visit, ZoneSpread, ZoneTurn, ZoneSeed, Counting}
 use Rattle.lists.specs.Blocks.{Filled}
 
 -- no place is visited
@@ -124,7 +124,7 @@ module _ (p : Picture) (k q : ℕ) where
   pub spread-turn :
       (cells : List ℕ) (s : Stack) (after : List ℕ) (r : Stack) (i : ℕ) → 1 ≤ p .width → q ≡ s .top → 1 ≤ s .height →
       length (neighboursIn p q) ≤ i →
-      ZoneSpread p k q (neighboursIn p q) (drop i (neighboursIn p q)) cells (popped cells q s) after r → Turn p k cells s after r
+      ZoneSpread p k q (neighboursIn p q) (drop i (neighboursIn p q)) cells (popped cells q s) after r → ZoneTurn p k cells s after r
   spread-turn cells s after r i some e h n f =
       record {
         moved = subst (λ (x : ℕ). ZoneMoved cells (popped cells x s) after r) e (f .moved);
@@ -180,7 +180,7 @@ module _ (p : Picture) (x : ℕ) where
     pub running-top : 1 ≤ s .height → (s .top < places p) × (getD cells (s .top) 0 ≢ 65535)
     running-top h = let (c, m) = f .flooding .search .stack (s .top) (0, omega arith, refl) in (conn-target c .within, m)
 
-    pub running-turn : (after : List ℕ) (r : Stack) → 1 ≤ s .height → Turn p k cells s after r → ZoneRunning p k x before after r
+    pub running-turn : (after : List ℕ) (r : Stack) → 1 ≤ s .height → ZoneTurn p k cells s after r → ZoneRunning p k x before after r
     running-turn after r h t =
         record {
           room = zone-moved-room (p .pixels) cells s after r (s .top) (f .room) (t .moved);

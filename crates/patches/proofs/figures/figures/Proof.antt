@@ -1,10 +1,14 @@
 -- `patches::figures::figures` meets its contract: the numbers, the patch of each place, the depths and heights, the sums.
 use mathlib.Core.Path.{refl, _∙_}
 use borrow.Author.Needs.{needs}
-use Rattle.picture.specs.Pictures.{pictureOf}
+use Rattle.picture.specs.Pictures.{Picture, pictureOf}
 use Rattle.patches.proofs.Figuring.{tree-mapped, tree-few, numbered-mapped, numbered-sizes, patched-frame, figures-all}
 use Rattle.patches.proofs.figures.figures.Statement.{statement}
 use Rattle.patches.proofs.figures.figures.Tie as tie
+
+-- the picture of the arguments
+abbrev pictured : tie.Start → Picture
+pictured s = pictureOf (s .args .a) (s .args .w) (s .args .h) (s .args .pixels .now)
 
 mul-n : tie.Need-mul-n
 mul-n c = search needs
@@ -12,16 +16,14 @@ mul-n c = search needs
 number-requires : tie.Need-number-requires
 number-requires c κs =
     let s = c .before .before .before .before .before in
-    let p = pictureOf (s .args .a) (s .args .w) (s .args .h) (s .args .pixels .now) in
-    (s .pre .1, tree-mapped p _ _ (s .pre .0), tree-few p _ _ (s .pre .0))
+    (s .pre .1, tree-mapped (pictured s) _ _ (s .pre .0), tree-few (pictured s) _ _ (s .pre .0))
 
 map-patches-requires : tie.Need-map-patches-requires
 map-patches-requires c κs =
     let s = c .before .before .before .before .before .before .before .before .before .before .before .before in
-    let p = pictureOf (s .args .a) (s .args .w) (s .args .h) (s .args .pixels .now) in
     let l = c .before .before .before .before .before .before .number .ensures in (
-      numbered-sizes p _ _ (s .pre .0) _ _ l _ (s .pre .1),
-      numbered-mapped p _ _ (s .pre .0) _ _ l,
+      numbered-sizes (pictured s) _ _ (s .pre .0) _ _ l _ (s .pre .1),
+      numbered-mapped (pictured s) _ _ (s .pre .0) _ _ l,
       let z = s .pre .1 .beside in search needs,
     )
 
@@ -34,21 +36,19 @@ cell-of-requires c κs = search needs
 put-patches-requires : tie.Need-put-patches-requires
 put-patches-requires c κs =
     let s = c .before .before .before .before .before .before .before .before .before .before .before .before .before .before .before .before .before .before .before in
-    let p = pictureOf (s .args .a) (s .args .w) (s .args .h) (s .args .pixels .now) in
     let l = c .before .before .before .before .before .before .before .before .before .before .before .before .before .number .ensures in (
-      numbered-sizes p _ _ (s .pre .0) _ _ l _ (s .pre .1),
+      numbered-sizes (pictured s) _ _ (s .pre .0) _ _ l _ (s .pre .1),
       let z = s .pre .1 .beside in search needs,
-      numbered-mapped p _ _ (s .pre .0) _ _ l,
+      numbered-mapped (pictured s) _ _ (s .pre .0) _ _ l,
     )
 
 put-sums-requires : tie.Need-put-sums-requires
 put-sums-requires c κs =
     let s = c .before .before .before .before .before .before .before .before .before .before .before .before .before .before .before .before .before .before .before .before .before .before .before .before in
-    let p = pictureOf (s .args .a) (s .args .w) (s .args .h) (s .args .pixels .now) in
     let l = c .before .before .before .before .before .before .before .before .before .before .before .before .before .before .before .before .before .before .number .ensures in (
-      patched-frame p _ _ (s .pre .0) _ _ l _ (let z = s .pre .1 .beside in search needs) (c .before .before .before .before .before .before .before .before .before .before .before .map-patches .ensures),
+      patched-frame (pictured s) _ _ (s .pre .0) _ _ l _ (let z = s .pre .1 .beside in search needs) (c .before .before .before .before .before .before .before .before .before .before .before .map-patches .ensures),
       refl,
-      c .before .before .before .before .put-patches .ensures .kept .size ∙ numbered-sizes p _ _ (s .pre .0) _ _ l _ (s .pre .1) .blocks,
+      c .before .before .before .before .put-patches .ensures .kept .size ∙ numbered-sizes (pictured s) _ _ (s .pre .0) _ _ l _ (s .pre .1) .blocks,
     )
 
 same-length : tie.Need-same-length
@@ -60,9 +60,8 @@ same-length-2 c = search needs
 returns : tie.Need-returns
 returns c =
     let s = c .before .before .before .before .before .before .before .before .before .before .before .before .before .before .before .before .before .before .before .before .before .before .before .before .before .before .before in
-    let p = pictureOf (s .args .a) (s .args .w) (s .args .h) (s .args .pixels .now) in
     let l = c .before .before .before .before .before .before .before .before .before .before .before .before .before .before .before .before .before .before .before .before .before .number .ensures in
-    figures-all p _ _ (s .pre .0) _ _ l _ (let z = s .pre .1 .beside in search needs) (c .before .before .before .before .before .before .before .before .before .before .before .before .before .before .map-patches .ensures) _ _ _ _
+    figures-all (pictured s) _ _ (s .pre .0) _ _ l _ (let z = s .pre .1 .beside in search needs) (c .before .before .before .before .before .before .before .before .before .before .before .before .before .before .map-patches .ensures) _ _ _ _
     (c .before .before .before .before .before .before .before .before .before .before .cell-of .ensures ∙ c .before .before .before .before .before .before .before .before .before .before .before .largest .ensures)
     (c .before .before .before .before .before .before .before .put-patches .ensures)
     (c .before .before .put-sums .ensures)
