@@ -48,7 +48,7 @@ pub record PatchMap (p : Picture) (cells : List ℕ) : Type 0 where
   pub patch : (x : ℕ) → x < places p → getD cells x 0 ≡ patchAt p x
 
 -- the work holds the tree of p, and the numbers are those of its patches
-pub record Charted (p : Picture) (n : ℕ) (pixels numbers : List ℕ) (most : ℕ) (work : List ℕ) : Type 0 where
+pub record PatchesNumbered (p : Picture) (n : ℕ) (pixels numbers : List ℕ) (most : ℕ) (work : List ℕ) : Type 0 where
   pub accepted : isPicture p ≡ true
   pub size : n ≡ places p
   pub same : p .pixels ≡ pixels
@@ -60,7 +60,7 @@ pub record Charted (p : Picture) (n : ℕ) (pixels numbers : List ℕ) (most : �
 pub record Patched (n : ℕ) (pixels numbers : List ℕ) (most x : ℕ) (work : List ℕ) (r : ℕ) (after : List ℕ) : Type 0 where
   pub kept : UntouchedOutside (3 * n) (2 * n) work after
   pub few : r ≤ x
-  pub begun : (p : Picture) → Charted p n pixels numbers most work → DepthsBefore p n x r after
+  pub begun : (p : Picture) → PatchesNumbered p n pixels numbers most work → DepthsBefore p n x r after
 
 -- r patches; patch i + 1 has its size in the first block at i, its column sum in the second, its row sum in the third, its depth in the fourth, its height in the fifth; the cells hold the patch of each place
 pub record Figures (p : Picture) (r : ℕ) (work cells : List ℕ) : Type 0 where

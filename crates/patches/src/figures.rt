@@ -62,16 +62,16 @@ fn depth(n: usize, work: &[u16], most: u16, m: usize) -> u16
 fn put_patch(
     n: usize,
     pixels: &[u8],
-    map: &[u16],
+    numbers: &[u16],
     most: u16,
     x: usize,
     work: &mut [u16],
     r: usize,
 ) -> usize
-    requires { ⌜ FiveBlocks n (now work) (now pixels) × (length (now map) ≡ n) × Mapped n (now work) × (x < n) × (r ≤ x) ⌝ }
-    ensures { λ q. ⌜ PatchPut n (now (pixels .entry)) (now (map .entry)) most x (now (work .entry)) r (now (work .exit)) q ⌝ }
+    requires { ⌜ FiveBlocks n (now work) (now pixels) × (length (now numbers) ≡ n) × Mapped n (now work) × (x < n) × (r ≤ x) ⌝ }
+    ensures { λ q. ⌜ PatchPut n (now (pixels .entry)) (now (numbers .entry)) most x (now (work .entry)) r (now (work .exit)) q ⌝ }
 {
-    if wide(map[x]) != r + 1 {
+    if wide(numbers[x]) != r + 1 {
         return r;
     }
     let m = wide(work[2 * n + x]);
@@ -81,14 +81,14 @@ fn put_patch(
 }
 
 // Puts the depths and the heights of the patches into the fourth and the fifth block, and answers how many there are.
-fn put_patches(n: usize, pixels: &[u8], map: &[u16], most: u16, work: &mut [u16]) -> usize
-    requires { ⌜ FiveBlocks n (now work) (now pixels) × (length (now map) ≡ n) × Mapped n (now work) ⌝ }
-    ensures { λ r. ⌜ Patched n (now (pixels .entry)) (now (map .entry)) most n (now (work .entry)) r (now (work .exit)) ⌝ }
+fn put_patches(n: usize, pixels: &[u8], numbers: &[u16], most: u16, work: &mut [u16]) -> usize
+    requires { ⌜ FiveBlocks n (now work) (now pixels) × (length (now numbers) ≡ n) × Mapped n (now work) ⌝ }
+    ensures { λ r. ⌜ Patched n (now (pixels .entry)) (now (numbers .entry)) most n (now (work .entry)) r (now (work .exit)) ⌝ }
 {
     let mut r = 0;
     let mut x = 0;
     while x < n {
-        r = put_patch(n, pixels, map, most, x, work, r);
+        r = put_patch(n, pixels, numbers, most, x, work, r);
         x += 1;
     }
     r

@@ -2,7 +2,7 @@
 use mathlib.Core.Path.{refl, _∙_}
 use borrow.Author.Needs.{needs}
 use Rattle.picture.specs.Pictures.{Picture, pictureOf}
-use Rattle.patches.proofs.Figuring.{tree-mapped, tree-few, numbered-mapped, numbered-sizes, patched-frame, figures-all}
+use Rattle.patches.proofs.FigureLaws.{tree-mapped, tree-few, numbered-mapped, numbered-sizes, patched-frame, figures-all}
 use Rattle.patches.proofs.figures.figures.Statement.{statement}
 use Rattle.patches.proofs.figures.figures.Tie as tie
 

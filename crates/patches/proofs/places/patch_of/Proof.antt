@@ -2,7 +2,7 @@
 use mathlib.Core.Path.{_∙_}
 use borrow.Author.Needs.{needs}
 use Rattle.picture.specs.Pictures.{Picture, pictureOf}
-use Rattle.patches.proofs.Figuring.{tree-mapped, tree-few, numbered-mapped, numbered-sizes, numbered-patch}
+use Rattle.patches.proofs.FigureLaws.{tree-mapped, tree-few, numbered-mapped, numbered-sizes, numbered-patch}
 use Rattle.patches.proofs.places.patch_of.Statement.{statement}
 use Rattle.patches.proofs.places.patch_of.Tie as tie
 

@@ -24,9 +24,9 @@ use Rattle.topology.proofs.PatchSums.{count-few, patch-most, patch-size, patch-
 use Rattle.lists.specs.Blocks.{UntouchedOutside}
 use Rattle.patch_numbers.specs.Numbers.{FiveBlocks, Mapped, Leaves, patchIn}
 use Rattle.patch_sums.specs.Sums.{sizes, columns, rows, NumberedRows, Sums}
-use Rattle.patches.specs.Figures.{TreeInWork, noPatch, Charted, Patched, Figures, PatchMap}
+use Rattle.patches.specs.Figures.{TreeInWork, noPatch, PatchesNumbered, Patched, Figures, PatchMap}
 use Rattle.patch_numbers.proofs.Numbering.{kept-row}
-use Rattle.patches.proofs.Charting.{map-in, leaves-patch}
+use Rattle.patches.proofs.LeafNumbers.{map-in, leaves-patch}
 
 -- the tree is not touched by changes from the fifth block on
 pub tree-kept : (p : Picture) (l m : List ℕ) → UntouchedOutside (4 * places p) (places p) l m → TreeIn p l → TreeIn p m
@@ -67,8 +67,8 @@ module _ (p : Picture) (count : ℕ) (work : List ℕ) (t : TreeInWork p count w
       mapped : PatchMap p cells
       mapped = record { size = long; patch = λ x h. m x h ∙ numbered-patch x h }
 
-      charted : (most : ℕ) → most ≡ highest (p .pixels) → Charted p (places p) (p .pixels) cells most a
-      charted most e =
+      patches-numbered : (most : ℕ) → most ≡ highest (p .pixels) → PatchesNumbered p (places p) (p .pixels) cells most a
+      patches-numbered most e =
           record { accepted = t .accepted; size = refl; same = refl; tree = numbered-tree; map = mapped; largest = e }
 
       pub patched-frame : NumberedRows (p .width) (places p) cells
@@ -85,7 +85,7 @@ module _ (p : Picture) (count : ℕ) (work : List ℕ) (t : TreeInWork p count w
           (most q : ℕ) (b c : List ℕ) → most ≡ highest (p .pixels) →
           Patched (places p) (p .pixels) cells most (places p) a q b → Sums (p .width) (places p) (places p) cells b c → Figures p q c cells
       figures-all most q b c e f s =
-          let g = f .begun p (charted most e) in
+          let g = f .begun p (patches-numbered most e) in
           let n : q ≡ length (patches p) = g .count ∙ sym (patches-count p ok) in
           let few = count-few p ok in
           record {

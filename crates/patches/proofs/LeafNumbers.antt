@@ -1,65 +1,33 @@
--- The arrays of a picture's tree give its patches: leaves by marks, patches by numbers, depths by fathers.
-use mathlib.Core.Path.{_≡_, refl, sym, ap, subst, _∙_}
-use mathlib.Core.Bool.{Bool, true, false}
-use mathlib.Core.Logic.{inl, ⊎-elim, by-cases}
+-- The arrays of a picture's tree give its patches: leaves by marks, patches by the numbers of leaves.
+use mathlib.Core.Path.{_≡_, sym, ap, subst, _∙_}
+use mathlib.Core.Bool.{true, false}
+use mathlib.Core.Logic.{inl, by-cases}
 use mathlib.Core.List.{List}
-use Prim.Native.Nat.{ℕ, suc, _-_, _*_, _≤_, _<_}
-use native.Mathlib.Decide.{ℕ-discrete, decLt}
+use Prim.Native.Nat.{ℕ, suc, _*_, _≤_, _<_}
+use native.Mathlib.Decide.{ℕ-discrete}
 use native.Mathlib.Nat.{zero-add}
 use native.Mathlib.Omega.{arith}
 use lib.ListN.{length, getD}
-use borrow.Author.Tests.{lt-ltb, le-ltb}
-use Rattle.lists.specs.Lists.{pick, tally, range, highest}
+use Rattle.lists.specs.Lists.{tally, range}
 use Rattle.picture.specs.Pictures.{Picture, places, valueAt}
-use Rattle.picture.specs.Trees.{Node, nodes, nodeAt, fatherOf, mapOf}
-use Rattle.picture.specs.Patches.{patchAt, depthOf}
-use Rattle.lists.specs.Blocks.{blockEntry, UntouchedOutside}
+use Rattle.picture.specs.Trees.{Node, nodes, nodeAt, mapOf}
+use Rattle.picture.specs.Patches.{patchAt}
+use Rattle.lists.specs.Blocks.{blockEntry}
 use Rattle.tree.specs.Arrays.{TreeIn}
 use Rattle.lists.proofs.Tests.{on-test, same-test, clash, pick-in, pick-out}
 use Rattle.lists.proofs.Lists.{tally-same, range-mem}
-use Rattle.topology.proofs.Accepted.{Accepted, places-bound}
+use Rattle.topology.proofs.Accepted.{Accepted}
 use Rattle.topology.proofs.Nodes.{nodes-few, node-is}
-use Rattle.topology.proofs.Fathers.{father-found, map-found, number-small}
+use Rattle.topology.proofs.Fathers.{map-found}
 use Rattle.topology.proofs.Leaves.{bottom}
 use Rattle.topology.proofs.PatchFigures.{bottom-number}
-use Rattle.topology.proofs.LeafNodes.{leafNode, leaf-bottom, bottom-map, bottom-leaf, leaf-mapped, map-bottom, patch-leaf, patch-line, father-leaf, childless-leaf, depth-root, depth-father}
+use Rattle.topology.proofs.LeafNodes.{leafNode, leaf-bottom, bottom-map, bottom-leaf, leaf-mapped, map-bottom, patch-leaf, patch-line, father-leaf, childless-leaf}
 use Rattle.patch_numbers.specs.Numbers.{starts, Leaves, patchIn}
-use Rattle.patches.specs.Figures.{depthIn}
 use Rattle.patch_numbers.proofs.Numbering.{kept-row, starts-true, starts-is, patch-is}
 
 -- the height of a node stands in the first block
-height-at : (p : Picture) (work : List ℕ) → TreeIn p work → (i : ℕ) → i < length (nodes p) → getD work i 0 ≡ nodeAt p i .height
+pub height-at : (p : Picture) (work : List ℕ) → TreeIn p work → (i : ℕ) → i < length (nodes p) → getD work i 0 ≡ nodeAt p i .height
 height-at p work t i h = ap (λ (j : ℕ). getD work j 0) (sym (zero-add i)) ∙ t .heights i h
-
--- depths by the arrays
-module _ (n : ℕ) (work : List ℕ) (most m f : ℕ) (e : f ≡ blockEntry work n m) where
-  pub depth-below : f < n → getD work f 0 - getD work m 0 ≡ depthIn n work most m
-  unfolding depthIn
-  depth-below h =
-      sym
-      (ap (λ (b : Bool). pick b (getD work (blockEntry work n m) 0) most - getD work m 0) (lt-ltb (blockEntry work n m) n (omega arith)) ∙
-      ap (λ (i : ℕ). getD work i 0 - getD work m 0) (sym e))
-
-  pub depth-top : n ≤ f → most - getD work m 0 ≡ depthIn n work most m
-  unfolding depthIn
-  depth-top h =
-      sym (ap (λ (b : Bool). pick b (getD work (blockEntry work n m) 0) most - getD work m 0) (le-ltb (blockEntry work n m) n (omega arith)))
-
-pub depth-kept : (n most m : ℕ) (work l : List ℕ) → UntouchedOutside (3 * n) (2 * n) work l → m < n → depthIn n l most m ≡ depthIn n work most m
-depth-kept n most m work l k h =
-    let f = blockEntry work n m in
-    let e = kept-row (3 * n) (2 * n) n m k (omega arith) in
-    let own : getD l m 0 ≡ getD work m 0 = k .outside m (inl (omega arith)) in
-    by-cases (decLt f n)
-    (λ b.
-    let high : getD l f 0 ≡ getD work f 0 = k .outside f (inl (omega arith)) in
-    let a = depth-below n l most m f (sym e) b in
-    let c = depth-below n work most m f refl b in
-    omega arith)
-    (λ b.
-    let a = depth-top n l most m f (sym e) (omega arith) in
-    let c = depth-top n work most m f refl (omega arith) in
-    omega arith)
 
 module _ (p : Picture) (ok : Accepted p) (work : List ℕ) (t : TreeIn p work) where
   abbrev n : ℕ
@@ -71,27 +39,6 @@ module _ (p : Picture) (ok : Accepted p) (work : List ℕ) (t : TreeIn p work) w
       let b = map-found p ok x h in
       let c = nodes-few p in
       omega arith
-
-  -- the depth of a node
-  pub depth-is : (most m : ℕ) → m < length (nodes p) → most ≡ highest (p .pixels) → depthIn n work most m ≡ depthOf p (nodeAt p m)
-  depth-is most m b q =
-      let f = t .fathers m b in
-      let own = height-at p work t m b in
-      ⊎-elim
-      (λ h.
-      let small = number-small p ok (fatherOf p (nodeAt p m)) h in
-      let few = nodes-few p in
-      let d = depth-father p (nodeAt p m) (λ z. absurd (omega arith)) in
-      let high = height-at p work t (fatherOf p (nodeAt p m)) h in
-      let a = depth-below n work most m (fatherOf p (nodeAt p m)) (sym f) (omega arith) in
-      omega arith)
-      (λ h.
-      let z = h .0 in
-      let most-places = places-bound p ok in
-      let d = depth-root p (nodeAt p m) z in
-      let a = depth-top n work most m (fatherOf p (nodeAt p m)) (sym f) (omega arith) in
-      omega arith)
-      (father-found p (nodeAt p m) (node-is p m b))
 
   module _ (count r : ℕ) (after : List ℕ) (c : count ≡ length (nodes p)) (l : Leaves n count work r after) where
     -- a node has no mark exactly if it is a leaf
