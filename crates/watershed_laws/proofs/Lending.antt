@@ -9,9 +9,10 @@ use borrow.Rule.Slice.PartMut.{midOf, putMid, same-len-mid}
 use Rattle.lists.proofs.Cuts.{take-rest}
 use Rattle.picture.specs.Pictures.{Picture, places, withPixels}
 use Rattle.topology.proofs.Accepted.{Accepted, places-bound}
+use Rattle.watershed_laws.proofs.WinnerTree.{winner-fallen}
 use Rattle.watershed_laws.proofs.WinnerSteps.{WinnerReady, Assigned, Building, MakingCandidates}
 use Rattle.watershed_laws.proofs.Stopping.{Lowest, Stopped, Around}
-use Rattle.watershed_laws.proofs.Running.{Running, NoPlace, WinnerTaken, LoweredPlace, WinnerIs, TurnDone, lowered-falls, lowered-made}
+use Rattle.watershed_laws.proofs.Running.{Running, NoPlace, WinnerTaken, LoweredPlace, WinnerIs, TurnDone, lowered-made}
 use Rattle.watershed_laws.proofs.Turns.{Holds, running-start, winner-taken, turn-done}
 
 -- the cells from e on come back
@@ -72,42 +73,44 @@ module _ (f : Picture) (g l : List ℕ) where
         r (q ∙ sym (getD-drop e l₁ 1 0))
 
   -- a fall: the map's entry is stored, and neighbours become candidates
-  module _ (x : ℕ) (p : WinnerTaken f g (take e l) (drop e l) x) (size : length l ≡ 5 * places f) (ys : List ℕ) (m low s : ℕ)
-      (around : Around f x ys m) (lowest : Lowest (places f) g x ys m low)
-      (stopped : Stopped (places f) g (take e l) low (getD g x 0) ys m s) (falls : s < getD g x 0) where
-    abbrev stored : List ℕ
-    stored = set l (2 * places f + x) (getD l (2 * places f + low) 0)
+  module _ (x : ℕ) (p : WinnerTaken f g (take e l) (drop e l) x) (size : length l ≡ 5 * places f) where
+    abbrev mapped : ℕ → List ℕ
+    mapped v = set l (2 * places f + x) v
 
     in-front : 2 * places f + x < e
     in-front = let h = p .within in omega arith
 
-    stored-size : length stored ≡ 5 * places f
-    stored-size = length-set l (2 * places f + x) (getD l (2 * places f + low) 0) ∙ size
+    mapped-lent : (v : ℕ) → midOf e (length (mapped v) - e) (mapped v) ≡ drop e l
+    mapped-lent v = take-rest e (mapped v) ∙ drop-set-lt e l (2 * places f + x) v in-front
 
-    stored-lent : midOf e (length stored - e) stored ≡ drop e l
-    stored-lent = take-rest e stored ∙ drop-set-lt e l (2 * places f + x) (getD l (2 * places f + low) 0) in-front
-
-    stored-take : take e stored ≡ set (take e l) (2 * places f + x) (getD (take e l) (2 * places f + low) 0)
-    stored-take =
-        let h = lowest .within in
-        take-set-lt e l (2 * places f + x) (getD l (2 * places f + low) 0) in-front ∙
-        ap (λ (v : ℕ). set (take e l) (2 * places f + x) v) (sym (getD-take e l (2 * places f + low) 0 (omega arith)))
-
-    pub fall-ready : WinnerReady (places f) (set g x s) (midOf e (length stored - e) stored)
-    fall-ready =
-        let r = lowered-falls f g (take e l) (drop e l) x p ys m low s around lowest stopped falls in
+    -- with any values stored at x, since x is no candidate
+    pub fall-ready : (v s : ℕ) → WinnerReady (places f) (set g x s) (midOf e (length (mapped v) - e) (mapped v))
+    fall-ready v s =
+        let run = p .running in
+        let few = places-bound (withPixels f g) (run .accepted) in
         record {
-          winner = rw stored-lent (r .winner);
-          few = places-bound (withPixels f (set g x s)) (r .accepted);
-          pixels = r .accepted .size;
-          cells = ap length stored-lent ∙ r .leaves;
+          winner = rw (mapped-lent v) (winner-fallen (places f) g (drop e l) (run .winner) x s (p .within) (omega arith) (p .unset));
+          few = few;
+          pixels = length-set g x s ∙ run .accepted .size;
+          cells = ap length (mapped-lent v) ∙ run .leaves;
         }
 
-    pub fall-back :
-        (t : List ℕ) → MakingCandidates (places f) (set g x s) (midOf e (length stored - e) stored) s (getD g x 0) ys t m →
-        LoweredPlace f g (drop e l) (set g x s) (take e (putMid e (length stored - e) stored t)) (drop e (putMid e (length stored - e) stored t))
-    fall-back t w =
-        let i : e ≤ length stored = omega (arith, stored-size) in
-        rw (back-take stored e t i, back-drop stored e t i, stored-take)
-        (lowered-made f g (take e l) (drop e l) x p ys m low s around lowest stopped falls t
-        (subst (λ (u : List ℕ). MakingCandidates (places f) (set g x s) u s (getD g x 0) ys t m) stored-lent w))
+    module _ (ys : List ℕ) (m low s : ℕ) (around : Around f x ys m) (lowest : Lowest (places f) g x ys m low)
+        (stopped : Stopped (places f) g (take e l) low (getD g x 0) ys m s) (falls : s < getD g x 0) where
+      abbrev stored : List ℕ
+      stored = mapped (getD l (2 * places f + low) 0)
+
+      stored-take : take e stored ≡ set (take e l) (2 * places f + x) (getD (take e l) (2 * places f + low) 0)
+      stored-take =
+          let h = lowest .within in
+          take-set-lt e l (2 * places f + x) (getD l (2 * places f + low) 0) in-front ∙
+          ap (λ (v : ℕ). set (take e l) (2 * places f + x) v) (sym (getD-take e l (2 * places f + low) 0 (omega arith)))
+
+      pub fall-back :
+          (t : List ℕ) → MakingCandidates (places f) (set g x s) (midOf e (length stored - e) stored) s (getD g x 0) ys t m →
+          LoweredPlace f g (drop e l) (set g x s) (take e (putMid e (length stored - e) stored t)) (drop e (putMid e (length stored - e) stored t))
+      fall-back t w =
+          let i : e ≤ length stored = simp length-set (omega arith) in
+          rw (back-take stored e t i, back-drop stored e t i, stored-take)
+          (lowered-made f g (take e l) (drop e l) x p ys m low s around lowest stopped falls t
+          (subst (λ (u : List ℕ). MakingCandidates (places f) (set g x s) u s (getD g x 0) ys t m) (mapped-lent _) w))

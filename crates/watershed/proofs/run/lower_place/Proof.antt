@@ -147,11 +147,9 @@ part-make-candidates-end c = search needs
 
 make-candidates-requires : tie.Need-make-candidates-requires
 make-candidates-requires c κs =
-    let q = c .before .before .before .before .before in
-    let s = start (listed q) in (
-      fall-ready _ _ _ _ (s .pre .0) (s .pre .1) _ _ _ _ (around-at (listed q)) (lowest-at q) (stopped-at q) (rw (value-at q) at (c .before .before .before .before .if1 .left)),
-      around-places (framed s) _ _ _ (around-at (listed q)),
-    )
+    let v = listed (c .before .before .before .before .before) in
+    let s = start v in
+    (fall-ready _ _ _ _ (s .pre .0) (s .pre .1) _ _, around-places (framed s) _ _ _ (around-at v))
 
 same-length-3 : tie.Need-same-length-3
 same-length-3 c = search needs
