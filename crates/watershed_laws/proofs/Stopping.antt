@@ -37,7 +37,7 @@ pub data Lower (g : List ℕ) (low y : ℕ) : ℕ → Type 0 where
   stays : getD g low 0 ≤ getD g y 0 → Lower g low y low
   moves : getD g y 0 < getD g low 0 → Lower g low y y
 
--- low is x or the first one below x of least value among the first i places of ys
+-- low is x or one of the first i places of ys, of which none has a lesser value
 pub record Lowest (n : ℕ) (g : List ℕ) (x : ℕ) (ys : List ℕ) (i low : ℕ) : Type 0 where
   pub within : low < n
   pub least : (j : ℕ) → j < i → getD g low 0 ≤ getD g (getD ys j 0) 0

@@ -95,9 +95,11 @@ loop-less c = search needs
 loop-again : tie.Need-loop-again Inv-loop μ-loop
 loop-again c =
     let top = c .before .before .before .before .before .before in
+    let s = top .before .before .before .before .before .before .before .before .before in
     let n = top .before .before .before .before .neighbours .ensures .count in (
       search needs,
-      spread-next (pictured (top .before .before .before .before .before .before .before .before .before)) _ _ (top .loop .i) _ _ _ _ _ _ _ (omega arith) (near-is (c .before .before .before .before)) (top .loop .inv .1) (c .before .before .visit .ensures),
+      spread-next (pictured s) _ _ (top .loop .i) _ _ _ _ _ _ _ (omega arith) (near-is (c .before .before .before .before)) (top .loop .inv .1)
+          (c .before .before .visit .ensures),
     )
 
 same-length : tie.Need-same-length Inv-loop μ-loop

@@ -20,10 +20,10 @@ number-requires c κs =
 
 map-patches-requires : tie.Need-map-patches-requires
 map-patches-requires c κs =
-    let s = c .before .before .before .before .before .before .before .before .before .before .before .before in
-    let l = c .before .before .before .before .before .before .number .ensures in (
-      numbered-sizes (pictured s) _ _ (s .pre .0) _ _ l _ (s .pre .1),
-      numbered-mapped (pictured s) _ _ (s .pre .0) _ _ l,
+    let l = c .before .before .before .before .before .before in
+    let s = l .before .before .before .before .before .before in (
+      numbered-sizes (pictured s) _ _ (s .pre .0) _ _ (l .number .ensures) _ (s .pre .1),
+      numbered-mapped (pictured s) _ _ (s .pre .0) _ _ (l .number .ensures),
       let z = s .pre .1 .beside in search needs,
     )
 
@@ -35,20 +35,22 @@ cell-of-requires c κs = search needs
 
 put-patches-requires : tie.Need-put-patches-requires
 put-patches-requires c κs =
-    let s = c .before .before .before .before .before .before .before .before .before .before .before .before .before .before .before .before .before .before .before in
-    let l = c .before .before .before .before .before .before .before .before .before .before .before .before .before .number .ensures in (
-      numbered-sizes (pictured s) _ _ (s .pre .0) _ _ l _ (s .pre .1),
+    let l = c .before .before .before .before .before .before .before .before .before .before .before .before .before in
+    let s = l .before .before .before .before .before .before in (
+      numbered-sizes (pictured s) _ _ (s .pre .0) _ _ (l .number .ensures) _ (s .pre .1),
       let z = s .pre .1 .beside in search needs,
-      numbered-mapped (pictured s) _ _ (s .pre .0) _ _ l,
+      numbered-mapped (pictured s) _ _ (s .pre .0) _ _ (l .number .ensures),
     )
 
 put-sums-requires : tie.Need-put-sums-requires
 put-sums-requires c κs =
-    let s = c .before .before .before .before .before .before .before .before .before .before .before .before .before .before .before .before .before .before .before .before .before .before .before .before in
-    let l = c .before .before .before .before .before .before .before .before .before .before .before .before .before .before .before .before .before .before .number .ensures in (
-      patched-frame (pictured s) _ _ (s .pre .0) _ _ l _ (let z = s .pre .1 .beside in search needs) (c .before .before .before .before .before .before .before .before .before .before .before .map-patches .ensures),
+    let q = c .before .before .before .before in
+    let m = q .before .before .before .before .before .before .before in
+    let l = m .before .before .before .before .before .before .before in
+    let s = l .before .before .before .before .before .before in (
+      patched-frame (pictured s) _ _ (s .pre .0) _ _ (l .number .ensures) _ (let z = s .pre .1 .beside in search needs) (m .map-patches .ensures),
       refl,
-      c .before .before .before .before .put-patches .ensures .kept .size ∙ numbered-sizes (pictured s) _ _ (s .pre .0) _ _ l _ (s .pre .1) .blocks,
+      q .put-patches .ensures .kept .size ∙ numbered-sizes (pictured s) _ _ (s .pre .0) _ _ (l .number .ensures) _ (s .pre .1) .blocks,
     )
 
 same-length : tie.Need-same-length
@@ -59,11 +61,13 @@ same-length-2 c = search needs
 
 returns : tie.Need-returns
 returns c =
-    let s = c .before .before .before .before .before .before .before .before .before .before .before .before .before .before .before .before .before .before .before .before .before .before .before .before .before .before .before in
-    let l = c .before .before .before .before .before .before .before .before .before .before .before .before .before .before .before .before .before .before .before .before .before .number .ensures in
-    figures-all (pictured s) _ _ (s .pre .0) _ _ l _ (let z = s .pre .1 .beside in search needs) (c .before .before .before .before .before .before .before .before .before .before .before .before .before .before .map-patches .ensures) _ _ _ _
-    (c .before .before .before .before .before .before .before .before .before .before .cell-of .ensures ∙ c .before .before .before .before .before .before .before .before .before .before .before .largest .ensures)
-    (c .before .before .before .before .before .before .before .put-patches .ensures)
+    let q = c .before .before .before .before .before .before .before in
+    let m = q .before .before .before .before .before .before .before in
+    let l = m .before .before .before .before .before .before .before in
+    let s = l .before .before .before .before .before .before in
+    figures-all (pictured s) _ _ (s .pre .0) _ _ (l .number .ensures) _ (let z = s .pre .1 .beside in search needs) (m .map-patches .ensures) _ _ _ _
+    (q .before .before .before .cell-of .ensures ∙ q .before .before .before .before .largest .ensures)
+    (q .put-patches .ensures)
     (c .before .before .put-sums .ensures)
 
 pub figures-spec : {M : Type 1} → statement M
