@@ -1,7 +1,7 @@
 // Prints for each edge case a line with its name, then what `holds` prints for its file.
 use files::put_file;
-use hold_lines::put_word;
 use hold_list::put_text;
+use text::put_word;
 
 mod files;
 

@@ -38,4 +38,4 @@ module _ (n : ℕ) (tree : List ℕ) (c : Climbs n tree) (y z : ℕ) (hy : y < n
       (λ i l. c .rises i l .1)
       (c .mapped y hy) (c .mapped z hz) m
       in
-      (omega arith, record { first = hy; second = hz; node = r; meet = k; height = refl })
+      (omega arith, record { first = hy; second = hz; at = record { node = r; meet = k; height = refl } })

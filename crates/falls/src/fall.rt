@@ -1,5 +1,5 @@
 // How far a pixel falls: a neighbour of least value, and the height at which the fall stops.
-use crate::climb::meeting;
+use crate::meetings::meeting_height;
 use cells::value;
 use cells::wide;
 ghost use mathlib.Core.Path.{_≡_};
@@ -49,7 +49,7 @@ fn raise(
     if k <= own {
         return stop;
     }
-    let height = meeting(tree, n, y, low);
+    let height = meeting_height(tree, n, y, low);
     if height <= own {
         return stop;
     }

@@ -1,3 +1,3 @@
-// How far a pixel falls: the climb in the tree, and the height at which the fall stops.
-pub mod climb;
+// How far a pixel falls: where climbs in the tree meet, and the height at which the fall stops.
 pub mod fall;
+pub mod meetings;

@@ -3,10 +3,10 @@ use mathlib.Core.Path.{_≡_}
 use mathlib.Core.Logic.{_≢_}
 use mathlib.Core.List.{List}
 use Prim.Native.Nat.{ℕ, _+_, _≤_}
-use lib.ListN.{length, getD, set, drop}
-use Rattle.picture.specs.Pictures.{Picture, places}
+use lib.ListN.{length, getD, set}
+use Rattle.picture.specs.Pictures.{Picture}
 use Rattle.topology.proofs.Adjacency.{At, Joined}
-use Rattle.labelling_laws.proofs.Flood.{unmarked, Flooding, Flooded}
+use Rattle.labelling_laws.proofs.Flood.{unmarked, Flooding}
 
 -- n labels for n pixels, and a stack of height t with room for every place that has no label
 pub record Room (n : ℕ) (pixels labels stack : List ℕ) (t : ℕ) : Type 0 where
@@ -23,17 +23,16 @@ pub data Visited (pixels : List ℕ) (k y c : ℕ) (l stack : List ℕ) (t : ℕ
       m ≡ set l y c → after ≡ set stack t y → r ≡ t + 1 → getD pixels y 0 ≤ k → getD l y 0 ≡ 0 →
       Visited pixels k y c l stack t m after r
 
--- every mark takes a place in the room, and the cells from n on are as they were
-pub record Moved (n : ℕ) (l stack : List ℕ) (t : ℕ) (m after : List ℕ) (r : ℕ) : Type 0 where
+-- every mark takes a place in the room
+pub record Moved (l stack : List ℕ) (t : ℕ) (m after : List ℕ) (r : ℕ) : Type 0 where
   pub label : length m ≡ length l
   pub cells : length after ≡ length stack
   pub room : r + unmarked m ≤ t + unmarked l
   pub less : unmarked m ≤ unmarked l
-  pub rest : drop n after ≡ drop n stack
 
 -- a flood that had the edges from q to zs to follow has those to us left
 pub record Spread (p : Picture) (k c q : ℕ) (zs us l stack : List ℕ) (t : ℕ) (m after : List ℕ) (r : ℕ) : Type 0 where
-  pub moved : Moved (places p) l stack t m after r
+  pub moved : Moved l stack t m after r
   pub follows : (s : ℕ) (before : List ℕ) → Flooding p k s c before l stack t q zs → Flooding p k s c before m after r q us
 
 -- x begins a flood with the number c: its component has no labels, and c is no label
@@ -41,8 +40,3 @@ pub record Seed (p : Picture) (k x c : ℕ) (l : List ℕ) : Type 0 where
   pub at : At p k x
   pub fresh : (y : ℕ) → Joined p k x y → getD l y 0 ≡ 0
   pub new : (y : ℕ) → getD l y 0 ≢ c
-
--- the component of x is marked with c, and the cells beyond the stack are as they were
-pub record Floods (p : Picture) (k x c : ℕ) (l stack m after : List ℕ) : Type 0 where
-  pub rest : drop (places p) after ≡ drop (places p) stack
-  pub marks : Flooded p k x c l m

@@ -8,7 +8,8 @@ ghost use Prim.Native.Nat.{_*_, _<_};
 ghost use lib.Dec.{leb};
 ghost use lib.ListN.{length};
 ghost use Rattle.picture.specs.Geometry.{Placed, neighboursOf};
-ghost use Rattle.floods.specs.Floods.{Room, Visited, Spread, Seed, Floods};
+ghost use Rattle.floods.specs.Floods.{Room, Visited, Spread, Seed};
+ghost use Rattle.labelling_laws.proofs.Flood.{Flooded};
 ghost use Rattle.picture.specs.Pictures.{pictureOf};
 
 // A pixel lies in the section at height k.
@@ -82,7 +83,7 @@ pub fn flood(
     stack: &mut [u16],
 )
     requires { ⌜ Placed w h x × Room (w * h) (now pixels) (now labels) (now stack) 0 × Seed (pictureOf a w h (now pixels)) k x c (now labels) ⌝ }
-    ensures { λ _. ⌜ Floods (pictureOf a w h (now (pixels .entry))) k x c (now (labels .entry)) (now (stack .entry)) (now (labels .exit)) (now (stack .exit)) ⌝ }
+    ensures { λ _. ⌜ Flooded (pictureOf a w h (now (pixels .entry))) k x c (now (labels .entry)) (now (labels .exit)) ⌝ }
 {
     labels[x] = c;
     stack[0] = x as u16;

@@ -8,7 +8,7 @@ use native.Mathlib.Numerals.{add-one}
 use lib.ListN.{length}
 use Rattle.picture.specs.Patches.{centre}
 use Rattle.text.specs.Decimal.{fields}
-use Rattle.hold_lines.specs.Figures.{lineOf}
+use Rattle.hold_lines.specs.Lines.{lineOf}
 use Rattle.text.proofs.Decimals.{four-digits, five-digits, six-digits, last-length, next-length}
 
 -- the line of a patch
@@ -37,7 +37,7 @@ centre-most c s h = let b : 10 * c < 1000000 = omega arith in lt-of-le-of-lt (di
 -- the numbers of a line, each equal to the figure it stands for
 pub line-is :
     (i s h d c r a b k m e g : ℕ) → a ≡ i + 1 → b ≡ s → k ≡ h → m ≡ d → e ≡ centre c s → g ≡ centre r s →
-    fields (a ∷ b ∷ k ∷ m ∷ e ∷ g ∷ []) ≡ lineOf i s h d c r
+    fields (a ∷ b ∷ k ∷ m ∷ e ∷ g ∷ []) ≡ lineOf (suc i) s h d c r
 line-is i s h d c r a b k m e g pa pb pk pm pe pg =
     ap (λ (z : ℕ). fields (z ∷ b ∷ k ∷ m ∷ e ∷ g ∷ [])) (pa ∙ add-one i) ∙
     (ap (λ (z : ℕ). fields (suc i ∷ z ∷ k ∷ m ∷ e ∷ g ∷ [])) pb ∙

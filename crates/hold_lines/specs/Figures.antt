@@ -1,18 +1,13 @@
 -- Lines of patches from lists of their figures.
-use mathlib.Core.List.{List, [], _∷_}
+use mathlib.Core.List.{List}
 use Prim.Native.Nat.{ℕ, suc, _≤_, _<_}
 use lib.ListN.{length, getD}
-use Rattle.picture.specs.Patches.{centre}
-use Rattle.text.specs.Decimal.{fields}
+use Rattle.hold_lines.specs.Lines.{lineOf}
 
--- the line of the patch i: number, size, height, depth, centres from the sums of columns and rows
-abbrev pub lineOf : ℕ → ℕ → ℕ → ℕ → ℕ → ℕ → List ℕ
-lineOf i s h d c r = fields (suc i ∷ s ∷ h ∷ d ∷ centre c s ∷ centre r s ∷ [])
-
--- the same from lists of sizes, heights, depths, column sums and row sums
+-- the line of the patch i + 1, from lists of sizes, heights, depths, column sums and row sums
 abbrev pub lineAt : List ℕ → List ℕ → List ℕ → List ℕ → List ℕ → ℕ → List ℕ
 lineAt ss hs ds cs rs i =
-    lineOf i (getD ss i 0) (getD hs i 0) (getD ds i 0) (getD cs i 0) (getD rs i 0)
+    lineOf (suc i) (getD ss i 0) (getD hs i 0) (getD ds i 0) (getD cs i 0) (getD rs i 0)
 
 -- lists of figures of count patches, each of one pixel at least
 pub record Lists (count : ℕ) (ss hs ds cs rs : List ℕ) : Type 0 where

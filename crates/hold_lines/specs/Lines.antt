@@ -1,6 +1,7 @@
--- The lines of the hold list that name no patch, and the line of a refusal.
+-- The lines of the hold list, and the line of a refusal.
 use mathlib.Core.List.{List, [], _∷_, _++_}
 use Prim.Native.Nat.{ℕ}
+use Rattle.picture.specs.Patches.{centre}
 use Rattle.text.specs.Decimal.{decimal, fields}
 
 -- the word picture and a space
@@ -23,6 +24,11 @@ refusedWord = 114 ∷ 101 ∷ 102 ∷ 117 ∷ 115 ∷ 101 ∷ 100 ∷ 32 ∷ []
 abbrev pub headLines : ℕ → ℕ → ℕ → ℕ → List ℕ
 headLines w h count line =
     pictureWord ++ (fields (w ∷ h ∷ []) ++ (patchesWord ++ (decimal count ++ (lineWord ++ fields (line ∷ [])))))
+
+-- the line of a patch: number, size, height, depth, centre column and centre row in tenths, from the sums of columns and rows
+abbrev pub lineOf : ℕ → ℕ → ℕ → ℕ → ℕ → ℕ → List ℕ
+lineOf number size height depth columns rows =
+    fields (number ∷ size ∷ height ∷ depth ∷ centre columns size ∷ centre rows size ∷ [])
 
 -- the line of a refusal
 abbrev pub refusedLine : ℕ → List ℕ

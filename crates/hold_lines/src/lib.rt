@@ -1,22 +1,32 @@
 // The lines of the hold list: its head, a line a patch from its figures, the line of a refusal.
-use patches::figures::centre;
 use text::put_bytes;
 use text::put_fields;
 use text::put_number;
+use text::put_word;
 ghost use mathlib.Core.Path.{_≡_};
 ghost use mathlib.Core.List.{_++_, flatMap};
-ghost use Prim.Native.Nat.{_+_, _*_, _<_, _≤_};
+ghost use Prim.Native.Nat.{suc, _+_, _*_, _<_, _≤_};
 ghost use lib.ListN.{length};
 ghost use Rattle.lists.specs.Lists.{range};
 ghost use Rattle.lists.specs.Writing.{Written};
-ghost use Rattle.hold_lines.specs.Figures.{lineOf, lineAt, Lists};
-ghost use Rattle.hold_lines.specs.Lines.{patchesWord, headLines, refusedLine};
+ghost use Rattle.picture.specs.Patches.{centre};
+ghost use Rattle.hold_lines.specs.Figures.{lineAt, Lists};
+ghost use Rattle.hold_lines.specs.Lines.{patchesWord, headLines, refusedLine, lineOf};
 ghost use Rattle.text.specs.Decimal.{decimal, fields};
 
+// A cell as a number of 32 bits.
 fn wide(n: u16) -> u32
     ensures { λ r. ⌜ r ≡ n ⌝ }
 {
     n as u32
+}
+
+// A centre in tenths, from a sum of columns or rows and the size.
+fn centre(sum: u32, size: u32) -> u32
+    requires { ⌜ (1 ≤ size) × (sum ≤ 65535) ⌝ }
+    ensures { λ r. ⌜ r ≡ centre sum size ⌝ }
+{
+    10 * sum / size
 }
 
 // Writes the line of a patch and answers the place behind it; a line has at most 37 bytes.
@@ -31,7 +41,7 @@ fn put_line(
     rows: u16,
 ) -> usize
     requires { ⌜ (i < 1600) × (1 ≤ size) × (at + 37 ≤ length (now out)) ⌝ }
-    ensures { λ r. ⌜ Written at (lineOf i size height depth columns rows) (now (out .entry)) r (now (out .exit)) × (r ≤ at + 37) ⌝ }
+    ensures { λ r. ⌜ Written at (lineOf (suc i) size height depth columns rows) (now (out .entry)) r (now (out .exit)) × (r ≤ at + 37) ⌝ }
 {
     let pixels = wide(size);
     let column = centre(wide(columns), pixels);
@@ -70,15 +80,6 @@ pub fn put_lines(
         i += 1;
     }
     to
-}
-
-// Writes a word, then numbers as a line, and answers the place behind them.
-pub fn put_word(out: &mut [u8], at: usize, word: &[u8], ns: &[u32]) -> usize
-    requires { ⌜ (1 ≤ length (now ns)) × (at + length (now word) + length (fields (now ns)) ≤ length (now out)) ⌝ }
-    ensures { λ q. ⌜ Written at (now (word .entry) ++ fields (now (ns .entry))) (now (out .entry)) q (now (out .exit)) ⌝ }
-{
-    let next = put_bytes(out, at, word);
-    put_fields(out, next, ns)
 }
 
 // Writes the number of patches with its word and answers the place behind it.

@@ -4,6 +4,7 @@ use mathlib.Core.Logic.{by-cases}
 use mathlib.Core.List.{List, [], _∷_, _++_, flatMap}
 use Prim.Native.Nat.{ℕ, zero, suc, _+_, _-_, _*_, _≤_, _<_}
 use native.Mathlib.Decide.{ℕ-discrete}
+use native.Mathlib.Numerals.{add-one}
 use native.Mathlib.Omega.{arith}
 use lib.Dec.{eqb}
 use lib.ListN.{length, getD, take, drop, length-drop}
@@ -15,7 +16,7 @@ use Rattle.lists.proofs.Positions.{tally-bound}
 use Rattle.lists.proofs.Cuts.{take-rest}
 use Rattle.topology.proofs.Accepted.{Accepted, places-bound}
 use Rattle.topology.proofs.PatchFigures.{bottom-number}
-use Rattle.topology.proofs.PatchSums.{sumAt, sum-in, sum-out, patch-begins, count-few, patch-size}
+use Rattle.topology.proofs.PatchSums.{sumAt, sum-in, sum-out, patch-begins, count-few, patch-number, patch-size}
 use Rattle.lists.specs.Blocks.{blockEntry}
 use Rattle.patches.specs.Figures.{noPatch, Figures}
 use Rattle.hold_lines.specs.Figures.{lineAt, Lists}
@@ -79,8 +80,8 @@ module _ (p : Picture) (r n : ℕ) (work cells : List ℕ) (ok : Accepted p) (si
       let c = f .count in
       let b : i < length (patches p) = omega arith in
       let (z, w, t, e) = patch-begins p ok i b in
-      let s = patch-size p ok i noPatch b cells (f .map) in
-      let q = f .map z w ∙ (bottom-number p ok z w t ∙ ap suc e) in
+      let s = patch-size p ok i noPatch b cells (f .map .patch) in
+      let q = f .map .patch z w ∙ (bottom-number p ok z w t ∙ ap suc e) in
       let l = sum-least (λ x. 1) cells (suc i) z (places p) w q in
       omega arith
 
@@ -124,7 +125,7 @@ module _ (p : Picture) (r n : ℕ) (work cells : List ℕ) (ok : Accepted p) (si
       let c = at (places p) n i size _ (f .columns i h) in
       let t = at (2 * places p) (2 * n) i two _ (f .rows i h) in
       sym
-      (line-is i _ _ _ _ _ _ _ _ _ _ _ (sym (f .number i h)) (sym s) (sym u) (sym d) (sym (ap₂ centre c s)) (sym (ap₂ centre t s)))
+      (line-is i _ _ _ _ _ _ _ _ _ _ _ (patch-number p ok i noPatch (omega (arith, f .count, h)) ∙ sym (add-one i)) (sym s) (sym u) (sym d) (sym (ap₂ centre c s)) (sym (ap₂ centre t s)))
 
   -- the lines of the lists are those of the patches
   pub lines-are :

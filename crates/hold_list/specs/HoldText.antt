@@ -4,18 +4,15 @@ use mathlib.Core.List.{List, [], _∷_, _++_}
 use Prim.Native.Nat.{ℕ}
 use lib.Dec.{eqb, ltb}
 use lib.ListN.{length, drop}
-use Rattle.picture.specs.Pictures.{Picture}
+use Rattle.picture.specs.Pictures.{Picture, pictureOf}
 use Rattle.picture.specs.Watersheds.{watershed}
-use Rattle.picture.specs.Patches.{Patch, patches, lineCount, centre}
+use Rattle.picture.specs.Patches.{Patch, patches, lineCount}
 use Rattle.p5.specs.Files.{readFile, outcomeNumber, headerOf}
-use Rattle.text.specs.Decimal.{fields}
-use Rattle.hold_lines.specs.Lines.{headLines, refusedLine}
+use Rattle.hold_lines.specs.Lines.{headLines, refusedLine, lineOf}
 
--- the line of a patch: number, size, height, depth, centre column and centre row in tenths
+-- the line of a patch
 abbrev pub patchLine : Patch → List ℕ
-patchLine q =
-    fields
-    (q .number ∷ q .size ∷ q .height ∷ q .depth ∷ centre (q .columns) (q .size) ∷ centre (q .rows) (q .size) ∷ [])
+patchLine q = lineOf (q .number) (q .size) (q .height) (q .depth) (q .columns) (q .rows)
 
 -- the lines of patches
 abbrev pub patchLines : List Patch → List ℕ
@@ -34,7 +31,7 @@ holdList p = patchList (watershed p)
 abbrev pub pictureIn : List ℕ → Picture
 pictureIn f =
     let h = headerOf (readFile f) in
-    record { adjacency = 4; width = h .width; height = h .height; pixels = drop (h .offset) f }
+    pictureOf 4 (h .width) (h .height) (drop (h .offset) f)
 
 -- the text for a file: 12 for more than 4096 bytes, else the refusal of reading, else the hold list
 unfoldable pub holdText : List ℕ → List ℕ

@@ -1,3 +1,3 @@
 -- Laws of the scan and of the lowerable test.
-pub mod Lowering
+pub mod LowerableTest
 pub mod Scans

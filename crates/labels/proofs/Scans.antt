@@ -1,5 +1,5 @@
 -- The laws of the scan.
-use mathlib.Core.Path.{_≡_, refl, sym, ap, subst, _∙_}
+use mathlib.Core.Path.{_≡_, sym, ap, subst, _∙_}
 use mathlib.Core.Bool.{true, false}
 use mathlib.Core.Logic.{_≢_}
 use mathlib.Core.List.{List}
@@ -15,8 +15,9 @@ use Rattle.lists.proofs.Cuts.{over-all}
 use Rattle.topology.proofs.Parts.{isFirst, first-is}
 use Rattle.topology.proofs.Accepted.{accepted-is, places-bound}
 use Rattle.labelling_laws.proofs.Labelled.{Labelled, labelled-start, count-most, outside-first, labelled-first, unlabelled-first, labelled-pass, labelled-fresh, labelled-new, labelled-flood, labelled-end}
-use Rattle.labels.specs.Labels.{LabelReady, LabelsBefore, LabelsHold}
-use Rattle.floods.specs.Floods.{Room, Seed, Floods}
+use Rattle.labels.specs.Labels.{LabelReady, LabelsHold}
+use Rattle.labelling_laws.proofs.Flood.{Flooded}
+use Rattle.floods.specs.Floods.{Room, Seed}
 
 -- the places of an accepted picture
 pub picture-few : (p : Picture) → isPicture p ≡ true → places p ≤ 1600
@@ -29,11 +30,11 @@ module _ (p : Picture) (l stack : List ℕ) (a : LabelReady p l stack) where
       record { few = picture-few p (a .accepted); pixel = accepted-is p (a .accepted) .size; label = a .label; cells = a .cells; room = omega arith }
 
   module _ (k x c : ℕ) (h : x < places p) (s : Labelled p k x c l) where
-    pub scan-outside : inSection p k x ≡ false → LabelsBefore p k (x + 1) c l stack stack
-    scan-outside e = record { labelled = labelled-pass p k x c l h s (outside-first p k x c l h s e); rest = refl }
+    pub scan-outside : inSection p k x ≡ false → Labelled p k (x + 1) c l
+    scan-outside e = labelled-pass p k x c l h s (outside-first p k x c l h s e)
 
-    pub scan-labelled : getD l x 0 ≢ 0 → LabelsBefore p k (x + 1) c l stack stack
-    scan-labelled e = record { labelled = labelled-pass p k x c l h s (labelled-first p k x c l h s e); rest = refl }
+    pub scan-labelled : getD l x 0 ≢ 0 → Labelled p k (x + 1) c l
+    scan-labelled e = labelled-pass p k x c l h s (labelled-first p k x c l h s e)
 
     -- the number of components so far, and one more
     pub scan-count : c + 1 ≤ 1600
@@ -51,42 +52,25 @@ module _ (p : Picture) (l stack : List ℕ) (a : LabelReady p l stack) where
             new = labelled-new p k x c l h s begins;
           }
 
-      pub scan-flood :
-          (m after : List ℕ) → length m ≡ length l → Floods p k x (c + 1) l stack m after →
-          LabelsBefore p k (x + 1) (c + 1) m stack after
-      scan-flood m after size f =
-          record {
-            labelled = labelled-flood p k x c l h s begins m (size ∙ a .label) (f .marks);
-            rest = f .rest;
-          }
+      pub scan-flood : (m : List ℕ) → length m ≡ length l → Flooded p k x (c + 1) l m → Labelled p k (x + 1) (c + 1) m
+      scan-flood m size = labelled-flood p k x c l h s begins m (size ∙ a .label)
 
 -- n places, all labels cleared
 pub scan-start :
-    (p : Picture) (k n : ℕ) (l m stack : List ℕ) → length l ≡ places p → n ≡ places p → m ≡ over (replicate n 0) l →
-    LabelsBefore p k 0 0 m stack stack
-scan-start p k n l m stack e d f =
-    record {
-      labelled =
-          subst (λ o. Labelled p k 0 0 o)
-          (sym (f ∙ (over-all (replicate n 0) l (omega (arith, length-replicate {A = ℕ} n 0)) ∙ ap (λ i. replicate {A = ℕ} i 0) d)))
-          (labelled-start p k);
-      rest = refl;
-    }
+    (p : Picture) (k n : ℕ) (l m : List ℕ) → length l ≡ places p → n ≡ places p → m ≡ over (replicate n 0) l → Labelled p k 0 0 m
+scan-start p k n l m e d f =
+    subst (λ o. Labelled p k 0 0 o)
+    (sym (f ∙ (over-all (replicate n 0) l (omega (arith, length-replicate {A = ℕ} n 0)) ∙ ap (λ i. replicate {A = ℕ} i 0) d)))
+    (labelled-start p k)
 
 -- the labels and the stack at the place x are ready for the next
 pub scan-ready :
-    (p : Picture) (k x c : ℕ) (l stack m after : List ℕ) → LabelReady p l stack → length after ≡ length stack →
-    LabelsBefore p k x c m stack after → LabelReady p m after
+    (p : Picture) (k x c : ℕ) (l stack m after : List ℕ) → LabelReady p l stack → length after ≡ length stack → Labelled p k x c m →
+    LabelReady p m after
 scan-ready p k x c l stack m after a e s =
-    record { accepted = a .accepted; label = s .labelled .size; cells = let q = a .cells in omega arith }
+    record { accepted = a .accepted; label = s .size; cells = let q = a .cells in omega arith }
 
-pub scan-turn :
-    (p : Picture) (k x c r : ℕ) (m o stack after last : List ℕ) → LabelsBefore p k x c m stack after →
-    LabelsBefore p k (x + 1) r o after last → LabelsBefore p k (x + 1) r o stack last
-scan-turn p k x c r m o stack after last s t = record { labelled = t .labelled; rest = t .rest ∙ s .rest }
-
-pub scan-end :
-    (p : Picture) (k x c : ℕ) (m stack after : List ℕ) → x ≡ places p → LabelsBefore p k x c m stack after → LabelsHold p k c m stack after
-scan-end p k x c m stack after e s =
-    let w = labelled-end p k c m (subst (λ y. Labelled p k y c m) e (s .labelled)) in
-    record { labels = w .0; count = w .1; rest = s .rest }
+pub scan-end : (p : Picture) (k x c : ℕ) (m : List ℕ) → x ≡ places p → Labelled p k x c m → LabelsHold p k c m
+scan-end p k x c m e s =
+    let w = labelled-end p k c m (subst (λ y. Labelled p k y c m) e s) in
+    record { labels = w .0; count = w .1 }

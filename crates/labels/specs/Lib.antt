@@ -1,2 +1,2 @@
--- What the labelling and the lowerable test say.
+-- What the labelling says.
 pub mod Labels

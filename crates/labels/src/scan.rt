@@ -3,7 +3,7 @@ use cells::clear;
 use floods::flood;
 use floods::in_section;
 ghost use Prim.Native.Nat.{_+_, _*_, _<_};
-ghost use Rattle.labels.specs.Labels.{LabelReady, LabelsBefore, LabelsHold};
+ghost use Rattle.labels.specs.Labels.{LabelReady, LabelsHold};
 ghost use Rattle.picture.specs.Pictures.{pictureOf};
 ghost use Rattle.labelling_laws.proofs.Labelled.{Labelled};
 
@@ -20,7 +20,7 @@ fn label_place(
     stack: &mut [u16],
 ) -> u16
     requires { ⌜ LabelReady (pictureOf a w h (now pixels)) (now labels) (now stack) × Labelled (pictureOf a w h (now pixels)) k x c (now labels) × (x < w * h) ⌝ }
-    ensures { λ r. ⌜ LabelsBefore (pictureOf a w h (now (pixels .entry))) k (x + 1) r (now (labels .exit)) (now (stack .entry)) (now (stack .exit)) ⌝ }
+    ensures { λ r. ⌜ Labelled (pictureOf a w h (now (pixels .entry))) k (x + 1) r (now (labels .exit)) ⌝ }
 {
     if !in_section(pixels[x], k) {
         return c;
@@ -32,7 +32,7 @@ fn label_place(
     c + 1
 }
 
-// The labels of the section at height k; answers the number of its components. The first n cells of the stack may change.
+// The labels of the section at height k; answers the number of its components.
 pub fn label(
     a: u32,
     w: u32,
@@ -43,7 +43,7 @@ pub fn label(
     stack: &mut [u16],
 ) -> u16
     requires { ⌜ LabelReady (pictureOf a w h (now pixels)) (now labels) (now stack) ⌝ }
-    ensures { λ r. ⌜ LabelsHold (pictureOf a w h (now (pixels .entry))) k r (now (labels .exit)) (now (stack .entry)) (now (stack .exit)) ⌝ }
+    ensures { λ r. ⌜ LabelsHold (pictureOf a w h (now (pixels .entry))) k r (now (labels .exit)) ⌝ }
 {
     let n = pixels.len();
     clear(labels, n);

@@ -2,34 +2,55 @@
 use mathlib.Core.Path.{_≡_, refl, sym, ap, subst, _∙_}
 use mathlib.Core.Bool.{Bool, true, false}
 use mathlib.Core.Logic.{_≢_}
-use mathlib.Core.List.{List, [], _∷_}
+use mathlib.Core.List.{List, []}
 use Prim.Native.Nat.{ℕ, suc, _+_, _-_, _≤_, _<_}
 use native.Mathlib.Numerals.{add-one}
 use native.Mathlib.Omega.{arith}
 use lib.Dec.{eqb}
 use lib.ListN.{length, getD, set, drop, length-set, drop-of-length-le}
-use lib.Seq.{drop-cons}
 use Rattle.picture.specs.Pictures.{Picture, places, valueAt, isPicture}
 use Rattle.picture.specs.Geometry.{neighboursIn, Placed}
 use Rattle.picture.specs.Patches.{patches}
-use Rattle.picture.proofs.Neighbours.{neighbour-at, neighbours-touch}
+use Rattle.picture.proofs.Neighbours.{neighbour-next, neighbours-touch}
 use Rattle.lists.proofs.Lists.{in-mem, tally-length, set-back}
 use Rattle.lists.proofs.Positions.{tally-bound}
 use Rattle.lists.proofs.Blocks.{filled-entry}
 use Rattle.topology.proofs.Connected.{start, conn-target}
-use Rattle.topology.proofs.Adjacency.{Adj}
 use Rattle.labelling_laws.proofs.Zones.{Flat, ZoneFlooding, ZoneFlooded, zone-start, zone-pop, zone-done, zone-lower, zone-higher, zone-level, zone-visit, zone-end}
 use Rattle.labelling_laws.proofs.ZoneScan.{unvisited-set, Scanned, scan-start, scan-seen, scan-fresh, scan-lower, scan-minimum, scan-end}
 use Rattle.topology.proofs.Leaves.{bottom}
 use Rattle.topology.proofs.Accepted.{accepted-is, places-bound, placed}
 use Rattle.minima.specs.declared.Stack.{Stack}
-use Rattle.minima.specs.Minima.{CellEach, ZoneRoom, ZoneMoved, popped, ZoneFloods, Visit, ZoneSpread, Turn, ZoneSeed, Counting}
+use Rattle.minima.specs.Minima.{CellEach, ZoneRoom, ZoneMoved, popped, ZoneFloods, Visit, ZoneSpread, ZoneTurn, ZoneSeed, Counting}
 use Rattle.lists.specs.Blocks.{Filled}
 
-module _ (pixels : List ℕ) (k y : ℕ) (cells : List ℕ) (s : Stack) (room : ZoneRoom pixels cells s) where
-  stays : ZoneMoved cells s cells s
-  stays = record { size = refl; link = room .link; room = omega arith; less = omega arith }
+-- no place is visited
+zone-moved-none : (cells : List ℕ) (s : Stack) (low : Bool) → s .top ≢ 65535 → ZoneMoved cells s cells (record { top = s .top; height = s .height; low = low })
+zone-moved-none cells s low d = record { size = refl; link = d; room = omega arith; less = omega arith }
 
+zone-moved-more : {cells m o : List ℕ} {s u v : Stack} → ZoneMoved cells s m u → ZoneMoved m u o v → ZoneMoved cells s o v
+zone-moved-more a b =
+    record {
+      size = b .size ∙ a .size;
+      link = b .link;
+      room = let x = a .room in let z = b .room in omega arith;
+      less = let x = a .less in let z = b .less in omega arith;
+    }
+
+-- the room for the next visit, if x was on top of the stack before
+pub zone-moved-room :
+    (pixels cells : List ℕ) (s : Stack) (after : List ℕ) (r : Stack) (x : ℕ) → ZoneRoom pixels cells s →
+    ZoneMoved cells (popped cells x s) after r → ZoneRoom pixels after r
+zone-moved-room pixels cells s after r x a b =
+    let c = a .room in
+    let d = b .room in
+    record {
+      sizes = record { few = a .sizes .few; size = b .size ∙ a .sizes .size };
+      link = b .link;
+      room = omega arith;
+    }
+
+module _ (pixels : List ℕ) (k y : ℕ) (cells : List ℕ) (s : Stack) (room : ZoneRoom pixels cells s) where
   -- the value of the place in a picture with these pixels
   value-in : (p : Picture) → p .pixels ≡ pixels → valueAt p y ≡ getD pixels y 0
   value-in p e = ap (λ (l : List ℕ). getD l y 0) e
@@ -37,7 +58,7 @@ module _ (pixels : List ℕ) (k y : ℕ) (cells : List ℕ) (s : Stack) (room : 
   pub visit-lower : getD pixels y 0 < k → Visit pixels k y cells s cells (record { top = s .top; height = s .height; low = true })
   visit-lower h =
       record {
-        moved = record { size = refl; link = room .link; room = omega arith; less = omega arith };
+        moved = zone-moved-none cells s true (room .link);
         follows =
             λ p x q before zs e b r f.
             zone-lower p k x before cells (s .top) (s .height) (s .low) q y zs f r b
@@ -47,7 +68,7 @@ module _ (pixels : List ℕ) (k y : ℕ) (cells : List ℕ) (s : Stack) (room : 
   pub visit-higher : k < getD pixels y 0 → Visit pixels k y cells s cells s
   visit-higher h =
       record {
-        moved = stays;
+        moved = zone-moved-none cells s (s .low) (room .link);
         follows =
             λ p x q before zs e b r f.
             zone-higher p k x before cells (s .top) (s .height) (s .low) q y zs f (let v = value-in p e in omega arith);
@@ -56,7 +77,7 @@ module _ (pixels : List ℕ) (k y : ℕ) (cells : List ℕ) (s : Stack) (room : 
   pub visit-visited : getD pixels y 0 ≡ k → getD cells y 0 ≢ 65535 → Visit pixels k y cells s cells s
   visit-visited h m =
       record {
-        moved = stays;
+        moved = zone-moved-none cells s (s .low) (room .link);
         follows =
             λ p x q before zs e b r f.
             zone-level p k x before cells (s .top) (s .height) (s .low) q y zs f (value-in p e ∙ h) m;
@@ -81,11 +102,7 @@ module _ (pixels : List ℕ) (k y : ℕ) (cells : List ℕ) (s : Stack) (room : 
 
 module _ (p : Picture) (k q : ℕ) where
   pub spread-none : (zs cells : List ℕ) (s : Stack) → s .top ≢ 65535 → ZoneSpread p k q zs zs cells s cells s
-  spread-none zs cells s d =
-      record {
-        moved = record { size = refl; link = d; room = omega arith; less = omega arith };
-        follows = λ x before f. f;
-      }
+  spread-none zs cells s d = record { moved = zone-moved-none cells s (s .low) d; follows = λ x before f. f }
 
   -- the visit to the next of the neighbours of q
   pub spread-next :
@@ -94,48 +111,20 @@ module _ (p : Picture) (k q : ℕ) where
       ZoneSpread p k q (neighboursIn p q) (drop i (neighboursIn p q)) cells s m u → Visit (p .pixels) k y m u o v →
       ZoneSpread p k q (neighboursIn p q) (drop (i + 1) (neighboursIn p q)) cells s o v
   spread-next i y cells s m u o v h e f g =
-      let (b, r) = neighbour-at p q i h in
-      let a = f .moved in
-      let c = g .moved in
-      let split : drop i (neighboursIn p q) ≡ y ∷ drop (i + 1) (neighboursIn p q) =
-      drop-cons (neighboursIn p q) i 0 h ∙
-      (ap (λ (z : ℕ). z ∷ drop (suc i) (neighboursIn p q)) (sym e) ∙
-      ap (λ (j : ℕ). y ∷ drop j (neighboursIn p q)) (sym (add-one i)))
-      in
+      let (b, r, split) = neighbour-next p q i y h e in
       record {
-        moved =
-            record {
-              size = c .size ∙ a .size;
-              link = c .link;
-              room = let x = a .room in let z = c .room in omega arith;
-              less = let x = a .less in let z = c .less in omega arith;
-            };
+        moved = zone-moved-more (f .moved) (g .moved);
         follows =
             λ x before w.
-            g .follows p x q before (drop (i + 1) (neighboursIn p q)) refl
-            (subst (λ (z : ℕ). z < places p) (sym e) b)
-            (subst (λ (z : ℕ). Adj p q z) (sym e) r)
+            g .follows p x q before (drop (i + 1) (neighboursIn p q)) refl b r
             (subst (λ (zs : List ℕ). ZoneFloods p k x before m u q zs) split (f .follows x before w));
-      }
-
-  -- the room for the next visit, if x was on top of the stack before
-  pub spread-room :
-      (pixels zs us cells : List ℕ) (s : Stack) (m : List ℕ) (u : Stack) (x : ℕ) → ZoneRoom pixels cells s →
-      ZoneSpread p k q zs us cells (popped cells x s) m u → ZoneRoom pixels m u
-  spread-room pixels zs us cells s m u x r f =
-      let a = f .moved .room in
-      let b = r .room in
-      record {
-        sizes = record { few = r .sizes .few; size = f .moved .size ∙ r .sizes .size };
-        link = f .moved .link;
-        room = omega arith;
       }
 
   -- all neighbours of the top visited
   pub spread-turn :
       (cells : List ℕ) (s : Stack) (after : List ℕ) (r : Stack) (i : ℕ) → 1 ≤ p .width → q ≡ s .top → 1 ≤ s .height →
       length (neighboursIn p q) ≤ i →
-      ZoneSpread p k q (neighboursIn p q) (drop i (neighboursIn p q)) cells (popped cells q s) after r → Turn p k cells s after r
+      ZoneSpread p k q (neighboursIn p q) (drop i (neighboursIn p q)) cells (popped cells q s) after r → ZoneTurn p k cells s after r
   spread-turn cells s after r i some e h n f =
       record {
         moved = subst (λ (x : ℕ). ZoneMoved cells (popped cells x s) after r) e (f .moved);
@@ -191,18 +180,10 @@ module _ (p : Picture) (x : ℕ) where
     pub running-top : 1 ≤ s .height → (s .top < places p) × (getD cells (s .top) 0 ≢ 65535)
     running-top h = let (c, m) = f .flooding .search .stack (s .top) (0, omega arith, refl) in (conn-target c .within, m)
 
-    pub running-turn : (after : List ℕ) (r : Stack) → 1 ≤ s .height → Turn p k cells s after r → ZoneRunning p k x before after r
+    pub running-turn : (after : List ℕ) (r : Stack) → 1 ≤ s .height → ZoneTurn p k cells s after r → ZoneRunning p k x before after r
     running-turn after r h t =
-        let a = t .moved .room in
-        let b = f .room .room in
-        let n = f .room .sizes .size in
         record {
-          room =
-              record {
-                sizes = record { few = f .room .sizes .few; size = t .moved .size ∙ n };
-                link = t .moved .link;
-                room = omega arith;
-              };
+          room = zone-moved-room (p .pixels) cells s after r (s .top) (f .room) (t .moved);
           flooding = t .follows x before (f .flooding);
         }
 

@@ -50,7 +50,7 @@ pub record ZoneSpread (p : Picture) (k q : ℕ) (zs us cells : List ℕ) (s : St
   pub follows : (x : ℕ) (before : List ℕ) → ZoneFloods p k x before cells s q zs → ZoneFloods p k x before after r q us
 
 -- the top is taken off the stack and all its edges are followed
-pub record Turn (p : Picture) (k : ℕ) (cells : List ℕ) (s : Stack) (after : List ℕ) (r : Stack) : Type 0 where
+pub record ZoneTurn (p : Picture) (k : ℕ) (cells : List ℕ) (s : Stack) (after : List ℕ) (r : Stack) : Type 0 where
   pub moved : ZoneMoved cells (popped cells (s .top) s) after r
   pub follows : (x : ℕ) (before : List ℕ) → ZoneFloods p k x before cells s x [] → ZoneFloods p k x before after r x []
 

@@ -11,7 +11,7 @@ ghost use Rattle.picture.specs.Pictures.{isPicture, pictureOf};
 ghost use Rattle.picture.specs.Geometry.{Placed};
 ghost use Rattle.picture.specs.Patches.{patches};
 ghost use Rattle.labelling_laws.proofs.Zones.{ZoneFlooded};
-ghost use Rattle.minima.specs.Minima.{CellEach, ZoneRoom, Visit, Turn, ZoneSeed, Counting};
+ghost use Rattle.minima.specs.Minima.{CellEach, ZoneRoom, Visit, ZoneTurn, ZoneSeed, Counting};
 
 // The cell of a place that no flood has visited.
 const NEW: u16 = 65535;
@@ -55,7 +55,7 @@ fn visit(pixels: &[u8], k: u8, y: usize, cells: &mut [u16], s: Stack) -> Stack
 // Takes the top off the stack and visits its neighbours.
 fn spread(a: u32, w: u32, h: u32, pixels: &[u8], k: u8, cells: &mut [u16], stack: Stack) -> Stack
     requires { ⌜ Placed w h (stack .top) × ZoneRoom (now pixels) (now cells) stack × (length (now pixels) ≡ w * h) × (1 ≤ stack .height) × (getD (now cells) (stack .top) 0 ≢ 65535) ⌝ }
-    ensures { λ r. ⌜ Turn (pictureOf a w h (now (pixels .entry))) k (now (cells .entry)) stack (now (cells .exit)) r ⌝ }
+    ensures { λ r. ⌜ ZoneTurn (pictureOf a w h (now (pixels .entry))) k (now (cells .entry)) stack (now (cells .exit)) r ⌝ }
 {
     let x = wide(stack.top);
     let mut near = [0u16; 8];

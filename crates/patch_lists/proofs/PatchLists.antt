@@ -5,6 +5,7 @@ use mathlib.Core.Logic.{_≢_, by-cases}
 use mathlib.Core.List.{List, [], _++_, map}
 use Prim.Native.Nat.{ℕ, _+_, _*_, _≤_, _<_}
 use native.Mathlib.Decide.{decLt}
+use native.Mathlib.Numerals.{add-one}
 use native.Mathlib.Omega.{arith}
 use lib.Dec.{eqb, ltb}
 use lib.ListN.{length, getD, take, drop, replicate, length-replicate, length-map, List·getD-append, List·getD-map, List·getD-eq-default}
@@ -21,7 +22,7 @@ use Rattle.lists.proofs.Lists.{length-range, getD-map-range}
 use Rattle.lists.proofs.Sums.{highest-most}
 use Rattle.topology.proofs.Accepted.{Accepted, accepted-is, byte-at}
 use Rattle.topology.proofs.Nodes.{node-is}
-use Rattle.topology.proofs.PatchSums.{patch-begins, count-few, patch-height, patch-depth}
+use Rattle.topology.proofs.PatchSums.{patch-begins, count-few, patch-number, patch-height, patch-depth}
 use Rattle.patches.specs.Figures.{noPatch, Figures}
 use Rattle.patch_records.specs.Records.{Entry, Entries, recordAt, records}
 use Rattle.answers.specs.declared.Answer.{Answer}
@@ -107,7 +108,7 @@ module _ (p : Picture) (h : isPicture p ≡ true) where
     record-is i b j =
         let zero-first : i ≡ 0 + i = omega arith in
         record {
-          number = f .number i b j;
+          number = (add-one i ∙ sym (patch-number p ok i noPatch (omega (arith, f .count, b)))) j;
           size = (inside i (omega (arith, few, b)) ∙ (ap (λ (k : ℕ). getD ys k 0) zero-first ∙ f .size i b)) j;
           height = (inside (4 * places p + i) (omega (arith, few, b)) ∙ f .height i b) j;
           depth = (inside (3 * places p + i) (omega (arith, few, b)) ∙ f .depth i b) j;

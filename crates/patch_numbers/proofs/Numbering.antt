@@ -240,23 +240,7 @@ module _ (v h : ℕ) (a : v < 256) (b : h < 65536) where
       subst (λ (z : ℕ). z < 65536) (sym (number-times k))
       (on-pick (λ (z : ℕ). z < 65536) (eqb v h) (λ e. c) (λ e. omega arith))
 
--- the two cases of a place with the value v and the node m
-module _ (n : ℕ) (pixels work : List ℕ) (x m v : ℕ) (e : m ≡ blockEntry work (2 * n) x) (g : v ≡ getD pixels x 0) where
-  pub patch-other : v ≢ getD work m 0 → 0 ≡ patchIn n pixels work x
-  unfolding patchIn
-  patch-other d =
-      sym
-      (ap (λ (b : Bool). pick b (blockEntry work (4 * n) (blockEntry work (2 * n) x)) 0)
-      (ne-eqb _ _ (λ q. d (g ∙ (q ∙ ap (λ (i : ℕ). getD work i 0) (sym e))))))
-
-  pub patch-node : v ≡ getD work m 0 → patchIn n pixels work x ≡ blockEntry work (4 * n) m
-  unfolding patchIn
-  patch-node q =
-      ap (λ (b : Bool). pick b (blockEntry work (4 * n) (blockEntry work (2 * n) x)) 0)
-      (eq-eqb _ _ (sym g ∙ (q ∙ ap (λ (i : ℕ). getD work i 0) e))) ∙
-      ap (blockEntry work (4 * n)) (sym e)
-
--- the same in one
+-- the patch of a place with the node m
 pub patch-is :
     (n : ℕ) (pixels work : List ℕ) (x m : ℕ) → m ≡ blockEntry work (2 * n) x →
     pick (eqb (getD pixels x 0) (getD work m 0)) (blockEntry work (4 * n) m) 0 ≡ patchIn n pixels work x

@@ -6,8 +6,8 @@ ghost use Prim.Native.Nat.{_+_, _*_, _≤_};
 ghost use lib.ListN.{length};
 ghost use Rattle.patch_sums.specs.Sums.{raised, Raisable, terms, SumsRoom, Added, RunAfter, NumberedRows, Sums};
 
-// Places of one row and one number, with no place of another patch between them (places on the line may lie there): the number, how many there are, and the sum of their columns.
-// A run is summed before it is stored: a store for each place would have to wait for the store before it.
+// Places of one row and one patch, with none of another patch between them: the number, how many there are, the sum of their columns.
+// It is stored as a whole, since each store waits for the one before it.
 pub struct Run {
     pub number: usize,
     pub size: u16,
@@ -61,9 +61,9 @@ fn next_run(n: usize, c: usize, run: Run, column: u16, row: u16, work: &mut [u16
 }
 
 // Adds the places of a row to the sums over the rows before it.
-fn sum_row(w: usize, n: usize, row: usize, map: &[u16], work: &mut [u16])
-    requires { ⌜ NumberedRows w n (now map) × (row * w + w ≤ n) × Sums w n (row * w) (now map) (now work) (now work) ⌝ }
-    ensures { λ _. ⌜ Sums w n (row * w + w) (now (map .entry)) (now (work .entry)) (now (work .exit)) ⌝ }
+fn sum_row(w: usize, n: usize, row: usize, numbers: &[u16], work: &mut [u16])
+    requires { ⌜ NumberedRows w n (now numbers) × (row * w + w ≤ n) × Sums w n (row * w) (now numbers) (now work) (now work) ⌝ }
+    ensures { λ _. ⌜ Sums w n (row * w + w) (now (numbers .entry)) (now (work .entry)) (now (work .exit)) ⌝ }
 {
     let narrow = row as u16;
     let mut run = Run {
@@ -73,7 +73,7 @@ fn sum_row(w: usize, n: usize, row: usize, map: &[u16], work: &mut [u16])
     };
     let mut column = 0;
     while column < w {
-        let c = wide(map[row * w + column]);
+        let c = wide(numbers[row * w + column]);
         run = next_run(n, c, run, column as u16, narrow, work);
         column += 1;
     }
@@ -81,14 +81,14 @@ fn sum_row(w: usize, n: usize, row: usize, map: &[u16], work: &mut [u16])
 }
 
 // Puts the sizes, the sums of columns and the sums of rows into the first three blocks.
-pub fn put_sums(w: usize, h: usize, n: usize, map: &[u16], work: &mut [u16])
-    requires { ⌜ NumberedRows w n (now map) × (n ≡ w * h) × (length (now work) ≡ 5 * n) ⌝ }
-    ensures { λ _. ⌜ Sums w n n (now (map .entry)) (now (work .entry)) (now (work .exit)) ⌝ }
+pub fn put_sums(w: usize, h: usize, n: usize, numbers: &[u16], work: &mut [u16])
+    requires { ⌜ NumberedRows w n (now numbers) × (n ≡ w * h) × (length (now work) ≡ 5 * n) ⌝ }
+    ensures { λ _. ⌜ Sums w n n (now (numbers .entry)) (now (work .entry)) (now (work .exit)) ⌝ }
 {
     fill(work, 0, 3 * n, 0);
     let mut row = 0;
     while row < h {
-        sum_row(w, n, row, map, work);
+        sum_row(w, n, row, numbers, work);
         row += 1;
     }
 }

@@ -42,33 +42,32 @@ pub record DepthsBefore (p : Picture) (n x r : ℕ) (after : List ℕ) : Type 0 
   pub depth : (i : ℕ) → i < r → blockEntry after (3 * n) i ≡ getD (patches p) i noPatch .depth
   pub height : (i : ℕ) → i < r → blockEntry after (4 * n) i ≡ getD (patches p) i noPatch .height
 
+-- the cells hold the patch of each place
+pub record PatchMap (p : Picture) (cells : List ℕ) : Type 0 where
+  pub size : length cells ≡ places p
+  pub patch : (x : ℕ) → x < places p → getD cells x 0 ≡ patchAt p x
+
 -- the work holds the tree of p, and the numbers are those of its patches
-pub record Charted (p : Picture) (n : ℕ) (pixels numbers : List ℕ) (most : ℕ) (work : List ℕ) : Type 0 where
+pub record PatchesNumbered (p : Picture) (n : ℕ) (pixels numbers : List ℕ) (most : ℕ) (work : List ℕ) : Type 0 where
   pub accepted : isPicture p ≡ true
   pub size : n ≡ places p
   pub same : p .pixels ≡ pixels
   pub tree : TreeIn p work
-  pub patch : (x : ℕ) → x < n → getD numbers x 0 ≡ patchAt p x
+  pub map : PatchMap p numbers
   pub largest : most ≡ highest pixels
 
 -- the depths and the heights are those of every picture with that tree and those numbers
 pub record Patched (n : ℕ) (pixels numbers : List ℕ) (most x : ℕ) (work : List ℕ) (r : ℕ) (after : List ℕ) : Type 0 where
   pub kept : UntouchedOutside (3 * n) (2 * n) work after
   pub few : r ≤ x
-  pub begun : (p : Picture) → Charted p n pixels numbers most work → DepthsBefore p n x r after
+  pub begun : (p : Picture) → PatchesNumbered p n pixels numbers most work → DepthsBefore p n x r after
 
 -- r patches; patch i + 1 has its size in the first block at i, its column sum in the second, its row sum in the third, its depth in the fourth, its height in the fifth; the cells hold the patch of each place
 pub record Figures (p : Picture) (r : ℕ) (work cells : List ℕ) : Type 0 where
   pub count : r ≡ length (patches p)
-  pub number : (i : ℕ) → i < r → i + 1 ≡ getD (patches p) i noPatch .number
   pub size : (i : ℕ) → i < r → blockEntry work 0 i ≡ getD (patches p) i noPatch .size
   pub columns : (i : ℕ) → i < r → blockEntry work (places p) i ≡ getD (patches p) i noPatch .columns
   pub rows : (i : ℕ) → i < r → blockEntry work (2 * places p) i ≡ getD (patches p) i noPatch .rows
   pub depth : (i : ℕ) → i < r → blockEntry work (3 * places p) i ≡ getD (patches p) i noPatch .depth
   pub height : (i : ℕ) → i < r → blockEntry work (4 * places p) i ≡ getD (patches p) i noPatch .height
-  pub map : (x : ℕ) → x < places p → getD cells x 0 ≡ patchAt p x
-
--- the cells hold the patch of each place
-pub record PatchMap (p : Picture) (cells : List ℕ) : Type 0 where
-  pub size : length cells ≡ places p
-  pub patch : (x : ℕ) → x < places p → getD cells x 0 ≡ patchAt p x
+  pub map : PatchMap p cells

@@ -5,11 +5,10 @@ use patch_numbers::map_patches;
 use patch_numbers::number;
 use patch_sums::put_sums;
 ghost use mathlib.Core.Path.{_≡_};
-ghost use Prim.Native.Nat.{_+_, _-_, _*_, _/_, _≤_, _<_};
+ghost use Prim.Native.Nat.{_-_, _*_, _≤_, _<_};
 ghost use lib.ListN.{length};
 ghost use lib.Dec.{leb};
 ghost use Rattle.lists.specs.Lists.{pick, highest};
-ghost use Rattle.picture.specs.Patches.{centre};
 ghost use Rattle.picture.specs.Pictures.{pictureOf};
 ghost use Rattle.patch_numbers.specs.Numbers.{FiveBlocks, Mapped};
 ghost use Rattle.patches.specs.Figures.{TreeInWork, depthIn, PatchPut, Patched, Figures};
@@ -63,16 +62,16 @@ fn depth(n: usize, work: &[u16], most: u16, m: usize) -> u16
 fn put_patch(
     n: usize,
     pixels: &[u8],
-    map: &[u16],
+    numbers: &[u16],
     most: u16,
     x: usize,
     work: &mut [u16],
     r: usize,
 ) -> usize
-    requires { ⌜ FiveBlocks n (now work) (now pixels) × (length (now map) ≡ n) × Mapped n (now work) × (x < n) × (r ≤ x) ⌝ }
-    ensures { λ q. ⌜ PatchPut n (now (pixels .entry)) (now (map .entry)) most x (now (work .entry)) r (now (work .exit)) q ⌝ }
+    requires { ⌜ FiveBlocks n (now work) (now pixels) × (length (now numbers) ≡ n) × Mapped n (now work) × (x < n) × (r ≤ x) ⌝ }
+    ensures { λ q. ⌜ PatchPut n (now (pixels .entry)) (now (numbers .entry)) most x (now (work .entry)) r (now (work .exit)) q ⌝ }
 {
-    if wide(map[x]) != r + 1 {
+    if wide(numbers[x]) != r + 1 {
         return r;
     }
     let m = wide(work[2 * n + x]);
@@ -82,14 +81,14 @@ fn put_patch(
 }
 
 // Puts the depths and the heights of the patches into the fourth and the fifth block, and answers how many there are.
-fn put_patches(n: usize, pixels: &[u8], map: &[u16], most: u16, work: &mut [u16]) -> usize
-    requires { ⌜ FiveBlocks n (now work) (now pixels) × (length (now map) ≡ n) × Mapped n (now work) ⌝ }
-    ensures { λ r. ⌜ Patched n (now (pixels .entry)) (now (map .entry)) most n (now (work .entry)) r (now (work .exit)) ⌝ }
+fn put_patches(n: usize, pixels: &[u8], numbers: &[u16], most: u16, work: &mut [u16]) -> usize
+    requires { ⌜ FiveBlocks n (now work) (now pixels) × (length (now numbers) ≡ n) × Mapped n (now work) ⌝ }
+    ensures { λ r. ⌜ Patched n (now (pixels .entry)) (now (numbers .entry)) most n (now (work .entry)) r (now (work .exit)) ⌝ }
 {
     let mut r = 0;
     let mut x = 0;
     while x < n {
-        r = put_patch(n, pixels, map, most, x, work, r);
+        r = put_patch(n, pixels, numbers, most, x, work, r);
         x += 1;
     }
     r
@@ -117,12 +116,4 @@ pub fn figures(
     let r = put_patches(n, pixels, cells, most, work);
     put_sums(width, height, n, cells, work);
     r
-}
-
-// A centre in tenths, from a sum of columns or rows and the size.
-pub fn centre(sum: u32, size: u32) -> u32
-    requires { ⌜ (1 ≤ size) × (sum ≤ 65535) ⌝ }
-    ensures { λ r. ⌜ r ≡ centre sum size ⌝ }
-{
-    10 * sum / size
 }

@@ -27,14 +27,14 @@ pub fn patch_of(
     patch_at(n, pixels, work, x)
 }
 
-// How many places of the map are on the line.
-pub fn count_line(map: &[u16]) -> usize
-    ensures { λ r. ⌜ ((p : Picture) → PatchMap p (now (map .entry)) → r ≡ lineCount p) ⌝ }
+// How many places have the number 0, and so are on the line.
+pub fn count_line(numbers: &[u16]) -> usize
+    ensures { λ r. ⌜ ((p : Picture) → PatchMap p (now (numbers .entry)) → r ≡ lineCount p) ⌝ }
 {
     let mut r = 0;
     let mut x = 0;
-    while x < map.len() {
-        if map[x] == 0 {
+    while x < numbers.len() {
+        if numbers[x] == 0 {
             r += 1;
         }
         x += 1;

@@ -1,18 +1,20 @@
 -- The list of neighbours and the test of adjacency agree.
 use mathlib.Core.Path.{_≡_, refl, sym, ap, ap₂, _∙_}
 use mathlib.Core.Bool.{Bool, true, false, _&&_, _||_, not, true≢false}
-use mathlib.Core.List.{List, map}
+use mathlib.Core.List.{List, _∷_, map}
 use mathlib.Core.Logic.{_↔_}
 use Prim.Native.Nat.{ℕ, _+_, _-_, _*_, _/_, _%_, _≤_, _<_}
 use native.Mathlib.Nat.{div-add-mod', mod-lt, div-lt-iff-lt-mul, mul-comm}
+use native.Mathlib.Numerals.{add-one}
 use native.Mathlib.Omega.{arith}
 use lib.Arith.{digits-lt, digits-div, digits-mod}
 use lib.Dec.{eqb, leb}
-use lib.ListN.{length, getD, length-map}
+use lib.ListN.{length, getD, drop, length-map}
+use lib.Seq.{drop-cons}
 use borrow.Author.Tests.{leb-true, leb-false, eqb-true, not-true, le-leb, eq-eqb}
 use Rattle.lists.specs.Lists.{pick, any, all, select, range, isIn}
 use Rattle.picture.specs.Pictures.{Picture, places, distance, adjacent, touch}
-use Rattle.picture.specs.Geometry.{Listed, steps, Offset, offset, everySecond, within, stays, placeBy, neighboursOf, neighboursIn}
+use Rattle.picture.specs.Geometry.{Placed, Listed, steps, Offset, offset, everySecond, within, stays, placeBy, neighboursOf, neighboursIn}
 use Rattle.lists.proofs.Tests.{and-left, and-right, and-both, on-pick, implied}
 use Rattle.lists.proofs.Cuts.{over-front}
 use Rattle.lists.proofs.Members.{any-all, any-mono, any-map-select, select-most, all-below, isIn-at, isIn-index, distinct, pairwise, distinct-images}
@@ -251,3 +253,13 @@ neighbours-distinct a w h x =
     apart : (four : Bool) → pairwise differ (offsetsOf four) ≡ true
     apart true = refl
     apart false = refl
+
+-- the neighbour y at index i, and those behind it
+pub neighbour-next :
+    (p : Picture) (x i y : ℕ) → i < length (neighboursIn p x) → y ≡ getD (neighboursIn p x) i 0 →
+    (y < places p) × (touch p x y ≡ true) × (drop i (neighboursIn p x) ≡ y ∷ drop (i + 1) (neighboursIn p x))
+neighbour-next p x i y h e = let (b, t) = neighbour-at p x i h in rw (e, add-one i) (b, t, drop-cons (neighboursIn p x) i 0 h)
+
+-- another place of the same sides
+pub placed-other : {w h x y : ℕ} → Placed w h x → y < w * h → Placed w h y
+placed-other p b = record { some = p .some; wide = p .wide; high = p .high; inside = b }

@@ -63,6 +63,15 @@ pub fn put_fields(out: &mut [u8], at: usize, ns: &[u32]) -> usize
     put_field(out, to, ns[i], 10)
 }
 
+// Writes a word, then numbers as a line, and answers the place behind them.
+pub fn put_word(out: &mut [u8], at: usize, word: &[u8], ns: &[u32]) -> usize
+    requires { ⌜ (1 ≤ length (now ns)) × (at + length (now word) + length (fields (now ns)) ≤ length (now out)) ⌝ }
+    ensures { λ q. ⌜ Written at (now (word .entry) ++ fields (now (ns .entry))) (now (out .entry)) q (now (out .exit)) ⌝ }
+{
+    let next = put_bytes(out, at, word);
+    put_fields(out, next, ns)
+}
+
 // Writes a number as l bytes, the lowest first, and answers the place behind them.
 pub fn put_little(out: &mut [u8], at: usize, n: u64, l: usize) -> usize
     requires { ⌜ at + l ≤ length (now out) ⌝ }

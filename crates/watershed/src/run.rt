@@ -6,8 +6,8 @@ use falls::fall::stop_at;
 use geometry::neighbours;
 use winner::NO_CANDIDATE;
 use winner::assign;
-use winner::build;
-use winner::wake_all;
+use winner::build_winners;
+use winner::make_candidates;
 ghost use mathlib.Core.Path.{_≡_};
 ghost use mathlib.Core.Bool.{true};
 ghost use mathlib.Core.List.{[]};
@@ -16,12 +16,12 @@ ghost use lib.ListN.{length, take, drop};
 ghost use Rattle.picture.specs.Pictures.{isPicture, pictureOf};
 ghost use Rattle.picture.specs.Watersheds.{watershed};
 ghost use Rattle.tree.specs.Arrays.{TreeIn};
-ghost use Rattle.watershed_laws.proofs.Running.{TurnOf, Settled, Turning, Turned};
+ghost use Rattle.watershed_laws.proofs.Running.{WinnerTaken, LoweredPlace, WinnerIs, TurnDone};
 
 // Lowers the place x as far as it falls, if it is lowerable, and makes candidates of the neighbours that may now be lowerable.
 fn lower_place(a: u32, w: u32, h: u32, x: usize, out: &mut [u8], work: &mut [u16])
-    requires { ⌜ TurnOf (pictureOf a w h []) (now out) (take (3 * (w * h)) (now work)) (drop (3 * (w * h)) (now work)) x × (length (now work) ≡ 5 * (w * h)) ⌝ }
-    ensures { λ _. ⌜ Settled (pictureOf a w h []) (now (out .entry)) (drop (3 * (w * h)) (now (work .entry))) (now (out .exit)) (take (3 * (w * h)) (now (work .exit))) (drop (3 * (w * h)) (now (work .exit))) ⌝ }
+    requires { ⌜ WinnerTaken (pictureOf a w h []) (now out) (take (3 * (w * h)) (now work)) (drop (3 * (w * h)) (now work)) x × (length (now work) ≡ 5 * (w * h)) ⌝ }
+    ensures { λ _. ⌜ LoweredPlace (pictureOf a w h []) (now (out .entry)) (drop (3 * (w * h)) (now (work .entry))) (now (out .exit)) (take (3 * (w * h)) (now (work .exit))) (drop (3 * (w * h)) (now (work .exit))) ⌝ }
 {
     let n = w as usize * h as usize;
     let e = 3 * n;
@@ -35,13 +35,13 @@ fn lower_place(a: u32, w: u32, h: u32, x: usize, out: &mut [u8], work: &mut [u16
     }
     out[x] = stop as u8;
     work[2 * n + x] = work[2 * n + low];
-    wake_all(out, &mut work[e..], n, &near, m, stop, k);
+    make_candidates(out, &mut work[e..], n, &near, m, stop, k);
 }
 
 // Takes the winner x away, lowers it as far as it falls, and answers the next winner.
 fn turn(a: u32, w: u32, h: u32, x: usize, out: &mut [u8], work: &mut [u16]) -> usize
-    requires { ⌜ Turning (pictureOf a w h []) (now out) (take (3 * (w * h)) (now work)) (drop (3 * (w * h)) (now work)) x × (length (now work) ≡ 5 * (w * h)) ⌝ }
-    ensures { λ r. ⌜ Turned (pictureOf a w h []) (now (out .entry)) (drop (3 * (w * h)) (now (work .entry))) (now (out .exit)) (take (3 * (w * h)) (now (work .exit))) (drop (3 * (w * h)) (now (work .exit))) r ⌝ }
+    requires { ⌜ WinnerIs (pictureOf a w h []) (now out) (take (3 * (w * h)) (now work)) (drop (3 * (w * h)) (now work)) x × (length (now work) ≡ 5 * (w * h)) ⌝ }
+    ensures { λ r. ⌜ TurnDone (pictureOf a w h []) (now (out .entry)) (drop (3 * (w * h)) (now (work .entry))) (now (out .exit)) (take (3 * (w * h)) (now (work .exit))) (drop (3 * (w * h)) (now (work .exit))) r ⌝ }
 {
     let n = w as usize * h as usize;
     let e = 3 * n;
@@ -57,7 +57,7 @@ pub fn lower_all(a: u32, w: u32, h: u32, out: &mut [u8], work: &mut [u16])
 {
     let n = w as usize * h as usize;
     let e = 3 * n;
-    build(out, &mut work[e..], n);
+    build_winners(out, &mut work[e..], n);
     let mut x = wide(work[e + 1]);
     while x != NO_CANDIDATE as usize {
         x = turn(a, w, h, x, out, work);

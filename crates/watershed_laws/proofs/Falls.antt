@@ -1,9 +1,9 @@
--- Falls and the watershed: a pixel that leads the lowerable ones may fall as far as it drops in one go.
+-- Falls and the watershed: a pixel that leads the lowerable ones may fall as far as it drops in one go, and there are at most 255 falls a pixel.
 use mathlib.Core.Path.{_≡_, refl, sym, ap, subst, _∙_}
 use mathlib.Core.Bool.{true}
 use mathlib.Core.Logic.{_⊎_, inl, inr, ⊎-elim, by-cases}
 use mathlib.Core.List.{List}
-use Prim.Native.Nat.{ℕ, zero, suc, _+_, _-_, _≤_, _<_}
+use Prim.Native.Nat.{ℕ, zero, suc, _+_, _-_, _*_, _≤_, _<_}
 use native.Mathlib.Decide.{ℕ-discrete}
 use native.Mathlib.Omega.{arith}
 use lib.ListN.{length, getD, set, length-set}
@@ -12,15 +12,18 @@ use Rattle.lists.specs.Lists.{total}
 use Rattle.picture.specs.Pictures.{Picture, places, valueAt, withPixels, touch}
 use Rattle.picture.specs.Watersheds.{lowerable, best, waterFrom, watershed}
 use Rattle.lists.proofs.Tests.{on-test, clash}
-use Rattle.lists.proofs.Sums.{total-lowered}
-use Rattle.topology.proofs.Adjacency.{Adj, adj-sym, adj-irreflexive}
+use Rattle.lists.proofs.Sums.{total-less, total-lowered, total-bounded}
+use Rattle.topology.proofs.Adjacency.{Adj, adj-sym}
 use Rattle.topology.proofs.Bridge.{lowerable-above, lowerable-lowers, lowers-lowerable}
 use Rattle.topology.proofs.Water.{Leads, less, ties, Best, nobody, leader, best-is, water-stop, water-step, set-fallen}
-use Rattle.watershed_laws.proofs.Oracle.{Drops, drops-lowers, drops-wakes}
+use Rattle.watershed_laws.proofs.Oracle.{Drops, drops-lowers, drops-lowerable}
 
 -- x is before every lowerable place in the order of lowering, or is it
 unfoldable pub First : Picture → ℕ → Type 0
 First g x = (y : ℕ) → y < places g → lowerable g y ≡ true → Leads g x y
+
+pub adj-dec : (f : Picture) (y z : ℕ) → Adj f y z ⊎ (Adj f y z → ⊥)
+adj-dec f y z = on-test (touch f y z) (λ h. inl h) (λ h. inr (λ g. clash g h))
 
 -- a picture in which nothing is lowerable is its own watershed
 pub watershed-end : (g : Picture) → ((y : ℕ) → y < places g → lowerable g y ≡ true → ⊥) → watershed g ≡ g
@@ -82,11 +85,8 @@ module _ (f : Picture) where
         ⊎-elim
         (λ m. before (first y c (lowers-lowerable (with xs) y c k m)) vx vy b)
         (λ m. let n = m .1 in less (omega arith))
-        (drops-wakes (places f) (Adj f) (adj-sym f) (adj-irreflexive f) (valueAt (with xs)) x low (suc j) shorter decide (valueAt (with (set xs x (suc j)))) fall y k q lo))
+        (drops-lowerable (places f) (Adj f) (adj-sym f) (valueAt (with xs)) x low (suc j) shorter (adj-dec f) (valueAt (with (set xs x (suc j)))) fall y k q lo))
       where
-        decide : (y z : ℕ) → Adj f y z ⊎ (Adj f y z → ⊥)
-        decide y z = on-test (touch f y z) (λ h. inl h) (λ h. inr (λ g. clash g h))
-
         shorter : Drops (places f) (Adj f) (valueAt (with xs)) x low (suc j)
         shorter =
             let r = d .reach in
@@ -111,7 +111,7 @@ module _ (f : Picture) where
         ap (λ (ys : List ℕ). watershed (with ys)) (sym (set-set xs x (suc j) j)) ∙
         (step-water (set xs x (suc j)) x j (length-set xs x (suc j) ∙ e) (d .within) (set-fallen f xs x (suc j) inside .at)
         (lowers-lowerable (with (set xs x (suc j))) x (d .within) j
-        (drops-lowers (places f) (Adj f) (adj-sym f) (adj-irreflexive f) (valueAt (with xs)) x low s d
+        (drops-lowers (places f) (Adj f) (adj-sym f) (valueAt (with xs)) x low s d
         (valueAt (with (set xs x (suc j)))) j a (omega arith) (set-fallen f xs x (suc j) inside)))
         at-top ∙
         fall-by l (suc j) (omega arith) (omega arith))
@@ -128,3 +128,25 @@ module _ (f : Picture) where
     -- the whole fall leaves the watershed as it is
     pub fall-water : watershed (with (set xs x s)) ≡ watershed (with xs)
     fall-water = let b = d .falls in fall-by (getD xs x 0 - s) s (omega arith) (omega arith)
+
+-- a sequence of c falls from the pixels xs to ys
+pub data FallSequence (f : Picture) (xs : List ℕ) : ℕ → List ℕ → Type 0 where
+  start : FallSequence f xs 0 xs
+  fall :
+      {c : ℕ} {ys : List ℕ} (x low s : ℕ) → FallSequence f xs c ys → length ys ≡ places f →
+      Drops (places f) (Adj f) (valueAt (withPixels f ys)) x low s → FallSequence f xs (suc c) (set ys x s)
+
+-- there are no more falls than the sum of the pixels
+pub falls-total : (f : Picture) (xs : List ℕ) {c : ℕ} {ys : List ℕ} → FallSequence f xs c ys → c + total ys ≤ total xs
+falls-total f xs start = omega arith
+falls-total f xs (fall {c = c} {ys = ys} x low s h e d) =
+    let r = falls-total f xs h in
+    let b = d .within in
+    let q = total-less ys x s (omega arith) (d .falls) in
+    omega arith
+
+-- at most 255 falls a pixel
+pub falls-most :
+    (f : Picture) (xs : List ℕ) {c : ℕ} {ys : List ℕ} → ((i : ℕ) → getD xs i 0 ≤ 255) → length xs ≡ places f →
+    FallSequence f xs c ys → c ≤ 255 * places f
+falls-most f xs b e h = let r = falls-total f xs h in let q = total-bounded 255 xs (λ i h. b i) in omega arith

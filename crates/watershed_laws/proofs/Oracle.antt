@@ -46,10 +46,10 @@ pub record Drops (n : ℕ) (R : ℕ → ℕ → Type 0) (v : ℕ → ℕ) (x low
   pub falls : s < v x
   pub joined : (j : ℕ) → s ≤ j → j < v x → (y : ℕ) → R x y → Sec n v j y → Conn R (Sec n v j) low y
 
-module _ (n : ℕ) (R : ℕ → ℕ → Type 0) (symmetric : (y z : ℕ) → R y z → R z y) (irreflexive : (y : ℕ) → R y y → ⊥) where
+module _ (n : ℕ) (R : ℕ → ℕ → Type 0) (symmetric : (y z : ℕ) → R y z → R z y) where
   module _ (v : ℕ → ℕ) (x low s : ℕ) (d : Drops n R v x low s) where
     apart : low ≢ x
-    apart e = irreflexive x (subst (R x) e (d .near))
+    apart e = let a = d .reach in let b = d .falls in let c = ap v e in omega arith
 
     -- each single step of the fall
     pub drops-lowers : (u : ℕ → ℕ) (j : ℕ) → s ≤ j → j < v x → Fallen v u x (suc j) → Lowers n R u x j
@@ -91,10 +91,10 @@ module _ (n : ℕ) (R : ℕ → ℕ → Type 0) (symmetric : (y z : ℕ) → R y
         (λ a. let f = d .falls in keeps-same n R (same-sections e k (λ h. absurd (omega arith)) (λ h. absurd (omega arith))))
 
     -- who is lowerable after the fall was so before, or is a neighbour of x above s and not above x
-    pub drops-wakes :
+    pub drops-lowerable :
         ((y z : ℕ) → R y z ⊎ (R y z → ⊥)) → (w : ℕ → ℕ) → Fallen v w x s → (y j : ℕ) → y ≢ x → Lowers n R w y j →
         Lowers n R v y j ⊎ (R x y × (s < v y) × (v y ≤ v x))
-    drops-wakes decide w e y j apart-y l =
+    drops-lowerable decide w e y j apart-y l =
         by-cases (decLe s j)
         (λ a.
         by-cases (decLt j (v x))
@@ -146,12 +146,11 @@ pub record Stops (n : ℕ) (R : ℕ → ℕ → Type 0) (v : ℕ → ℕ) (Q : �
   pub lowest : low < n
   pub near : R x low
   pub least : (y : ℕ) → y < n → R x y → v low ≤ v y
-  pub below : v low < v x
   pub reach : v low ≤ s
   pub clear : (y : ℕ) → y < n → R x y → v y < v x → (h : ℕ) × Q y low h × ((h ≤ v y) ⊎ (h ≤ s))
   pub tight : (s ≡ v low) ⊎ ((y : ℕ) × (y < n) × R x y × (v y < v x) × (v y < s) × Q y low s)
 
-module _ (n : ℕ) (R : ℕ → ℕ → Type 0) (symmetric : (y z : ℕ) → R y z → R z y) (irreflexive : (y : ℕ) → R y y → ⊥) where
+module _ (n : ℕ) (R : ℕ → ℕ → Type 0) (symmetric : (y z : ℕ) → R y z → R z y) where
   module _ (v : ℕ → ℕ) (Q : ℕ → ℕ → ℕ → Type 0) (o : Oracle n R v Q) (x low s : ℕ) (t : Stops n R v Q x low s) where
     -- below its own value the vertex falls to where it stops
     pub stops-drops : s < v x → Drops n R v x low s
@@ -202,7 +201,7 @@ module _ (n : ℕ) (R : ℕ → ℕ → Type 0) (symmetric : (y z : ℕ) → R y
           low-enough f g c = ⊎-elim (λ q. omega arith) (λ q. omega arith) either
 
 -- after the fall x is answered for by its lowest neighbour
-module _ (n : ℕ) (R : ℕ → ℕ → Type 0) (symmetric : (y z : ℕ) → R y z → R z y) (irreflexive : (y : ℕ) → R y y → ⊥) where
+module _ (n : ℕ) (R : ℕ → ℕ → Type 0) (symmetric : (y z : ℕ) → R y z → R z y) where
   pub drops-oracle :
       (v w : ℕ → ℕ) (Q P : ℕ → ℕ → ℕ → Type 0) (x low s : ℕ) (f : ℕ → ℕ) →
       Oracle n R v Q → Drops n R v x low s → Fallen v w x s →
@@ -212,7 +211,7 @@ module _ (n : ℕ) (R : ℕ → ℕ → Type 0) (symmetric : (y z : ℕ) → R y
   drops-oracle v w Q P x low s f o d e fx fo pq = record { meets = meets }
     where
       keeps : (k : ℕ) → Keeps n R v w k
-      keeps = drops-keeps n R symmetric irreflexive v x low s d w e
+      keeps = drops-keeps n R symmetric v x low s d w e
 
       -- the vertex that answers is in the old section and joined in the new one
       stands : (k y : ℕ) → Sec n w k y → Sec n v k (f y) × Conn R (Sec n w k) y (f y)

@@ -6,58 +6,46 @@ use mathlib.Core.List.{List}
 use Prim.Native.Nat.{ℕ, _+_, _*_, _≤_, _<_}
 use native.Mathlib.Decide.{ℕ-discrete, decLt}
 use native.Mathlib.Omega.{arith}
-use lib.Dec.{eqb}
 use lib.ListN.{length, getD, set, length-set}
 use lib.Seq.{getD-set-same, getD-set-other}
-use borrow.Author.Tests.{eqb-true, eq-eqb}
-use Rattle.lists.specs.Lists.{pick, total}
-use Rattle.picture.specs.Pictures.{Picture, places, valueAt, withPixels, touch}
+use Rattle.lists.specs.Lists.{total}
+use Rattle.picture.specs.Pictures.{Picture, places, valueAt, withPixels}
 use Rattle.picture.specs.Watersheds.{lowerable, watershed}
-use Rattle.picture.proofs.Sides.{area-most}
-use Rattle.lists.proofs.Tests.{on-pick, on-test, clash}
+use Rattle.lists.proofs.Updates.{put, put-same, put-other}
 use Rattle.lists.proofs.Sums.{total-less}
+use Rattle.topology.proofs.Accepted.{Accepted, accepted-with, places-bound, byte-at, at-byte}
 use Rattle.topology.proofs.Keeping.{Lowers, Fallen}
-use Rattle.topology.proofs.Adjacency.{Adj, adj-sym, adj-irreflexive}
+use Rattle.topology.proofs.Adjacency.{Adj, adj-sym}
 use Rattle.topology.proofs.Bridge.{lowerable-above, lowerable-lowers, lowers-lowerable}
 use Rattle.topology.proofs.Climb.{Meet, meet-same}
 use Rattle.topology.proofs.Water.{less, set-fallen}
-use Rattle.watershed_laws.proofs.Oracle.{Oracle, Stops, Drops, stops-drops, stops-there, drops-wakes, drops-oracle}
-use Rattle.watershed_laws.proofs.Falls.{First, fall-water}
+use Rattle.watershed_laws.proofs.Oracle.{Oracle, Stops, Drops, stops-drops, stops-there, drops-lowerable, drops-oracle}
+use Rattle.watershed_laws.proofs.Falls.{First, adj-dec, fall-water}
 use Rattle.watershed_laws.proofs.WinnerTree.{Winner, winner-fallen, candidates}
-use Rattle.watershed_laws.proofs.WinnerSteps.{Waking}
+use Rattle.watershed_laws.proofs.WinnerSteps.{MakingCandidates}
 use Rattle.watershed_laws.proofs.Stopping.{Climbs, Meets, Lowest, Stopped, Around, found-stops, found-none}
 
 -- the state of the run on the frame f: pixels g, the tree's cells, the winner tree t; a lowerable place is a candidate or exempt
 pub record Running (f : Picture) (g tree t : List ℕ) (Exempt : ℕ → Type 0) : Type 0 where
-  pub filled : 1 ≤ places f
-  pub some : 1 ≤ f .width
-  pub wide : f .width ≤ 40
-  pub high : f .height ≤ 40
-  pub size : length g ≡ places f
-  pub bytes : (x : ℕ) → getD g x 0 ≤ 255
+  pub accepted : Accepted (withPixels f g)
   pub climbs : Climbs (places f) tree
   pub oracle : Oracle (places f) (Adj f) (valueAt (withPixels f g)) (Meets (places f) tree)
   pub leaves : length t ≡ 2 * places f
   pub winner : Winner (places f) g t 1 0
-  pub awake : (y : ℕ) → y < places f → lowerable (withPixels f g) y ≡ true → (getD t (places f + y) 0 ≡ y) ⊎ Exempt y
+  pub lowerables : (y : ℕ) → y < places f → lowerable (withPixels f g) y ≡ true → (getD t (places f + y) 0 ≡ y) ⊎ Exempt y
 
 -- the same pixels and cells with another winner tree, and others exempt
 pub running-with :
     {f : Picture} {g tree t t₁ : List ℕ} {Exempt Exempt₁ : ℕ → Type 0} → Running f g tree t Exempt → length t₁ ≡ 2 * places f → Winner (places f) g t₁ 1 0 →
     ((y : ℕ) → y < places f → lowerable (withPixels f g) y ≡ true → (getD t₁ (places f + y) 0 ≡ y) ⊎ Exempt₁ y) → Running f g tree t₁ Exempt₁
-running-with r leaves winner awake =
+running-with r leaves winner lowerables =
     record {
-      filled = r .filled;
-      some = r .some;
-      wide = r .wide;
-      high = r .high;
-      size = r .size;
-      bytes = r .bytes;
+      accepted = r .accepted;
       climbs = r .climbs;
       oracle = r .oracle;
       leaves = leaves;
       winner = winner;
-      awake = awake;
+      lowerables = lowerables;
     }
 
 -- no place is exempt
@@ -67,7 +55,7 @@ pub no-place : {C : Type 0} {y : ℕ} → NoPlace y → C
 no-place = elim [ ]
 
 -- the place x alone is exempt, is no candidate, and leads the lowerable places
-pub record TurnOf (f : Picture) (g tree t : List ℕ) (x : ℕ) : Type 0 where
+pub record WinnerTaken (f : Picture) (g tree t : List ℕ) (x : ℕ) : Type 0 where
   pub running : Running f g tree t (λ y. y ≡ x)
   pub within : x < places f
   pub unset : getD t (places f + x) 0 ≡ 65535
@@ -80,47 +68,36 @@ pub record Window (f : Picture) (g : List ℕ) (x s k y : ℕ) : Type 0 where
   pub most : getD g y 0 ≤ k
 
 -- the run goes on with the same watershed; something has fallen, or all is as it was
-pub record Settled (f : Picture) (g t g₁ tree₁ t₁ : List ℕ) : Type 0 where
+pub record LoweredPlace (f : Picture) (g t g₁ tree₁ t₁ : List ℕ) : Type 0 where
   pub running : Running f g₁ tree₁ t₁ NoPlace
   pub water : watershed (withPixels f g₁) ≡ watershed (withPixels f g)
   pub less : (total g₁ < total g) ⊎ ((g₁ ≡ g) × (t₁ ≡ t))
 
 -- the place x is the winner
-pub record Turning (f : Picture) (g tree t : List ℕ) (x : ℕ) : Type 0 where
+pub record WinnerIs (f : Picture) (g tree t : List ℕ) (x : ℕ) : Type 0 where
   pub running : Running f g tree t NoPlace
   pub top : x ≡ getD t 1 0
   pub candidate : x ≢ 65535
 
 -- what falls with each turn: the sum of the pixels, then the number of candidates
 unfoldable pub measure : ℕ → List ℕ → List ℕ → ℕ
-measure n g t = 1601 * total g + candidates n t n
+measure n g t = 1601 * total g + candidates n t
 
 -- after a turn r is the winner, the watershed is the same, and the measure is less
-pub record Turned (f : Picture) (g t g₁ tree₁ t₁ : List ℕ) (r : ℕ) : Type 0 where
+pub record TurnDone (f : Picture) (g t g₁ tree₁ t₁ : List ℕ) (r : ℕ) : Type 0 where
   pub running : Running f g₁ tree₁ t₁ NoPlace
   pub water : watershed (withPixels f g₁) ≡ watershed (withPixels f g)
   pub less : measure (places f) g₁ t₁ < measure (places f) g t
   pub top : r ≡ getD t₁ 1 0
-
-decide-adj : (f : Picture) (y z : ℕ) → Adj f y z ⊎ (Adj f y z → ⊥)
-decide-adj f y z = on-test (touch f y z) (λ h. inl h) (λ h. inr (λ g. clash g h))
 
 -- the map's entry of x becomes that of low
 module _ (n : ℕ) (tree : List ℕ) (c : Climbs n tree) (x low : ℕ) (hx : x < n) (hl : low < n) where
   abbrev mapped-as : List ℕ
   mapped-as = set tree (2 * n + x) (getD tree (2 * n + low) 0)
 
-  -- the place whose entry x takes
-  answers : ℕ → ℕ
-  answers y = pick (eqb y x) low y
-
-  answers-x : answers x ≡ low
-  unfolding answers
-  answers-x = on-pick (λ (m : ℕ). m ≡ low) (eqb x x) (λ e. refl) (λ e. absurd (clash (eq-eqb x x refl) e))
-
-  answers-other : (y : ℕ) → y ≢ x → answers y ≡ y
-  unfolding answers
-  answers-other y d = on-pick (λ (m : ℕ). m ≡ y) (eqb y x) (λ e. absurd (d (eqb-true y x e))) (λ e. refl)
+  -- the place whose entry y takes
+  abbrev answers : ℕ → ℕ
+  answers = put (λ y. y) x low
 
   map-before : (i : ℕ) → i < 2 * n → getD mapped-as i 0 ≡ getD tree i 0
   map-before i h = getD-set-other tree (2 * n + x) i (getD tree (2 * n + low) 0) 0 (λ q. omega arith)
@@ -132,16 +109,16 @@ module _ (n : ℕ) (tree : List ℕ) (c : Climbs n tree) (x low : ℕ) (hx : x <
       (λ q.
       ap (λ (m : ℕ). getD mapped-as (2 * n + m) 0) q ∙
       (getD-set-same tree (2 * n + x) (getD tree (2 * n + low) 0) 0 (omega arith) ∙
-      ap (λ (m : ℕ). getD tree (2 * n + m) 0) (sym (ap answers q ∙ answers-x))))
+      ap (λ (m : ℕ). getD tree (2 * n + m) 0) (sym (put-same (λ y. y) x low y q))))
       (λ q.
       getD-set-other tree (2 * n + x) (2 * n + y) (getD tree (2 * n + low) 0) 0 (λ u. q (omega arith)) ∙
-      ap (λ (m : ℕ). getD tree (2 * n + m) 0) (sym (answers-other y q)))
+      ap (λ (m : ℕ). getD tree (2 * n + m) 0) (sym (put-other (λ y. y) x low y q)))
 
   answers-within : (y : ℕ) → y < n → answers y < n
   answers-within y h =
       by-cases (ℕ-discrete y x)
-      (λ q. let e = ap answers q ∙ answers-x in omega arith)
-      (λ q. let e = answers-other y q in omega arith)
+      (λ q. let e = put-same (λ y. y) x low y q in omega arith)
+      (λ q. let e = put-other (λ y. y) x low y q in omega arith)
 
   map-climbs : Climbs n mapped-as
   map-climbs =
@@ -159,8 +136,8 @@ module _ (n : ℕ) (tree : List ℕ) (c : Climbs n tree) (x low : ℕ) (hx : x <
       let f = c .few in
       let hy = answers-within y (q .first) in
       let hz = answers-within z (q .second) in
-      let m₁ = subst (λ (j : ℕ). Meet (λ i. getD mapped-as (n + i) 0) j (getD mapped-as (2 * n + z) 0) (q .node)) (map-entry y (q .first)) (q .meet) in
-      let m₂ = subst (λ (j : ℕ). Meet (λ i. getD mapped-as (n + i) 0) (getD tree (2 * n + answers y) 0) j (q .node)) (map-entry z (q .second)) m₁ in
+      let m₁ = subst (λ (j : ℕ). Meet (λ i. getD mapped-as (n + i) 0) j (getD mapped-as (2 * n + z) 0) (q .at .node)) (map-entry y (q .first)) (q .at .meet) in
+      let m₂ = subst (λ (j : ℕ). Meet (λ i. getD mapped-as (n + i) 0) (getD tree (2 * n + answers y) 0) j (q .at .node)) (map-entry z (q .second)) m₁ in
       let (m₃, r) =
       meet-same (c .count) (λ i. getD mapped-as (n + i) 0) (λ i. getD tree (n + i) 0)
       (λ i l. map-before (n + i) (omega arith))
@@ -170,34 +147,31 @@ module _ (n : ℕ) (tree : List ℕ) (c : Climbs n tree) (x low : ℕ) (hx : x <
       record {
         first = hy;
         second = hz;
-        node = q .node;
-        meet = m₃;
-        height = q .height ∙ map-before (q .node) (omega arith);
+        at = record { node = q .at .node; meet = m₃; height = q .at .height ∙ map-before (q .at .node) (omega arith) };
       }
 
-module _ (f : Picture) (g tree t : List ℕ) (x : ℕ) (p : TurnOf f g tree t x) (ys : List ℕ) (m low s : ℕ)
+module _ (f : Picture) (g tree t : List ℕ) (x : ℕ) (p : WinnerTaken f g tree t x) (ys : List ℕ) (m low s : ℕ)
     (around : Around f x ys m) (lowest : Lowest (places f) g x ys m low) (stopped : Stopped (places f) g tree low (getD g x 0) ys m s) where
   abbrev run : Running f g tree t (λ y. y ≡ x)
   run = p .running
 
   found : getD g low 0 < getD g x 0 → Stops (places f) (Adj f) (valueAt (withPixels f g)) (Meets (places f) tree) x low s
   found b =
-      found-stops f g tree x ys m low s (p .within) (run .bytes x) around lowest stopped
-      (λ e. let q = ap (λ (z : ℕ). getD g z 0) e in omega arith) b
+      found-stops f g tree x ys m low s (p .within) (byte-at g (run .accepted .bytes) x) around lowest stopped b
 
   stays-there : getD g x 0 ≤ s → (j : ℕ) → Lowers (places f) (Adj f) (valueAt (withPixels f g)) x j → ⊥
   stays-there h j l =
       by-cases (decLt (getD g low 0) (getD g x 0))
       (λ b.
-      stops-there (places f) (Adj f) (adj-sym f) (adj-irreflexive f) (valueAt (withPixels f g)) (Meets (places f) tree) (run .oracle) x low s (found b)
+      stops-there (places f) (Adj f) (adj-sym f) (valueAt (withPixels f g)) (Meets (places f) tree) (run .oracle) x low s (found b)
       (valueAt (withPixels f g)) (getD g x 0) (record { at = refl; other = λ y d. refl }) h (omega arith) (inr refl) j l)
       (λ b.
       let q = found-none f g tree x ys m low s around lowest (omega arith) (l .near) (l .below .within) (l .touches) in
       omega (arith, l .value, l .below .low))
 
   -- it does not fall: it was not lowerable
-  pub settle-stays : getD g x 0 ≤ s → Settled f g t g tree t
-  settle-stays h =
+  pub lowered-stays : getD g x 0 ≤ s → LoweredPlace f g t g tree t
+  lowered-stays h =
       record {
         running =
             running-with run (run .leaves) (run .winner)
@@ -208,7 +182,7 @@ module _ (f : Picture) (g tree t : List ℕ) (x : ℕ) (p : TurnOf f g tree t x)
             absurd
             (stays-there h k
             (subst (λ (z : ℕ). Lowers (places f) (Adj f) (valueAt (withPixels f g)) z k) e (lowerable-lowers (withPixels f g) y b k v l))))
-            (run .awake y b l));
+            (run .lowerables y b l));
         water = refl;
         less = inr (refl, refl);
       }
@@ -219,11 +193,11 @@ module _ (f : Picture) (g tree t : List ℕ) (x : ℕ) (p : TurnOf f g tree t x)
 
     drops : Drops (places f) (Adj f) (valueAt (withPixels f g)) x low s
     drops =
-        stops-drops (places f) (Adj f) (adj-sym f) (adj-irreflexive f) (valueAt (withPixels f g)) (Meets (places f) tree) (run .oracle) x low s
+        stops-drops (places f) (Adj f) (adj-sym f) (valueAt (withPixels f g)) (Meets (places f) tree) (run .oracle) x low s
         (found low-below) falls
 
     inside : x < length g
-    inside = let e = run .size in let h = p .within in omega arith
+    inside = let e = run .accepted .size in let h = p .within in omega arith
 
     abbrev lowered-to : List ℕ
     lowered-to = set g x s
@@ -235,68 +209,65 @@ module _ (f : Picture) (g tree t : List ℕ) (x : ℕ) (p : TurnOf f g tree t x)
     fall-total = total-less g x s inside falls
 
     pub fall-same-water : watershed (withPixels f lowered-to) ≡ watershed (withPixels f g)
-    fall-same-water = fall-water f g (run .size) x low s drops (p .first)
+    fall-same-water = fall-water f g (run .accepted .size) x low s drops (p .first)
 
     -- it falls to s and is mapped as low is; its neighbours between s and its old value are exempt
-    pub settle-falls : Running f lowered-to remapped t (Window f lowered-to x s (getD g x 0))
-    settle-falls =
+    pub lowered-falls : Running f lowered-to remapped t (Window f lowered-to x s (getD g x 0))
+    lowered-falls =
         record {
-          filled = run .filled;
-          some = run .some;
-          wide = run .wide;
-          high = run .high;
-          size = length-set g x s ∙ run .size;
-          bytes =
-              λ y.
-              let b = run .bytes x in
+          accepted =
+              accepted-with (withPixels f g) lowered-to (run .accepted) (length-set g x s ∙ run .accepted .size)
+              (at-byte lowered-to
+              (λ y.
+              let b = byte-at g (run .accepted .bytes) in
               by-cases (ℕ-discrete y x)
-              (λ q. subst (λ (z : ℕ). getD lowered-to z 0 ≤ 255) (sym q) (let e = getD-set-same g x s 0 inside in omega arith))
-              (λ q. let e = getD-set-other g x y s 0 q in let c = run .bytes y in omega arith);
+              (λ q. subst (λ (z : ℕ). getD lowered-to z 0 ≤ 255) (sym q) (omega (arith, fallen .at, b x)))
+              (λ q. omega (arith, fallen .other y q, b y))));
           climbs = map-climbs (places f) tree (run .climbs) x low (p .within) (lowest .within);
           oracle =
-              drops-oracle (places f) (Adj f) (adj-sym f) (adj-irreflexive f) (valueAt (withPixels f g)) (valueAt (withPixels f lowered-to))
+              drops-oracle (places f) (Adj f) (adj-sym f) (valueAt (withPixels f g)) (valueAt (withPixels f lowered-to))
               (Meets (places f) tree) (Meets (places f) remapped) x low s
-              (answers (places f) tree (run .climbs) x low (p .within) (lowest .within))
+              (put (λ y. y) x low)
               (run .oracle) drops fallen
-              (answers-x (places f) tree (run .climbs) x low (p .within) (lowest .within))
-              (answers-other (places f) tree (run .climbs) x low (p .within) (lowest .within))
+              (put-same (λ y. y) x low x refl)
+              (put-other (λ y. y) x low)
               (map-meets (places f) tree (run .climbs) x low (p .within) (lowest .within));
           leaves = run .leaves;
           winner =
               winner-fallen (places f) g t (run .winner) x s (p .within)
-              (let b = area-most (f .width) (f .height) (run .wide) (run .high) in omega arith)
+              (omega (arith, places-bound (withPixels f g) (run .accepted)))
               (p .unset);
-          awake = awake;
+          lowerables = lowerables;
         }
       where
         fallen : Fallen (valueAt (withPixels f g)) (valueAt (withPixels f lowered-to)) x s
         fallen = set-fallen f g x s inside
 
-        awake :
+        lowerables :
             (y : ℕ) → y < places f → lowerable (withPixels f lowered-to) y ≡ true →
             (getD t (places f + y) 0 ≡ y) ⊎ Window f lowered-to x s (getD g x 0) y
-        awake y b l =
+        lowerables y b l =
             let (k, v) = lowerable-above (withPixels f lowered-to) y b l in
             let lo = lowerable-lowers (withPixels f lowered-to) y b k v l in
             by-cases (ℕ-discrete y x)
             (λ q.
             absurd
-            (stops-there (places f) (Adj f) (adj-sym f) (adj-irreflexive f) (valueAt (withPixels f g)) (Meets (places f) tree) (run .oracle) x low s (found low-below)
+            (stops-there (places f) (Adj f) (adj-sym f) (valueAt (withPixels f g)) (Meets (places f) tree) (run .oracle) x low s (found low-below)
             (valueAt (withPixels f lowered-to)) s fallen (omega arith) (omega arith) (inl refl) k
             (subst (λ (z : ℕ). Lowers (places f) (Adj f) (valueAt (withPixels f lowered-to)) z k) q lo)))
             (λ q.
             ⊎-elim
             (λ u.
-            ⊎-elim (λ e. inl e) (λ e. absurd (q e)) (run .awake y b (lowers-lowerable (withPixels f g) y b k u)))
+            ⊎-elim (λ e. inl e) (λ e. absurd (q e)) (run .lowerables y b (lowers-lowerable (withPixels f g) y b k u)))
             (λ (a, c, d). let e = fallen .other y q in inr (record { near = a; above = omega arith; most = omega arith }))
-            (drops-wakes (places f) (Adj f) (adj-sym f) (adj-irreflexive f) (valueAt (withPixels f g)) x low s drops (decide-adj f) (valueAt (withPixels f lowered-to)) fallen y k q lo))
+            (drops-lowerable (places f) (Adj f) (adj-sym f) (valueAt (withPixels f g)) x low s drops (adj-dec f) (valueAt (withPixels f lowered-to)) fallen y k q lo))
 
-    -- the neighbours are woken, and the turn is done
-    pub settle-woken :
-        (t₁ : List ℕ) → Waking (places f) lowered-to t s (getD g x 0) ys t₁ m →
-        Settled f g t lowered-to remapped t₁
-    settle-woken t₁ w =
-        let r = settle-falls in
+    -- the neighbours become candidates, and the turn is done
+    pub lowered-made :
+        (t₁ : List ℕ) → MakingCandidates (places f) lowered-to t s (getD g x 0) ys t₁ m →
+        LoweredPlace f g t lowered-to remapped t₁
+    lowered-made t₁ w =
+        let r = lowered-falls in
         record {
           running =
               running-with r (w .size) (w .winner)
@@ -308,8 +279,8 @@ module _ (f : Picture) (g tree t : List ℕ) (x : ℕ) (p : TurnOf f g tree t x)
               let (j, i, e) = around .every y b (v .near) in
               subst
               (λ (z : ℕ). s < getD lowered-to z 0 → getD lowered-to z 0 ≤ getD g x 0 → getD t₁ (places f + z) 0 ≡ z)
-              e (w .woken j i) (v .above) (v .most))
-              (r .awake y b l)));
+              e (w .made j i) (v .above) (v .most))
+              (r .lowerables y b l)));
           water = fall-same-water;
           less = inl fall-total;
         }

@@ -1,6 +1,6 @@
 -- How far a pixel falls, as the loops over its neighbours find it: the climb in the tree's cells, a neighbour of least value, the height at which it stops.
 use mathlib.Core.Path.{_≡_, refl, sym, ap, subst, _∙_}
-use mathlib.Core.Logic.{_⊎_, inl, inr, ⊎-elim, _≢_, by-cases}
+use mathlib.Core.Logic.{_⊎_, inl, inr, ⊎-elim, by-cases}
 use mathlib.Core.List.{List}
 use Prim.Native.Nat.{ℕ, suc, _+_, _*_, _≤_, _<_}
 use native.Mathlib.Decide.{ℕ-discrete}
@@ -10,8 +10,8 @@ use Rattle.picture.specs.Pictures.{Picture, places, valueAt, withPixels}
 use Rattle.picture.specs.Geometry.{neighboursIn, Listed}
 use Rattle.picture.proofs.Neighbours.{neighbour-at, neighbour-index, listed-at}
 use Rattle.topology.proofs.Adjacency.{Adj}
-use Rattle.topology.proofs.Climb.{Meet}
 use Rattle.watershed_laws.proofs.Oracle.{Stops}
+use Rattle.watershed_laws.proofs.TreeOracle.{MeetsAt}
 
 -- the cells hold heights, fathers and the map of a tree, n cells each, in which every climb meets
 pub record Climbs (n : ℕ) (tree : List ℕ) : Type 0 where
@@ -25,9 +25,7 @@ pub record Climbs (n : ℕ) (tree : List ℕ) : Type 0 where
 pub record Meets (n : ℕ) (tree : List ℕ) (y z h : ℕ) : Type 0 where
   pub first : y < n
   pub second : z < n
-  pub node : ℕ
-  pub meet : Meet (λ i. getD tree (n + i) 0) (getD tree (2 * n + y) 0) (getD tree (2 * n + z) 0) node
-  pub height : h ≡ getD tree node 0
+  pub at : MeetsAt (λ i. getD tree i 0) (λ i. getD tree (n + i) 0) (getD tree (2 * n + y) 0) (getD tree (2 * n + z) 0) h
 
 -- the first m cells of ys hold places
 pub record Places (n : ℕ) (ys : List ℕ) (m : ℕ) : Type 0 where
@@ -39,16 +37,15 @@ pub data Lower (g : List ℕ) (low y : ℕ) : ℕ → Type 0 where
   stays : getD g low 0 ≤ getD g y 0 → Lower g low y low
   moves : getD g y 0 < getD g low 0 → Lower g low y y
 
--- low is x or the first one below x of least value among the first i places of ys
+-- low is x or one of the first i places of ys, of which none has a lesser value
 pub record Lowest (n : ℕ) (g : List ℕ) (x : ℕ) (ys : List ℕ) (i low : ℕ) : Type 0 where
   pub within : low < n
-  pub under : getD g low 0 ≤ getD g x 0
   pub least : (j : ℕ) → j < i → getD g low 0 ≤ getD g (getD ys j 0) 0
   pub listed : (low ≡ x) ⊎ ((j : ℕ) × (j < i) × (getD ys j 0 ≡ low))
 
 module _ (n : ℕ) (g : List ℕ) (x : ℕ) (ys : List ℕ) where
   pub lowest-start : x < n → Lowest n g x ys 0 x
-  lowest-start h = record { within = h; under = omega arith; least = λ j l. absurd (omega arith); listed = inl refl }
+  lowest-start h = record { within = h; least = λ j l. absurd (omega arith); listed = inl refl }
 
   lowest-least : (i low r : ℕ) → ((j : ℕ) → j < i → getD g low 0 ≤ getD g (getD ys j 0) 0) → getD g r 0 ≤ getD g low 0 → getD g r 0 ≤ getD g (getD ys i 0) 0 → (j : ℕ) → j < i + 1 → getD g r 0 ≤ getD g (getD ys j 0) 0
   lowest-least i low r p a b j h =
@@ -60,15 +57,12 @@ module _ (n : ℕ) (g : List ℕ) (x : ℕ) (ys : List ℕ) where
   lowest-turn i low r h p (stays b) =
       record {
         within = p .within;
-        under = p .under;
         least = lowest-least i low low (p .least) (omega arith) b;
         listed = ⊎-elim (λ e. inl e) (λ (j, l, e). inr (j, omega arith, e)) (p .listed);
       }
   lowest-turn i low r h p (moves b) =
-      let u = p .under in
       record {
         within = h;
-        under = omega arith;
         least = lowest-least i low (getD ys i 0) (p .least) (omega arith) (omega arith);
         listed = inr (i, omega arith, refl);
       }
@@ -160,22 +154,21 @@ around-places f x ys m a = record { few = a .few; each = λ j h. a .near j h .0 
 module _ (f : Picture) (g tree : List ℕ) (x : ℕ) (ys : List ℕ) (m low s : ℕ) where
   pub found-stops :
       x < places f → getD g x 0 ≤ 255 → Around f x ys m → Lowest (places f) g x ys m low →
-      Stopped (places f) g tree low (getD g x 0) ys m s → low ≢ x → getD g low 0 < getD g x 0 →
+      Stopped (places f) g tree low (getD g x 0) ys m s → getD g low 0 < getD g x 0 →
       Stops (places f) (Adj f) (valueAt (withPixels f g)) (Meets (places f) tree) x low s
-  found-stops inside byte a l t apart below =
+  found-stops inside byte a l t below =
       record {
         within = inside;
         byte = byte;
         lowest = l .within;
         near =
-            ⊎-elim (λ e. absurd (apart e))
+            ⊎-elim (λ e. let q = ap (λ (z : ℕ). getD g z 0) e in absurd (omega arith))
             (λ (j, h, e). subst (Adj f x) e (a .near j h .1))
             (l .listed);
         least =
             λ y h r.
             let (j, i, e) = a .every y h r in
             subst (λ (z : ℕ). getD g low 0 ≤ getD g z 0) e (l .least j i);
-        below = below;
         reach = t .reach;
         clear =
             λ y h r b.

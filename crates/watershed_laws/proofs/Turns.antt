@@ -1,31 +1,30 @@
--- The turns of the run: it starts with every place a candidate, a turn takes the winner away and settles it, and it ends at the watershed.
+-- The turns of the run: it starts with every place a candidate, a turn takes the winner away and lowers it, and it ends at the watershed.
 use mathlib.Core.Path.{_≡_, sym, ap, subst, _∙_}
 use mathlib.Core.Bool.{true}
 use mathlib.Core.Logic.{inl, inr, ⊎-elim, by-cases}
 use mathlib.Core.List.{List}
-use Prim.Native.Nat.{ℕ, suc, _+_, _*_, _≤_, _<_}
+use Prim.Native.Nat.{ℕ, _+_, _*_, _≤_, _<_}
 use native.Mathlib.Nat.{mul-le-mul}
 use native.Mathlib.Decide.{ℕ-discrete}
 use native.Mathlib.Omega.{arith}
-use lib.ListN.{length, getD, set}
+use lib.ListN.{length, getD}
 use Rattle.lists.specs.Lists.{total}
-use Rattle.picture.specs.Pictures.{Picture, places, valueAt, withPixels}
+use Rattle.picture.specs.Pictures.{Picture, places, withPixels}
 use Rattle.picture.specs.Trees.{nodes, nodeAt, fatherOf, mapOf}
 use Rattle.picture.specs.Watersheds.{lowerable, watershed}
-use Rattle.picture.proofs.Sides.{area-most}
-use Rattle.lists.proofs.Sums.{total-less, total-bounded}
-use Rattle.topology.proofs.Adjacency.{Adj}
-use Rattle.topology.proofs.Accepted.{Accepted, byte-at}
+use Rattle.topology.proofs.Accepted.{Accepted, places-bound}
 use Rattle.topology.proofs.Nodes.{nodes-few}
 use Rattle.topology.proofs.Fathers.{map-found}
 use Rattle.topology.proofs.Climb.{father-of, father-greater}
 use Rattle.topology.proofs.Water.{Leads, less, ties}
-use Rattle.watershed_laws.proofs.Oracle.{Drops}
 use Rattle.watershed_laws.proofs.TreeOracle.{tree-oracle}
 use Rattle.watershed_laws.proofs.Falls.{First, watershed-end}
 use Rattle.watershed_laws.proofs.WinnerTree.{Beats, last, less as beats-less, ties as beats-ties, winner-beats, winner-place, candidates, candidates-most, candidates-fewer}
 use Rattle.watershed_laws.proofs.WinnerSteps.{Assigned, Building}
-use Rattle.watershed_laws.proofs.Running.{Running, NoPlace, no-place, TurnOf, Settled, Turning, Turned, measure, running-with}
+use Rattle.watershed_laws.proofs.Running.{Running, NoPlace, no-place, WinnerTaken, LoweredPlace, WinnerIs, TurnDone, measure, running-with}
+
+pub places-some : (p : Picture) → Accepted p → 1 ≤ places p
+places-some p a = mul-le-mul (a .some) (a .tall)
 
 -- the cells hold heights, fathers and map of the tree of p
 pub record Holds (p : Picture) (tree : List ℕ) : Type 0 where
@@ -42,12 +41,7 @@ module _ (f : Picture) (g tree t : List ℕ) where
   pub running-start : Accepted p → Holds p tree → Building (places f) g t 1 → Running f g tree t NoPlace
   running-start ok h b =
       record {
-        filled = mul-le-mul (ok .some) (ok .tall);
-        some = ok .some;
-        wide = ok .wide;
-        high = ok .high;
-        size = ok .size;
-        bytes = byte-at g (ok .bytes);
+        accepted = ok;
         climbs =
             record {
               size = h .size;
@@ -67,37 +61,37 @@ module _ (f : Picture) (g tree t : List ℕ) where
                   λ y z k j l q.
                   tree-oracle p ok (λ i. getD tree i 0) (λ i. getD tree (places f + i) 0) (λ x. getD tree (2 * places f + x) 0)
                   (h .heights) (h .fathers) (h .map) .meets y z k j l
-                  (record { node = q .node; meet = q .meet; height = q .height });
+                  (q .at);
             };
         leaves = b .size;
         winner = b .winner;
-        awake = λ y l e. inl (b .full y l);
+        lowerables = λ y l e. inl (b .full y l);
       }
 
   module _ (run : Running f g tree t NoPlace) where
     most : places f ≤ 1600
-    most = area-most (f .width) (f .height) (run .wide) (run .high)
+    most = places-bound (withPixels f g) (run .accepted)
 
     -- at the end
     pub running-end : getD t 1 0 ≡ 65535 → watershed (withPixels f g) ≡ withPixels f g
     running-end e = watershed-end (withPixels f g) none
       where
         none : (y : ℕ) → y < places f → lowerable (withPixels f g) y ≡ true → ⊥
-        none y b l = ⊎-elim (λ q. beaten q (winner-beats (places f) g t (run .winner) y b)) (λ (n : NoPlace y). no-place n) (run .awake y b l)
+        none y b l = ⊎-elim (λ q. beaten q (winner-beats (places f) g t (run .winner) y b)) (λ (n : NoPlace y). no-place n) (run .lowerables y b l)
           where
             beaten : getD t (places f + y) 0 ≡ y → Beats g (getD t 1 0) (getD t (places f + y) 0) → ⊥
             beaten q (last h) = let k = most in omega arith
             beaten q (beats-less d h) = d e
             beaten q (beats-ties d h i) = d e
 
-  module _ (x : ℕ) (p : Turning f g tree t x) where
+  module _ (x : ℕ) (p : WinnerIs f g tree t x) where
     abbrev run₁ : Running f g tree t NoPlace
     run₁ = p .running
 
     place : (x < places f) × (getD t (places f + x) 0 ≡ x)
     place =
         let e = p .top in
-        let (a, b) = winner-place (places f) g t (run₁ .winner) (run₁ .filled) (λ q. p .candidate (e ∙ q)) in
+        let (a, b) = winner-place (places f) g t (run₁ .winner) (places-some (withPixels f g) (run₁ .accepted)) (λ q. p .candidate (e ∙ q)) in
         (omega arith, subst (λ (z : ℕ). getD t (places f + z) 0 ≡ z) (sym e) b)
 
     -- the winner is a place, and leads the lowerable ones
@@ -110,7 +104,7 @@ module _ (f : Picture) (g tree t : List ℕ) where
         ⊎-elim
         (λ q. before q (winner-beats (places f) g t (run₁ .winner) y b))
         (λ (n : NoPlace y). no-place n)
-        (run₁ .awake y b l)
+        (run₁ .lowerables y b l)
       where
         before : getD t (places f + y) 0 ≡ y → Beats g (getD t 1 0) (getD t (places f + y) 0) → Leads (withPixels f g) x y
         before q (last h) = absurd (let k = most run₁ in omega arith)
@@ -126,15 +120,15 @@ module _ (f : Picture) (g tree t : List ℕ) where
             (omega arith)
 
     -- the winner is taken away
-    pub turn-of : (t₁ : List ℕ) → Assigned (places f) g t x 65535 t₁ → TurnOf f g tree t₁ x
-    turn-of t₁ a =
+    pub winner-taken : (t₁ : List ℕ) → Assigned (places f) g t x 65535 t₁ → WinnerTaken f g tree t₁ x
+    winner-taken t₁ a =
         record {
           running =
               running-with run₁ (a .size) (a .winner)
               (λ y b l.
               by-cases (ℕ-discrete y x)
               (λ q. inr q)
-              (λ q. ⊎-elim (λ e. inl (a .other y b q ∙ e)) (λ (n : NoPlace y). no-place n) (run₁ .awake y b l)));
+              (λ q. ⊎-elim (λ e. inl (a .other y b q ∙ e)) (λ (n : NoPlace y). no-place n) (run₁ .lowerables y b l)));
           within = turn-place;
           unset = a .own;
           first = leads;
@@ -142,8 +136,8 @@ module _ (f : Picture) (g tree t : List ℕ) where
 
     pub turn-done :
         (t₁ : List ℕ) → Assigned (places f) g t x 65535 t₁ →
-        (g₂ tree₂ t₂ : List ℕ) → Settled f g t₁ g₂ tree₂ t₂ →
-        (r : ℕ) → r ≡ getD t₂ 1 0 → Turned f g t g₂ tree₂ t₂ r
+        (g₂ tree₂ t₂ : List ℕ) → LoweredPlace f g t₁ g₂ tree₂ t₂ →
+        (r : ℕ) → r ≡ getD t₂ 1 0 → TurnDone f g t g₂ tree₂ t₂ r
     unfolding measure
     turn-done t₁ a g₂ tree₂ t₂ q r e =
         record {
@@ -152,36 +146,14 @@ module _ (f : Picture) (g tree t : List ℕ) where
           top = e;
           less =
               ⊎-elim
-              (λ h. let c = candidates-most (places f) t₂ (places f) in let k = most run₁ in omega arith)
+              (λ h. let c = candidates-most (places f) t₂ in let k = most run₁ in omega arith)
               (λ (u, v).
               let (inside, own) = place in
               let c =
-              candidates-fewer (places f) t t₁ x (λ z. p .candidate (sym own ∙ z)) (a .own) (a .other) (places f) (omega arith) inside
+              candidates-fewer (places f) t t₁ x inside (λ z. p .candidate (sym own ∙ z)) (a .own) (a .other)
               in
               let w = ap total u in
-              let z = ap (λ (l : List ℕ). candidates (places f) l (places f)) v in
+              let z = ap (candidates (places f)) v in
               omega arith)
               (q .less);
         }
-
--- a run of c falls from the pixels xs to ys
-pub data Falls (f : Picture) (xs : List ℕ) : ℕ → List ℕ → Type 0 where
-  start : Falls f xs 0 xs
-  fall :
-      {c : ℕ} {ys : List ℕ} (x low s : ℕ) → Falls f xs c ys → length ys ≡ places f →
-      Drops (places f) (Adj f) (valueAt (withPixels f ys)) x low s → Falls f xs (suc c) (set ys x s)
-
--- there are no more falls than the sum of the pixels
-pub falls-total : (f : Picture) (xs : List ℕ) {c : ℕ} {ys : List ℕ} → Falls f xs c ys → c + total ys ≤ total xs
-falls-total f xs start = omega arith
-falls-total f xs (fall {c = c} {ys = ys} x low s h e d) =
-    let r = falls-total f xs h in
-    let b = d .within in
-    let q = total-less ys x s (omega arith) (d .falls) in
-    omega arith
-
--- at most 255 falls a pixel
-pub falls-most :
-    (f : Picture) (xs : List ℕ) {c : ℕ} {ys : List ℕ} → ((i : ℕ) → getD xs i 0 ≤ 255) → length xs ≡ places f →
-    Falls f xs c ys → c ≤ 255 * places f
-falls-most f xs b e h = let r = falls-total f xs h in let q = total-bounded 255 xs (λ i h. b i) in omega arith

@@ -1,17 +1,20 @@
 -- What the loops over a winner tree keep: it is filled, built, replayed after a leaf has changed, and neighbours become candidates.
 use mathlib.Core.Path.{_≡_, refl, sym, ap, subst, _∙_}
-use mathlib.Core.Logic.{_⊎_, inl, inr, ⊎-elim, _≢_, by-cases}
+use mathlib.Core.Logic.{_⊎_, inl, inr, _≢_, by-cases}
 use mathlib.Core.List.{List}
 use Prim.Native.Nat.{ℕ, suc, _+_, _-_, _*_, _/_, _≤_, _<_}
 use native.Mathlib.Decide.{ℕ-discrete}
 use native.Mathlib.Omega.{arith}
 use lib.ListN.{length, getD, set, length-set}
 use lib.Seq.{getD-set-same, getD-set-other}
-use Rattle.watershed_laws.proofs.WinnerTree.{Better, Winner, Played, same, moved, winner-set, winner-leaf, winner-right}
+use Rattle.watershed_laws.proofs.WinnerTree.{Better, Candidate, better-candidate, Winner, Played, same, moved, winner-set, winner-leaf, winner-right}
 
--- a cell holds a place or 65535
-pub record Candidate (n c : ℕ) : Type 0 where
-  pub either : (c ≡ 65535) ⊎ (c < n)
+-- a winner tree of n places in 2 n cells, over n pixels
+pub record WinnerReady (n : ℕ) (g t : List ℕ) : Type 0 where
+  pub winner : Winner n g t 1 0
+  pub few : n ≤ 1600
+  pub pixels : length g ≡ n
+  pub cells : length t ≡ 2 * n
 
 -- after replays of the tree before the cell i is next; the leaves are as they were
 pub record Replaying (n : ℕ) (g before t : List ℕ) (i : ℕ) : Type 0 where
@@ -39,23 +42,20 @@ pub record Building (n : ℕ) (g t : List ℕ) (i : ℕ) : Type 0 where
   pub full : (x : ℕ) → x < n → getD t (n + x) 0 ≡ x
 
 -- candidates stay so, and the place y is one if its value is above s and at most k
-pub record Woken (n : ℕ) (g before : List ℕ) (s k y : ℕ) (t : List ℕ) : Type 0 where
+pub record MadeCandidate (n : ℕ) (g before : List ℕ) (s k y : ℕ) (t : List ℕ) : Type 0 where
   pub size : length t ≡ 2 * n
   pub winner : Winner n g t 1 0
   pub stay : (z : ℕ) → z < n → getD before (n + z) 0 ≡ z → getD t (n + z) 0 ≡ z
-  pub woken : s < getD g y 0 → getD g y 0 ≤ k → getD t (n + y) 0 ≡ y
+  pub made : s < getD g y 0 → getD g y 0 ≤ k → getD t (n + y) 0 ≡ y
 
 -- the same for the first i of the listed places ys
-pub record Waking (n : ℕ) (g before : List ℕ) (s k : ℕ) (ys t : List ℕ) (i : ℕ) : Type 0 where
+pub record MakingCandidates (n : ℕ) (g before : List ℕ) (s k : ℕ) (ys t : List ℕ) (i : ℕ) : Type 0 where
   pub size : length t ≡ 2 * n
   pub winner : Winner n g t 1 0
   pub stay : (z : ℕ) → z < n → getD before (n + z) 0 ≡ z → getD t (n + z) 0 ≡ z
-  pub woken :
+  pub made :
       (j : ℕ) → j < i → s < getD g (getD ys j 0) 0 → getD g (getD ys j 0) 0 ≤ k →
       getD t (n + getD ys j 0) 0 ≡ getD ys j 0
-
-pub fill-start : (n : ℕ) (t : List ℕ) → length t ≡ 2 * n → Filling n t 0
-fill-start n t e = record { size = e; set-below = λ x h. absurd (omega arith) }
 
 pub fill-turn : (n : ℕ) (t : List ℕ) (i : ℕ) → Filling n t i → i < n → Filling n (set t (n + i) i) (i + 1)
 fill-turn n t i p h =
@@ -77,10 +77,6 @@ played-less g t j after r h (same b e f) = omega arith
 played-less g t j after r h (moved c b e f) = omega arith
 
 module _ (n : ℕ) (g : List ℕ) where
-  -- a cell of the tree can be played
-  pub winner-cell : (t : List ℕ) (from hole i : ℕ) → Winner n g t from hole → from ≤ i → i < 2 * n → Candidate n (getD t i 0)
-  winner-cell t from hole i w h l = record { either = w .cell i h l }
-
   pub replay-turn :
       (before t : List ℕ) (i : ℕ) (after : List ℕ) (r : ℕ) →
       Replaying n g before t i → 1 ≤ i → Played g t i after r → Replaying n g before after r
@@ -135,7 +131,7 @@ module _ (n : ℕ) (g : List ℕ) where
                   let x = i - n in
                   let at : n + x ≡ i = omega arith in
                   let e = ap (λ (m : ℕ). getD t m 0) (sym at) ∙ p .set-below x (omega arith) in
-                  inr (omega arith);
+                  record { either = inr (omega arith) };
               node = λ i h l d. absurd (omega arith);
             };
       }
@@ -155,7 +151,9 @@ module _ (n : ℕ) (g : List ℕ) where
               cell =
                   λ j a l.
                   by-cases (ℕ-discrete j i)
-                  (λ q. subst (λ (m : ℕ). (getD t m 0 ≡ 65535) ⊎ (getD t m 0 < n)) (sym q) (own-cell b))
+                  (λ q.
+                  subst (λ (m : ℕ). Candidate n (getD t m 0)) (sym q)
+                  (better-candidate g n b (w .cell (2 * i) (omega arith) (omega arith)) (w .cell (2 * i + 1) (omega arith) (omega arith))))
                   (λ q. w .cell j (omega arith) l);
               node =
                   λ j a l d.
@@ -164,13 +162,6 @@ module _ (n : ℕ) (g : List ℕ) where
                   (λ q. w .node j (omega arith) l d);
             };
       })
-    where
-      own-cell : Better g (getD t (2 * i) 0) (getD t (2 * i + 1) 0) (getD t i 0) → (getD t i 0 ≡ 65535) ⊎ (getD t i 0 < n)
-      own-cell b =
-          ⊎-elim
-          (λ q. ⊎-elim (λ u. inl (q ∙ u)) (λ u. inr (omega arith)) (p .winner .cell (2 * i) (omega arith) (omega arith)))
-          (λ q. ⊎-elim (λ u. inl (q ∙ u)) (λ u. inr (omega arith)) (p .winner .cell (2 * i + 1) (omega arith) (omega arith)))
-          (b .either)
   build-down t i after r p some h (moved c b e f) =
       let w =
       winner-set n g t (suc i) 0 i i c (p .size) some h (omega arith)
@@ -192,8 +183,8 @@ module _ (n : ℕ) (g : List ℕ) where
       build-down t (k - 1) after r (subst (Building n g t) e p) (omega arith) (omega arith) q
 
   module _ (before : List ℕ) (s k y : ℕ) where
-    pub woken-now : (t : List ℕ) → Assigned n g before y y t → Woken n g before s k y t
-    woken-now t a =
+    pub candidate-made : (t : List ℕ) → Assigned n g before y y t → MadeCandidate n g before s k y t
+    candidate-made t a =
         record {
           size = a .size;
           winner = a .winner;
@@ -202,27 +193,27 @@ module _ (n : ℕ) (g : List ℕ) where
               by-cases (ℕ-discrete z y)
               (λ e. subst (λ (m : ℕ). getD t (n + m) 0 ≡ m) (sym e) (a .own))
               (λ d. a .other z h d ∙ q);
-          woken = λ p q. a .own;
+          made = λ p q. a .own;
         }
 
   module _ (before : List ℕ) (s k : ℕ) (ys : List ℕ) where
-    pub wake-turn :
+    pub making-turn :
         (t : List ℕ) (i : ℕ) (after : List ℕ) → getD ys i 0 < n →
         ((j : ℕ) → j < i → getD ys j 0 < n) →
-        Waking n g before s k ys t i → Woken n g t s k (getD ys i 0) after → Waking n g before s k ys after (i + 1)
-    wake-turn t i after inside places p q =
+        MakingCandidates n g before s k ys t i → MadeCandidate n g t s k (getD ys i 0) after → MakingCandidates n g before s k ys after (i + 1)
+    making-turn t i after inside places p q =
         record {
           size = q .size;
           winner = q .winner;
           stay = λ z h e. q .stay z h (p .stay z h e);
-          woken =
+          made =
               λ j h a b.
               by-cases (ℕ-discrete j i)
               (λ e.
               subst
               (λ (m : ℕ). s < getD g (getD ys m 0) 0 → getD g (getD ys m 0) 0 ≤ k → getD after (n + getD ys m 0) 0 ≡ getD ys m 0)
-              (sym e) (q .woken) a b)
+              (sym e) (q .made) a b)
               (λ d.
               let l : j < i = omega arith in
-              q .stay (getD ys j 0) (places j l) (p .woken j l a b));
+              q .stay (getD ys j 0) (places j l) (p .made j l a b));
         }

@@ -1,16 +1,18 @@
 -- The winner tree over the candidates: the cell n + x is the leaf of the place x, a cell i below n the better of the cells 2 i and 2 i + 1.
 use mathlib.Core.Path.{_≡_, refl, sym, ap, subst, _∙_}
 use mathlib.Core.Logic.{_⊎_, inl, inr, ⊎-elim, _≢_, by-cases}
-use mathlib.Core.List.{List}
+use mathlib.Core.Bool.{Bool, true, not, _&&_}
+use mathlib.Core.List.{List, List·Memᴰ}
 use Prim.Native.Nat.{ℕ, zero, suc, _+_, _-_, _*_, _/_, _≤_, _<_}
 use native.Mathlib.Decide.{ℕ-discrete, decLt}
 use native.Mathlib.Omega.{arith}
 use lib.Dec.{eqb}
 use lib.ListN.{length, getD, set}
 use lib.Seq.{getD-set-same, getD-set-other}
-use borrow.Author.Tests.{eqb-true, eq-eqb}
-use Rattle.lists.specs.Lists.{pick}
-use Rattle.lists.proofs.Tests.{on-pick, clash}
+use borrow.Author.Tests.{eq-eqb, ne-eqb, not-true}
+use Rattle.lists.specs.Lists.{tally, range}
+use Rattle.lists.proofs.Tests.{and-left, and-right, not-of-false, clash}
+use Rattle.lists.proofs.Lists.{tally-length, tally-same, tally-stronger, tally-equal, length-range, range-mem, mem-range}
 
 -- the candidate a is before b in the order of lowering by the values g, or is b; 65535, no candidate, is the last
 pub data Beats (g : List ℕ) (a b : ℕ) : Type 0 where
@@ -24,10 +26,14 @@ pub record Better (g : List ℕ) (a b r : ℕ) : Type 0 where
   pub left : Beats g r a
   pub right : Beats g r b
 
+-- c is a place or 65535
+pub record Candidate (n c : ℕ) : Type 0 where
+  pub either : (c ≡ 65535) ⊎ (c < n)
+
 -- t is a winner tree from the cell from on, but perhaps for the cell hole
 pub record Winner (n : ℕ) (g t : List ℕ) (from hole : ℕ) : Type 0 where
   pub leaf : (x : ℕ) → x < n → (getD t (n + x) 0 ≡ x) ⊎ (getD t (n + x) 0 ≡ 65535)
-  pub cell : (i : ℕ) → from ≤ i → i < 2 * n → (getD t i 0 ≡ 65535) ⊎ (getD t i 0 < n)
+  pub cell : (i : ℕ) → from ≤ i → i < 2 * n → Candidate n (getD t i 0)
   pub node : (i : ℕ) → from ≤ i → i < n → i ≢ hole → Better g (getD t (2 * i) 0) (getD t (2 * i + 1) 0) (getD t i 0)
 
 module _ (g : List ℕ) where
@@ -56,6 +62,9 @@ module _ (g : List ℕ) where
   pub better-right : (a b : ℕ) → Beats g b a → Better g a b b
   better-right a b h = record { either = inr refl; left = h; right = beats-refl b }
 
+  pub better-candidate : (n : ℕ) {a b r : ℕ} → Better g a b r → Candidate n a → Candidate n b → Candidate n r
+  better-candidate n h p q = ⊎-elim (λ e. subst (Candidate n) (sym e) p) (λ e. subst (Candidate n) (sym e) q) (h .either)
+
 -- a cell is played again: it holds the better of the two below it already, or is set to it
 pub data Played (g t : List ℕ) (j : ℕ) (after : List ℕ) (r : ℕ) : Type 0 where
   same : Better g (getD t (2 * j) 0) (getD t (2 * j + 1) 0) (getD t j 0) → after ≡ t → r ≡ 0 → Played g t j after r
@@ -77,8 +86,8 @@ module _ (n : ℕ) (g t : List ℕ) (from hole start j c : ℕ) where
         cell =
             λ i h l.
             by-cases (ℕ-discrete i j)
-            (λ q. subst (λ (m : ℕ). (getD (set t j c) m 0 ≡ 65535) ⊎ (getD (set t j c) m 0 < n)) (sym q) stored-cell)
-            (λ q. let e = other i q in ⊎-elim (λ u. inl (e ∙ u)) (λ u. inr (omega arith)) (w .cell i (apart i h q .0) l));
+            (λ q. subst (λ (m : ℕ). Candidate n (getD (set t j c) m 0)) (sym q) (subst (Candidate n) (sym stored) c-candidate))
+            (λ q. subst (Candidate n) (sym (other i q)) (w .cell i (apart i h q .0) l));
         node =
             λ i h l d.
             by-cases (ℕ-discrete i j)
@@ -96,17 +105,13 @@ module _ (n : ℕ) (g t : List ℕ) (from hole start j c : ℕ) where
       stored : getD (set t j c) j 0 ≡ c
       stored = getD-set-same t j c 0 (omega arith)
 
-      stored-cell : (getD (set t j c) j 0 ≡ 65535) ⊎ (getD (set t j c) j 0 < n)
-      stored-cell =
-          let e = stored in
+      c-candidate : Candidate n c
+      c-candidate =
           let d₁ : 2 * j ≢ j = λ q. omega arith in
           let d₂ : 2 * j + 1 ≢ j = λ q. omega arith in
-          ⊎-elim
-          (λ q.
-          ⊎-elim (λ u. inl (omega arith)) (λ u. inr (omega arith)) (w .cell (2 * j) (apart (2 * j) (omega arith) d₁ .0) (omega arith)))
-          (λ q.
-          ⊎-elim (λ u. inl (omega arith)) (λ u. inr (omega arith)) (w .cell (2 * j + 1) (apart (2 * j + 1) (omega arith) d₂ .0) (omega arith)))
-          (b .either)
+          better-candidate g n b
+          (w .cell (2 * j) (apart (2 * j) (omega arith) d₁ .0) (omega arith))
+          (w .cell (2 * j + 1) (apart (2 * j + 1) (omega arith) d₂ .0) (omega arith))
 
       stored-node : Better g (getD (set t j c) (2 * j) 0) (getD (set t j c) (2 * j + 1) 0) (getD (set t j c) j 0)
       stored-node =
@@ -135,8 +140,8 @@ module _ (n : ℕ) (g t : List ℕ) where
             by-cases (ℕ-discrete i (n + x))
             (λ q.
             let e : getD (set t (n + x) c) i 0 ≡ c = ap (λ (m : ℕ). getD (set t (n + x) c) m 0) q ∙ stored in
-            ⊎-elim (λ u. inr (omega arith)) (λ u. inl (e ∙ u)) is)
-            (λ q. let e = other i q in ⊎-elim (λ u. inl (e ∙ u)) (λ u. inr (omega arith)) (w .cell i h l));
+            record { either = ⊎-elim (λ u. inr (omega arith)) (λ u. inl (e ∙ u)) is })
+            (λ q. subst (Candidate n) (sym (other i q)) (w .cell i h l));
         node =
             λ i h l d.
             let e = other i (λ u. omega arith) in
@@ -240,39 +245,39 @@ module _ (n : ℕ) (g t : List ℕ) where
             let e₂ = getD-set-other g x b s 0 q in
             ties d (omega arith) l
 
--- how many of the first l leaves are set
-abbrev pub candidates : ℕ → List ℕ → ℕ → ℕ
-candidates n t zero = 0
-candidates n t (suc l) = pick (eqb (getD t (n + l) 0) 65535) 0 1 + candidates n t l
+-- the leaf of the place x is set
+abbrev isSet : ℕ → List ℕ → ℕ → Bool
+isSet n t x = not (eqb (getD t (n + x) 0) 65535)
 
-pub candidates-most : (n : ℕ) (t : List ℕ) (l : ℕ) → candidates n t l ≤ l
-candidates-most n t zero = omega arith
-candidates-most n t (suc l) =
-    let h = candidates-most n t l in
-    on-pick (λ (m : ℕ). m + candidates n t l ≤ suc l) (eqb (getD t (n + l) 0) 65535) (λ e. omega arith) (λ e. omega arith)
+-- how many leaves are set
+abbrev pub candidates : ℕ → List ℕ → ℕ
+candidates n t = tally (isSet n t) (range 0 n)
 
-module _ (n : ℕ) (t u : List ℕ) (x : ℕ) (set-before : getD t (n + x) 0 ≢ 65535) (unset : getD u (n + x) 0 ≡ 65535) (other : (z : ℕ) → z < n → z ≢ x → getD u (n + z) 0 ≡ getD t (n + z) 0) where
-  as-many : (l : ℕ) → l ≤ n → l ≤ x → candidates n u l ≡ candidates n t l
-  as-many zero h k = refl
-  as-many (suc l) h k =
-      let e = other l (omega arith) (λ q. omega arith) in
-      let r = as-many l (omega arith) (omega arith) in
-      rw (e, r)
+pub candidates-most : (n : ℕ) (t : List ℕ) → candidates n t ≤ n
+candidates-most n t = omega (arith, tally-length (isSet n t) (range 0 n), length-range 0 n)
 
+-- without one of the places that pass a test fewer pass
+tally-less : (t : ℕ → Bool) (l : List ℕ) (y : ℕ) → List·Memᴰ y l → t y ≡ true → tally (λ z. not (eqb z y) && t z) l < tally t l
+tally-less t l y m e =
+    by-cases (ℕ-discrete (tally s l) (tally t l))
+    (λ q. absurd (clash (eq-eqb y y refl) (not-true (eqb y y) (and-left (not (eqb y y)) (t y) (tally-equal s t l weaker q m e)))))
+    (λ q. omega (arith, tally-stronger s t l weaker))
+  where
+    s : ℕ → Bool
+    s z = not (eqb z y) && t z
+
+    weaker : (z : ℕ) → s z ≡ true → t z ≡ true
+    weaker z = and-right (not (eqb z y)) (t z)
+
+module _ (n : ℕ) (t u : List ℕ) (x : ℕ) (inside : x < n) (set-before : getD t (n + x) 0 ≢ 65535) (unset : getD u (n + x) 0 ≡ 65535) (other : (z : ℕ) → z < n → z ≢ x → getD u (n + z) 0 ≡ getD t (n + z) 0) where
   -- a leaf that is unset is a candidate less
-  pub candidates-fewer : (l : ℕ) → l ≤ n → x < l → candidates n u l < candidates n t l
-  candidates-fewer zero h k = absurd (omega arith)
-  candidates-fewer (suc l) h k =
-      by-cases (ℕ-discrete l x)
-      (λ q.
-      let r = as-many l (omega arith) (omega arith) in
-      on-pick (λ (m : ℕ). m + candidates n u l < pick (eqb (getD t (n + l) 0) 65535) 0 1 + candidates n t l) (eqb (getD u (n + l) 0) 65535)
-      (λ e.
-      on-pick (λ (m : ℕ). 0 + candidates n u l < m + candidates n t l) (eqb (getD t (n + l) 0) 65535)
-      (λ f. absurd (set-before (subst (λ (m : ℕ). getD t (n + m) 0 ≡ 65535) q (eqb-true (getD t (n + l) 0) 65535 f))))
-      (λ f. omega arith))
-      (λ e. absurd (clash (eq-eqb (getD u (n + l) 0) 65535 (subst (λ (m : ℕ). getD u (n + m) 0 ≡ 65535) (sym q) unset)) e)))
-      (λ q.
-      let e = other l (omega arith) q in
-      let r = candidates-fewer l (omega arith) (omega arith) in
-      rw e (omega arith))
+  pub candidates-fewer : candidates n u < candidates n t
+  candidates-fewer =
+      rw (tally-same (isSet n u) (λ z. not (eqb z x) && isSet n t z) (range 0 n) agree)
+      (tally-less (isSet n t) (range 0 n) x (mem-range 0 n (omega arith) (omega arith)) (not-of-false _ (ne-eqb _ _ set-before)))
+    where
+      agree : (z : ℕ) → List·Memᴰ z (range 0 n) → isSet n u z ≡ (not (eqb z x) && isSet n t z)
+      agree z m =
+          by-cases (ℕ-discrete z x)
+          (λ q. rw (eq-eqb z x q, eq-eqb (getD u (n + z) 0) 65535 (ap (λ (i : ℕ). getD u (n + i) 0) q ∙ unset)))
+          (λ q. rw (ne-eqb z x q, other z (omega (arith, range-mem 0 n m .1)) q))

@@ -5,8 +5,8 @@ ghost use mathlib.Core.Path.{_≡_};
 ghost use mathlib.Core.Logic.{_⊎_};
 ghost use Prim.Native.Nat.{_+_, _*_, _≤_, _<_};
 ghost use lib.ListN.{length, getD};
-ghost use Rattle.watershed_laws.proofs.WinnerTree.{Better, Winner, Played};
-ghost use Rattle.watershed_laws.proofs.WinnerSteps.{Candidate, Replaying, Assigned, Filling, Building, Woken, Waking};
+ghost use Rattle.watershed_laws.proofs.WinnerTree.{Better, Candidate, Played};
+ghost use Rattle.watershed_laws.proofs.WinnerSteps.{WinnerReady, Replaying, Assigned, Filling, Building, MadeCandidate, MakingCandidates};
 ghost use Rattle.watershed_laws.proofs.Stopping.{Places};
 
 // The mark of no candidate.
@@ -57,7 +57,7 @@ fn replay(pixels: &[u8], cells: &mut [u16], n: usize, i: usize)
 
 // Sets the leaf of a place to the place or to no candidate.
 pub fn assign(pixels: &[u8], cells: &mut [u16], n: usize, x: usize, c: u16)
-    requires { ⌜ Winner n (now pixels) (now cells) 1 0 × (n ≤ 1600) × (length (now pixels) ≡ n) × (length (now cells) ≡ 2 * n) × (x < n) × ((c ≡ x) ⊎ (c ≡ 65535)) ⌝ }
+    requires { ⌜ WinnerReady n (now pixels) (now cells) × (x < n) × ((c ≡ x) ⊎ (c ≡ 65535)) ⌝ }
     ensures { λ _. ⌜ Assigned n (now (pixels .entry)) (now (cells .entry)) x c (now (cells .exit)) ⌝ }
 {
     cells[n + x] = c;
@@ -65,7 +65,7 @@ pub fn assign(pixels: &[u8], cells: &mut [u16], n: usize, x: usize, c: u16)
 }
 
 // Sets every leaf to its place.
-fn fill(cells: &mut [u16], n: usize)
+fn fill_leaves(cells: &mut [u16], n: usize)
     requires { ⌜ (length (now cells) ≡ 2 * n) × (n ≤ 1600) ⌝ }
     ensures { λ _. ⌜ Filling n (now (cells .exit)) n ⌝ }
 {
@@ -77,11 +77,11 @@ fn fill(cells: &mut [u16], n: usize)
 }
 
 // Makes every place a candidate.
-pub fn build(pixels: &[u8], cells: &mut [u16], n: usize)
+pub fn build_winners(pixels: &[u8], cells: &mut [u16], n: usize)
     requires { ⌜ (length (now cells) ≡ 2 * n) × (1 ≤ n) × (n ≤ 1600) × (length (now pixels) ≡ n) ⌝ }
     ensures { λ _. ⌜ Building n (now (pixels .entry)) (now (cells .exit)) 1 ⌝ }
 {
-    fill(cells, n);
+    fill_leaves(cells, n);
     let mut i = n;
     while 1 < i {
         i -= 1;
@@ -90,9 +90,9 @@ pub fn build(pixels: &[u8], cells: &mut [u16], n: usize)
 }
 
 // Makes a place a candidate if its value is above the stop and at most k.
-fn wake(pixels: &[u8], cells: &mut [u16], n: usize, y: usize, stop: usize, k: usize)
-    requires { ⌜ Winner n (now pixels) (now cells) 1 0 × (n ≤ 1600) × (length (now pixels) ≡ n) × (length (now cells) ≡ 2 * n) × (y < n) ⌝ }
-    ensures { λ _. ⌜ Woken n (now (pixels .entry)) (now (cells .entry)) stop k y (now (cells .exit)) ⌝ }
+fn make_candidate(pixels: &[u8], cells: &mut [u16], n: usize, y: usize, stop: usize, k: usize)
+    requires { ⌜ WinnerReady n (now pixels) (now cells) × (y < n) ⌝ }
+    ensures { λ _. ⌜ MadeCandidate n (now (pixels .entry)) (now (cells .entry)) stop k y (now (cells .exit)) ⌝ }
 {
     let own = value(pixels[y]);
     if own <= stop {
@@ -108,7 +108,7 @@ fn wake(pixels: &[u8], cells: &mut [u16], n: usize, y: usize, stop: usize, k: us
 }
 
 // Makes candidates of the neighbours whose value is above the stop and at most k.
-pub fn wake_all(
+pub fn make_candidates(
     pixels: &[u8],
     cells: &mut [u16],
     n: usize,
@@ -117,12 +117,12 @@ pub fn wake_all(
     stop: usize,
     k: usize,
 )
-    requires { ⌜ Winner n (now pixels) (now cells) 1 0 × (n ≤ 1600) × (length (now pixels) ≡ n) × (length (now cells) ≡ 2 * n) × Places n (now near) m ⌝ }
-    ensures { λ _. ⌜ Waking n (now (pixels .entry)) (now (cells .entry)) stop k (now (near .entry)) (now (cells .exit)) m ⌝ }
+    requires { ⌜ WinnerReady n (now pixels) (now cells) × Places n (now near) m ⌝ }
+    ensures { λ _. ⌜ MakingCandidates n (now (pixels .entry)) (now (cells .entry)) stop k (now (near .entry)) (now (cells .exit)) m ⌝ }
 {
     let mut i = 0;
     while i < m {
-        wake(pixels, cells, n, wide(near[i]), stop, k);
+        make_candidate(pixels, cells, n, wide(near[i]), stop, k);
         i += 1;
     }
 }

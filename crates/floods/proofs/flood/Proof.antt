@@ -1,18 +1,19 @@
--- `floods::flood` meets its contract. The invariant is Flowing; twice the unmarked places with the stack's height fall.
+-- `floods::flood` meets its contract. The invariant is FloodRun; twice the unmarked places with the stack's height fall.
 use borrow.Author.Needs.{needs}
 use mathlib.Core.Path.{_≡_, _∙_}
-use Prim.Native.Nat.{suc, _+_, _*_, _-_, _≤_}
+use Prim.Native.Nat.{suc, _+_, _*_, _-_}
 use native.Mathlib.Omega.{arith}
 use lib.ListN.{set, length-set}
 use Rattle.picture.specs.Pictures.{Picture, pictureOf}
+use Rattle.picture.proofs.Neighbours.{placed-other}
 use Rattle.labelling_laws.proofs.Flood.{unmarked}
-use Rattle.floods.proofs.Floods.{Flowing, seed-some, flowing-start, flowing-top, flowing-room, flowing-turn, flowing-end}
+use Rattle.floods.proofs.Floods.{FloodRun, seed-some, run-start, run-top, run-room, run-turn, run-end}
 use Rattle.floods.proofs.flood.Statement.{statement}
 use Rattle.floods.proofs.flood.Tie as tie
 
 abbrev Inv-loop : tie.InvT-loop
 Inv-loop a w h pixels k x c labels₀ stack₀ t₀ labels stack t =
-    Flowing (pictureOf a w h pixels) k x c (set labels₀ x 0) stack₀ labels stack t
+    FloodRun (pictureOf a w h pixels) k x c (set labels₀ x 0) stack₀ labels stack t
 
 abbrev μ-loop : tie.MeasureT-loop
 μ-loop a w h pixels k x c labels₀ stack₀ t₀ labels stack t = 2 * unmarked labels + t
@@ -38,7 +39,7 @@ slice-write-stack c = search needs
 loop-holds : tie.Need-loop-holds Inv-loop μ-loop
 loop-holds c =
     let s = c .before .before .before in
-    flowing-start (pictureOf (s .args .a) (s .args .w) (s .args .h) (s .args .pixels .now)) _ _ _ _ _ (s .pre .1) (s .pre .2)
+    run-start (pictureOf (s .args .a) (s .args .w) (s .args .h) (s .args .pixels .now)) _ _ _ _ _ (s .pre .1) (s .pre .2)
 
 sub-wide : tie.Need-sub-wide Inv-loop μ-loop
 sub-wide c = search needs
@@ -62,10 +63,10 @@ spread-requires c κs =
     let s = top .before .before .before .before in
     let t = top .loop .t in
     let e : t ≡ suc (t - 1) = omega arith in
-    let below = flowing-top (pictured top) _ _ _ _ _ _ _ t (t - 1) e (top .loop .inv) in
+    let below = run-top (pictured top) _ _ _ _ _ _ _ t (t - 1) e (top .loop .inv) in
     let b = w .wide .ensures in (
-      record { some = s .pre .0 .some; wide = s .pre .0 .wide; high = s .pre .0 .high; inside = omega arith },
-      flowing-room (pictured top) _ _ _ _ _ _ _ t (t - 1) e (top .loop .inv),
+      placed-other (s .pre .0) (omega arith),
+      run-room (pictured top) _ _ _ _ _ _ _ t (t - 1) e (top .loop .inv),
       seed-some (pictured top) _ _ _ _ (s .pre .2),
     )
 
@@ -82,7 +83,7 @@ loop-again c =
     let top = g .before .before .before .before .before .before in
     let t = top .loop .t in
     let e : t ≡ suc (t - 1) = omega arith in
-    flowing-turn (pictured top) _ _ _ _ _ _ _ t (t - 1) e (top .loop .inv) _ _ _ _
+    run-turn (pictured top) _ _ _ _ _ _ _ t (t - 1) e (top .loop .inv) _ _ _ _
     (top .before .before .before .before .pre .0 .some)
     (g .before .before .before .wide .ensures)
     (g .spread .ensures)
@@ -98,9 +99,7 @@ returns c =
     let top = c .before in
     let s = top .before .before .before .before in
     let e : top .loop .t ≡ 0 = omega arith in
-    let n : 1 ≤ s .args .w * s .args .h = let b = s .pre .0 .inside in omega arith in
-    flowing-end (pictured top) _ _ _ _ _ _ _ _ (s .pre .2) n
-    e (top .loop .inv)
+    run-end (pictured top) _ _ _ _ _ _ _ _ (s .pre .2) e (top .loop .inv)
 
 pub flood-spec : {M : Type 1} → statement M
 flood-spec =

@@ -6,8 +6,8 @@ use mathlib.Core.Path.{_≡_, _∙_}
 use lib.ListN.{drop, getD}
 use Rattle.picture.proofs.Neighbours.{neighbour-at, listed-at}
 use Rattle.floods.proofs.Floods.{spread-next, spread-end}
-use Rattle.picture.specs.Geometry.{neighboursOf}
-use Rattle.picture.specs.Pictures.{pictureOf}
+use Rattle.picture.specs.Geometry.{neighboursOf, neighboursIn}
+use Rattle.picture.specs.Pictures.{Picture, pictureOf}
 use Rattle.floods.specs.Floods.{Spread}
 use Rattle.floods.proofs.spread.Statement.{statement}
 use Rattle.floods.proofs.spread.Tie as tie
@@ -19,12 +19,18 @@ Inv-loop a w h pixels k x c labels₀ stack₀ top near count t₀ i₀ labels s
 abbrev μ-loop : tie.MeasureT-loop
 μ-loop a w h pixels k x c labels₀ stack₀ top near count t₀ i₀ labels stack t i = count - i
 
+-- the start of a call, and the picture of its arguments
+abbrev start : tie.At-loop Inv-loop μ-loop → tie.Start Inv-loop μ-loop
+start top = top .before .before .before .before .before .before .before
+
+abbrev pictured : tie.At-loop Inv-loop μ-loop → Picture
+pictured top = pictureOf (start top .args .a) (start top .args .w) (start top .args .h) (start top .args .pixels .now)
+
 -- the place that is visited is the neighbour at index i
 near-is :
     (c : tie.After-wide Inv-loop μ-loop) →
     let top = c .before .before in
-    let s = top .before .before .before .before .before .before .before in
-    c .wide .result ≡ getD (neighboursOf (s .args .a) (s .args .w) (s .args .h) (s .args .x)) (top .loop .i) 0
+    c .wide .result ≡ getD (neighboursIn (pictured top) (start top .args .x)) (top .loop .i) 0
 near-is c =
     let top = c .before .before in
     c .wide .ensures ∙ listed-at _ _ _ _ (top .before .before .neighbours .ensures) (top .loop .i) (c .before .loop-test .taken)
@@ -50,12 +56,10 @@ wide-requires c κs = search needs
 visit-requires : tie.Need-visit-requires Inv-loop μ-loop
 visit-requires c κs =
     let top = c .before .before .before .before in
-    let s = top .before .before .before .before .before .before .before in
-    let p = pictureOf (s .args .a) (s .args .w) (s .args .h) (s .args .pixels .now) in
     let n = top .before .before .neighbours .ensures .count in
-    let size = s .pre .1 .pixel in (
+    let size = start top .pre .1 .pixel in (
       search needs,
-      omega (arith, near-is (c .before .before), neighbour-at p (s .args .x) (top .loop .i) (omega arith) .0),
+      omega (arith, near-is (c .before .before), neighbour-at (pictured top) (start top .args .x) (top .loop .i) (omega arith) .0),
     )
 
 add-i : tie.Need-add-i Inv-loop μ-loop
@@ -68,11 +72,10 @@ loop-again : tie.Need-loop-again Inv-loop μ-loop
 loop-again c =
     let v = c .before .before .before .before in
     let top = v .before .before .before .before .before in
-    let s = top .before .before .before .before .before .before .before in
-    let p = pictureOf (s .args .a) (s .args .w) (s .args .h) (s .args .pixels .now) in
+    let p = start top .pre in
     let n = top .before .before .neighbours .ensures .count in (
       search needs,
-      spread-next p _ _ _ (top .loop .i) _ _ _ _ _ _ _ _ _ _ (s .pre .1) (omega arith) (near-is (v .before .before .before)) (s .pre .2)
+      spread-next (pictured top) _ _ _ (top .loop .i) _ _ _ _ _ _ _ _ _ _ (p .1) (omega arith) (near-is (v .before .before .before)) (p .2)
           (top .loop .inv .1) (v .visit .ensures),
     )
 
@@ -85,10 +88,8 @@ same-length-2 c = search needs
 returns : tie.Need-returns Inv-loop μ-loop
 returns c =
     let top = c .before in
-    let s = top .before .before .before .before .before .before .before in
-    let p = pictureOf (s .args .a) (s .args .w) (s .args .h) (s .args .pixels .now) in
     let n = top .before .before .neighbours .ensures .count in
-    spread-end p _ _ _ (top .loop .i) _ _ _ _ _ _ (omega arith) (top .loop .inv .1)
+    spread-end (pictured top) _ _ _ (top .loop .i) _ _ _ _ _ _ (omega arith) (top .loop .inv .1)
 
 pub spread-spec : {M : Type 1} → statement M
 spread-spec =

@@ -32,7 +32,7 @@ most : (s : tie.Start) → (s .args .count ≤ size s) × (size s ≤ 1600)
 most s = count-most (pictured s) (s .args .count) (size s) (s .args .work .now) (s .args .cells .now) (ok s) (ok s .size) (long s) (s .pre .2)
 
 mapped : (s : tie.Start) → PatchMap (pictured s) (s .args .cells .now)
-mapped s = record { size = s .pre .1 .beside; patch = s .pre .2 .map }
+mapped s = s .pre .2 .map
 
 mul-rows : tie.Need-mul-rows
 mul-rows c = search needs

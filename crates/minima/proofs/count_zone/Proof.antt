@@ -1,11 +1,15 @@
 -- `minima::count_zone` meets its contract: each return is one law of the count.
 use native.Mathlib.Omega.{arith}
 use borrow.Author.Needs.{needs}
-use Rattle.picture.specs.Pictures.{pictureOf}
+use Rattle.picture.specs.Pictures.{Picture, pictureOf}
 use Rattle.topology.proofs.Accepted.{accepted-is}
 use Rattle.minima.proofs.Floods.{counting-few, counting-placed, counting-sizes, counting-seed, counting-seen, counting-lower, counting-minimum}
 use Rattle.minima.proofs.count_zone.Statement.{statement}
 use Rattle.minima.proofs.count_zone.Tie as tie
+
+-- the picture of the arguments
+abbrev pictured : tie.Start → Picture
+pictured s = pictureOf (s .args .a) (s .args .w) (s .args .h) (s .args .pixels .now)
 
 mul-if1 : tie.Need-mul-if1
 mul-if1 c = search needs
@@ -18,12 +22,11 @@ returns c = let s = c .before .before .before .before in counting-seen _ _ _ _ (
 
 flood-requires : tie.Need-flood-requires
 flood-requires c κs =
-    let s = c .before .before .before .before .before in
-    let p = pictureOf (s .args .a) (s .args .w) (s .args .h) (s .args .pixels .now) in (
-      counting-placed p _ _ _ (s .pre .0) (s .pre .1),
-      counting-sizes p _ _ _ (s .pre .0) (s .pre .1),
-      accepted-is p (s .pre .0 .accepted) .size,
-      counting-seed p _ _ _ (s .pre .0) (s .pre .1) (c .before .if1 .left),
+    let s = c .before .before .before .before .before in (
+      counting-placed (pictured s) _ _ _ (s .pre .0) (s .pre .1),
+      counting-sizes (pictured s) _ _ _ (s .pre .0) (s .pre .1),
+      accepted-is (pictured s) (s .pre .0 .accepted) .size,
+      counting-seed (pictured s) _ _ _ (s .pre .0) (s .pre .1) (c .before .if1 .left),
     )
 
 same-length : tie.Need-same-length
@@ -32,14 +35,12 @@ same-length c = search needs
 returns-2 : tie.Need-returns-2
 returns-2 c =
     let s = c .before .before .before .before .before .before .before .before .before in
-    let p = pictureOf (s .args .a) (s .args .w) (s .args .h) (s .args .pixels .now) in
-    counting-lower p _ _ _ (s .pre .0) (s .pre .1) (c .before .before .before .before .before .if1 .left) _ _ (c .before .before .before .flood .ensures) (search needs) (c .if2 .taken)
+    counting-lower (pictured s) _ _ _ (s .pre .0) (s .pre .1) (c .before .before .before .before .before .if1 .left) _ _ (c .before .before .before .flood .ensures) (search needs) (c .if2 .taken)
 
 add-result : tie.Need-add-result
 add-result c =
     let s = c .before .before .before .before .before .before .before .before .before in
-    let p = pictureOf (s .args .a) (s .args .w) (s .args .h) (s .args .pixels .now) in
-    omega (arith, counting-few p _ _ _ (s .pre .0) (s .pre .1))
+    omega (arith, counting-few (pictured s) _ _ _ (s .pre .0) (s .pre .1))
 
 same-length-2 : tie.Need-same-length-2
 same-length-2 c = search needs
@@ -47,8 +48,7 @@ same-length-2 c = search needs
 returns-3 : tie.Need-returns-3
 returns-3 c =
     let s = c .before .before .before .before .before .before .before .before .before in
-    let p = pictureOf (s .args .a) (s .args .w) (s .args .h) (s .args .pixels .now) in
-    counting-minimum p _ _ _ (s .pre .0) (s .pre .1) (c .before .before .before .before .before .if1 .left) _ _ (c .before .before .before .flood .ensures) (search needs) (c .if2 .left)
+    counting-minimum (pictured s) _ _ _ (s .pre .0) (s .pre .1) (c .before .before .before .before .before .if1 .left) _ _ (c .before .before .before .flood .ensures) (search needs) (c .if2 .left)
 
 pub count-zone-spec : {M : Type 1} → statement M
 count-zone-spec =

@@ -6,9 +6,9 @@ use lib.ListN.{getD, drop}
 use borrow.Author.Needs.{needs}
 use Rattle.picture.specs.Geometry.{neighboursOf, Placed}
 use Rattle.picture.proofs.Neighbours.{neighbour-at, listed-at}
-use Rattle.picture.specs.Pictures.{pictureOf}
+use Rattle.picture.specs.Pictures.{Picture, pictureOf}
 use Rattle.minima.specs.Minima.{ZoneSpread}
-use Rattle.minima.proofs.Floods.{spread-none, spread-next, spread-room, spread-turn}
+use Rattle.minima.proofs.Floods.{zone-moved-room, spread-none, spread-next, spread-turn}
 use Rattle.minima.proofs.spread.Statement.{statement}
 use Rattle.minima.proofs.spread.Tie as tie
 
@@ -20,13 +20,19 @@ Inv-loop a w h pixels k cells₀ x near count s₀ i₀ cells s i =
 abbrev μ-loop : tie.MeasureT-loop
 μ-loop a w h pixels k cells₀ x near count s₀ i₀ cells s i = count - i
 
+-- the picture of the arguments
+abbrev pictured : tie.Start Inv-loop μ-loop → Picture
+pictured s = pictureOf (s .args .a) (s .args .w) (s .args .h) (s .args .pixels .now)
+
 -- the place that is visited is the neighbour at index i
 near-is :
     (c : tie.After-wide2 Inv-loop μ-loop) →
-    let s = c .before .before .before .before .before .before .before .before .before .before .before in
-    c .wide2 .result ≡ getD (neighboursOf (s .args .a) (s .args .w) (s .args .h) (c .before .before .before .before .before .before .before .before .wide .result)) (c .before .before .loop .i) 0
+    let top = c .before .before in
+    let s = top .before .before .before .before .before .before .before .before .before in
+    c .wide2 .result ≡ getD (neighboursOf (s .args .a) (s .args .w) (s .args .h) (top .before .before .before .before .before .before .wide .result)) (top .loop .i) 0
 near-is c =
-    c .wide2 .ensures ∙ listed-at _ _ _ _ (c .before .before .before .before .before .before .neighbours .ensures) (c .before .before .loop .i) (c .before .loop-test .taken)
+    let top = c .before .before in
+    c .wide2 .ensures ∙ listed-at _ _ _ _ (top .before .before .before .before .neighbours .ensures) (top .loop .i) (c .before .loop-test .taken)
 
 wide-requires : tie.Need-wide-requires Inv-loop μ-loop
 wide-requires c κs = search needs
@@ -72,12 +78,12 @@ wide-requires-2 c κs = search needs
 
 visit-requires : tie.Need-visit-requires Inv-loop μ-loop
 visit-requires c κs =
-    let s = c .before .before .before .before .before .before .before .before .before .before .before .before in
-    let p = pictureOf (s .args .a) (s .args .w) (s .args .h) (s .args .pixels .now) in
-    let n = c .before .before .before .before .before .before .before .neighbours .ensures .count in
+    let top = c .before .before .before in
+    let s = top .before .before .before .before .before .before .before .before .before in
+    let n = top .before .before .before .before .neighbours .ensures .count in
     let e = s .pre .2 in (
-      spread-room p _ _ _ _ _ _ _ _ _ _ (s .pre .1) (c .before .before .before .loop .inv .1),
-      omega (arith, near-is (c .before), neighbour-at p (c .before .before .before .before .before .before .before .before .before .wide .result) (c .before .before .before .loop .i) (omega arith) .0),
+      zone-moved-room _ _ _ _ _ _ (s .pre .1) (top .loop .inv .1 .moved),
+      omega (arith, near-is (c .before), neighbour-at (pictured s) (top .before .before .before .before .before .before .wide .result) (top .loop .i) (omega arith) .0),
     )
 
 add-i : tie.Need-add-i Inv-loop μ-loop
@@ -88,11 +94,12 @@ loop-less c = search needs
 
 loop-again : tie.Need-loop-again Inv-loop μ-loop
 loop-again c =
-    let s = c .before .before .before .before .before .before .before .before .before .before .before .before .before .before .before in
-    let p = pictureOf (s .args .a) (s .args .w) (s .args .h) (s .args .pixels .now) in
-    let n = c .before .before .before .before .before .before .before .before .before .before .neighbours .ensures .count in (
+    let top = c .before .before .before .before .before .before in
+    let s = top .before .before .before .before .before .before .before .before .before in
+    let n = top .before .before .before .before .neighbours .ensures .count in (
       search needs,
-      spread-next p _ _ (c .before .before .before .before .before .before .loop .i) _ _ _ _ _ _ _ (omega arith) (near-is (c .before .before .before .before)) (c .before .before .before .before .before .before .loop .inv .1) (c .before .before .visit .ensures),
+      spread-next (pictured s) _ _ (top .loop .i) _ _ _ _ _ _ _ (omega arith) (near-is (c .before .before .before .before)) (top .loop .inv .1)
+          (c .before .before .visit .ensures),
     )
 
 same-length : tie.Need-same-length Inv-loop μ-loop
@@ -100,10 +107,10 @@ same-length c = search needs
 
 returns : tie.Need-returns Inv-loop μ-loop
 returns c =
-    let s = c .before .before .before .before .before .before .before .before .before .before in
-    let p = pictureOf (s .args .a) (s .args .w) (s .args .h) (s .args .pixels .now) in
-    let n = c .before .before .before .before .before .neighbours .ensures .count in
-    spread-turn p _ _ _ (s .args .stack) _ _ (c .before .loop .i) (s .pre .0 .some) (c .before .before .before .before .before .before .before .wide .ensures) (s .pre .3) (omega arith) (c .before .loop .inv .1)
+    let top = c .before in
+    let s = top .before .before .before .before .before .before .before .before .before in
+    let n = top .before .before .before .before .neighbours .ensures .count in
+    spread-turn (pictured s) _ _ _ (s .args .stack) _ _ (top .loop .i) (s .pre .0 .some) (top .before .before .before .before .before .before .wide .ensures) (s .pre .3) (omega arith) (top .loop .inv .1)
 
 pub spread-spec : {M : Type 1} → statement M
 spread-spec =

@@ -10,10 +10,10 @@ use Rattle.patch_sums.proofs.put_sums.Statement.{statement}
 use Rattle.patch_sums.proofs.put_sums.Tie as tie
 
 abbrev Inv-loop : tie.InvT-loop
-Inv-loop w h n map work₀ row₀ work row = (row ≤ h) × Sums w n (row * w) map work₀ work
+Inv-loop w h n numbers work₀ row₀ work row = (row ≤ h) × Sums w n (row * w) numbers work₀ work
 
 abbrev μ-loop : tie.MeasureT-loop
-μ-loop w h n map work₀ row₀ work row = h - row
+μ-loop w h n numbers work₀ row₀ work row = h - row
 
 mul-fill : tie.Need-mul-fill Inv-loop μ-loop
 mul-fill c = search needs

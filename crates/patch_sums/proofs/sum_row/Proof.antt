@@ -8,10 +8,10 @@ use Rattle.patch_sums.proofs.sum_row.Statement.{statement}
 use Rattle.patch_sums.proofs.sum_row.Tie as tie
 
 abbrev Inv-loop : tie.InvT-loop
-Inv-loop w n row map work₀ narrow run₀ column₀ work run column = (column ≤ w) × RowSummed w n row column map work₀ run work
+Inv-loop w n row numbers work₀ narrow run₀ column₀ work run column = (column ≤ w) × RowSummed w n row column numbers work₀ run work
 
 abbrev μ-loop : tie.MeasureT-loop
-μ-loop w n row map work₀ narrow run₀ column₀ work run column = w - column
+μ-loop w n row numbers work₀ narrow run₀ column₀ work run column = w - column
 
 cast-narrow : tie.Need-cast-narrow Inv-loop μ-loop
 cast-narrow c = let s = c .before .before in omega (arith, row-few _ _ _ (s .pre .0) _ (s .pre .1))

@@ -18,14 +18,14 @@ add-replay c = search needs
 
 replay-requires : tie.Need-replay-requires
 replay-requires c κs = let p = c .before .before .before .pre in
-    (replay-start _ _ _ _ _ (p .3) (p .4) (p .5) (p .0), p .1, p .2)
+    (replay-start _ _ _ _ _ (p .0 .cells) (p .1) (p .2) (p .0 .winner), p .0 .few, p .0 .pixels)
 
 same-length : tie.Need-same-length
 same-length c = search needs
 
 returns : tie.Need-returns
 returns c = let p = c .before .before .before .before .before .before .pre in
-    replay-end _ _ _ _ _ _ (p .3) (p .4) (c .before .before .replay .ensures)
+    replay-end _ _ _ _ _ _ (p .0 .cells) (p .1) (c .before .before .replay .ensures)
 
 pub assign-spec : {M : Type 1} → statement M
 assign-spec =

@@ -1,6 +1,6 @@
 -- `winner::replay` meets its contract. The invariant is Replaying: one cell may be wrong, the next to play.
 use mathlib.Core.Path.{_≡_, subst}
-use Rattle.watershed_laws.proofs.WinnerSteps.{played-less, Replaying, replay-turn, winner-cell}
+use Rattle.watershed_laws.proofs.WinnerSteps.{played-less, Replaying, replay-turn}
 use native.Mathlib.Omega.{arith}
 use borrow.Author.Needs.{needs}
 use Rattle.winner.proofs.replay.Statement.{statement}
@@ -20,8 +20,8 @@ play-requires c κs = let p = c .before .before .before .before .before .pre in
     let l = c .before .before .loop .inv in (
       omega arith,
       omega arith,
-      rw (p .2) (winner-cell _ _ _ _ _ _ (l .winner) (omega arith) (omega arith)),
-      rw (p .2) (winner-cell _ _ _ _ _ _ (l .winner) (omega arith) (omega arith)),
+      rw (p .2) (l .winner .cell _ (omega arith) (omega arith)),
+      rw (p .2) (l .winner .cell _ (omega arith) (omega arith)),
     )
 
 loop-less : tie.Need-loop-less Inv-loop μ-loop

@@ -15,17 +15,17 @@ value-requires c κs = search needs
 returns : tie.Need-returns
 returns c = above (omega arith)
 
-meeting-requires : tie.Need-meeting-requires
-meeting-requires c κs = search needs
+meeting-height-requires : tie.Need-meeting-height-requires
+meeting-height-requires c κs = search needs
 
 returns-2 : tie.Need-returns-2
-returns-2 c = early _ (c .before .meeting .ensures) (inl (omega arith))
+returns-2 c = early _ (c .before .meeting-height .ensures) (inl (omega arith))
 
 returns-3 : tie.Need-returns-3
-returns-3 c = early _ (c .before .before .meeting .ensures) (inr (c .if3 .taken))
+returns-3 c = early _ (c .before .before .meeting-height .ensures) (inr (c .if3 .taken))
 
 returns-4 : tie.Need-returns-4
-returns-4 c = late (omega arith) (c .before .before .meeting .ensures) (omega arith) (omega arith)
+returns-4 c = late (omega arith) (c .before .before .meeting-height .ensures) (omega arith) (omega arith)
 
 pub raise-spec : {M : Type 1} → statement M
 raise-spec =
@@ -34,7 +34,7 @@ raise-spec =
     shared-slice-read-value
     value-requires
     returns
-    meeting-requires
+    meeting-height-requires
     returns-2
     returns-3
     returns-4)

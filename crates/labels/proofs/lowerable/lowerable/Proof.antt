@@ -4,7 +4,7 @@ use native.Mathlib.Omega.{arith}
 use lib.ListN.{length-replicate}
 use Rattle.picture.specs.Pictures.{Picture, pictureOf}
 use Rattle.topology.proofs.Accepted.{accepted-is, placed}
-use Rattle.labels.proofs.Lowering.{stack-ready, labels-small, value-none, lower-end}
+use Rattle.labels.proofs.LowerableTest.{stack-ready, labels-small, value-none, lower-end}
 use borrow.Author.Needs.{needs}
 use Rattle.labels.proofs.lowerable.lowerable.Statement.{statement}
 use Rattle.labels.proofs.lowerable.lowerable.Tie as tie

@@ -5,15 +5,15 @@ use Prim.Native.Nat.{_-_, _≤_}
 use native.Mathlib.Omega.{arith}
 use lib.ListN.{length}
 use Rattle.picture.specs.Pictures.{Picture, pictureOf}
-use Rattle.labels.specs.Labels.{LabelsBefore}
+use Rattle.labelling_laws.proofs.Labelled.{Labelled}
 use Rattle.topology.proofs.Accepted.{accepted-is}
-use Rattle.labels.proofs.Scans.{scan-start, scan-ready, scan-turn, scan-end}
+use Rattle.labels.proofs.Scans.{scan-start, scan-ready, scan-end}
 use Rattle.labels.proofs.scan.label.Statement.{statement}
 use Rattle.labels.proofs.scan.label.Tie as tie
 
 abbrev Inv-loop : tie.InvT-loop
 Inv-loop a w h pixels k labels₀ stack₀ n c₀ x₀ labels stack c x =
-    (x ≤ n) × (length stack ≡ length stack₀) × LabelsBefore (pictureOf a w h pixels) k x c labels stack₀ stack
+    (x ≤ n) × (length stack ≡ length stack₀) × Labelled (pictureOf a w h pixels) k x c labels
 
 abbrev μ-loop : tie.MeasureT-loop
 μ-loop a w h pixels k labels₀ stack₀ n c₀ x₀ labels stack c x = n - x
@@ -32,7 +32,7 @@ loop-holds c =
     let s = c .before .before .before .before .before .before .before in (
       search needs,
       search needs,
-      scan-start (pictured s) _ _ _ _ _ (s .pre .label) (accepted-is (pictured s) (s .pre .accepted) .size) (c .before .before .clear .ensures),
+      scan-start (pictured s) _ _ _ _ (s .pre .label) (accepted-is (pictured s) (s .pre .accepted) .size) (c .before .before .clear .ensures),
     )
 
 label-place-requires : tie.Need-label-place-requires Inv-loop μ-loop
@@ -41,7 +41,7 @@ label-place-requires c κs =
     let s = top .before .before .before .before .before .before .before .before in
     let inv = top .loop .inv in (
       scan-ready (pictured s) _ _ _ _ _ _ _ (s .pre) (inv .1) (inv .2),
-      inv .2 .labelled,
+      inv .2,
       omega (arith, accepted-is (pictured s) (s .pre .accepted) .size),
     )
 
@@ -57,7 +57,7 @@ loop-again c =
     let inv = v .before .before .before .before .loop .inv in (
       search needs,
       v .label-place .kept .1 .1 .1 .1 .1 .1 .1 .1 .0 ∙ inv .1,
-      scan-turn _ _ _ _ _ _ _ _ _ _ (inv .2) (v .label-place .ensures),
+      v .label-place .ensures,
     )
 
 same-length : tie.Need-same-length Inv-loop μ-loop
@@ -71,7 +71,7 @@ returns c =
     let top = c .before in
     let s = top .before .before .before .before .before .before .before .before in
     let n = accepted-is (pictured s) (s .pre .accepted) .size in
-    scan-end (pictured s) _ _ _ _ _ _ (omega arith) (top .loop .inv .2)
+    scan-end (pictured s) _ _ _ _ (omega arith) (top .loop .inv .2)
 
 pub label-spec : {M : Type 1} → statement M
 label-spec =

@@ -75,7 +75,7 @@ returns-3 c =
     scan-flood (pictured s) _ _ (s .pre .0) _ _ _ (s .pre .2) (s .pre .1)
     (sym (t .ensures) ∙ not-false (t .result) (e .before .before .if1 .left))
     (e .if2 .left)
-    _ _ (f .flood .kept .1 .1 .1 .1 .1 .1 .1 .0) (f .flood .ensures)
+    _ (f .flood .kept .1 .1 .1 .1 .1 .1 .1 .0) (f .flood .ensures)
 
 pub label-place-spec : {M : Type 1} → statement M
 label-place-spec =

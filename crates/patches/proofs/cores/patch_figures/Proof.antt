@@ -1,7 +1,7 @@
 -- `patches::cores::patch_figures` meets its contract: the builder leaves what the figures want.
 use borrow.Author.Needs.{needs}
 use Rattle.picture.specs.Pictures.{pictureOf}
-use Rattle.patches.proofs.Figuring.{built-tree, built-sizes}
+use Rattle.patches.proofs.FigureLaws.{built-tree, built-sizes}
 use Rattle.patches.proofs.cores.patch_figures.Statement.{statement}
 use Rattle.patches.proofs.cores.patch_figures.Tie as tie
 

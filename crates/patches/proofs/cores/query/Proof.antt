@@ -1,7 +1,7 @@
 -- `patches::cores::query` meets its contract: the builder leaves what the patch of a place wants.
 use borrow.Author.Needs.{needs}
 use Rattle.picture.specs.Pictures.{pictureOf}
-use Rattle.patches.proofs.Figuring.{built-tree, built-sizes}
+use Rattle.patches.proofs.FigureLaws.{built-tree, built-sizes}
 use Rattle.patches.proofs.cores.query.Statement.{statement}
 use Rattle.patches.proofs.cores.query.Tie as tie
 

@@ -1,7 +1,7 @@
 -- `patches::figures::depth` meets its contract: by the father, or by the largest pixel.
 use mathlib.Core.Path.{_∙_}
 use borrow.Author.Needs.{needs}
-use Rattle.patches.proofs.Charting.{depth-below, depth-top}
+use Rattle.patches.proofs.Depths.{depth-below, depth-top}
 use Rattle.patches.proofs.figures.depth.Statement.{statement}
 use Rattle.patches.proofs.figures.depth.Tie as tie
 

@@ -1,11 +1,14 @@
 -- `patches::figures::figures` meets its contract: the numbers, the patch of each place, the depths and heights, the sums.
 use mathlib.Core.Path.{refl, _∙_}
 use borrow.Author.Needs.{needs}
-use Rattle.picture.specs.Pictures.{pictureOf}
-use Rattle.topology.proofs.Accepted.{accepted-is}
-use Rattle.patches.proofs.Figuring.{tree-mapped, tree-few, numbered-mapped, numbered-size, patched-frame, figures-all}
+use Rattle.picture.specs.Pictures.{Picture, pictureOf}
+use Rattle.patches.proofs.FigureLaws.{tree-mapped, tree-few, numbered-mapped, numbered-sizes, patched-frame, figures-all}
 use Rattle.patches.proofs.figures.figures.Statement.{statement}
 use Rattle.patches.proofs.figures.figures.Tie as tie
+
+-- the picture of the arguments
+abbrev pictured : tie.Start → Picture
+pictured s = pictureOf (s .args .a) (s .args .w) (s .args .h) (s .args .pixels .now)
 
 mul-n : tie.Need-mul-n
 mul-n c = search needs
@@ -13,20 +16,14 @@ mul-n c = search needs
 number-requires : tie.Need-number-requires
 number-requires c κs =
     let s = c .before .before .before .before .before in
-    let p = pictureOf (s .args .a) (s .args .w) (s .args .h) (s .args .pixels .now) in
-    (s .pre .1, tree-mapped p _ _ (s .pre .0), tree-few p _ _ (s .pre .0))
+    (s .pre .1, tree-mapped (pictured s) _ _ (s .pre .0), tree-few (pictured s) _ _ (s .pre .0))
 
 map-patches-requires : tie.Need-map-patches-requires
 map-patches-requires c κs =
-    let s = c .before .before .before .before .before .before .before .before .before .before .before .before in
-    let p = pictureOf (s .args .a) (s .args .w) (s .args .h) (s .args .pixels .now) in
-    let l = c .before .before .before .before .before .before .number .ensures in (
-      record {
-        few = s .pre .1 .few;
-        blocks = numbered-size p _ _ (s .pre .0) _ _ l ∙ s .pre .1 .blocks;
-        beside = accepted-is p (s .pre .0 .accepted) .size;
-      },
-      numbered-mapped p _ _ (s .pre .0) _ _ l,
+    let l = c .before .before .before .before .before .before in
+    let s = l .before .before .before .before .before .before in (
+      numbered-sizes (pictured s) _ _ (s .pre .0) _ _ (l .number .ensures) _ (s .pre .1),
+      numbered-mapped (pictured s) _ _ (s .pre .0) _ _ (l .number .ensures),
       let z = s .pre .1 .beside in search needs,
     )
 
@@ -38,26 +35,22 @@ cell-of-requires c κs = search needs
 
 put-patches-requires : tie.Need-put-patches-requires
 put-patches-requires c κs =
-    let s = c .before .before .before .before .before .before .before .before .before .before .before .before .before .before .before .before .before .before .before in
-    let p = pictureOf (s .args .a) (s .args .w) (s .args .h) (s .args .pixels .now) in
-    let l = c .before .before .before .before .before .before .before .before .before .before .before .before .before .number .ensures in (
-      record {
-        few = s .pre .1 .few;
-        blocks = numbered-size p _ _ (s .pre .0) _ _ l ∙ s .pre .1 .blocks;
-        beside = accepted-is p (s .pre .0 .accepted) .size;
-      },
+    let l = c .before .before .before .before .before .before .before .before .before .before .before .before .before in
+    let s = l .before .before .before .before .before .before in (
+      numbered-sizes (pictured s) _ _ (s .pre .0) _ _ (l .number .ensures) _ (s .pre .1),
       let z = s .pre .1 .beside in search needs,
-      numbered-mapped p _ _ (s .pre .0) _ _ l,
+      numbered-mapped (pictured s) _ _ (s .pre .0) _ _ (l .number .ensures),
     )
 
 put-sums-requires : tie.Need-put-sums-requires
 put-sums-requires c κs =
-    let s = c .before .before .before .before .before .before .before .before .before .before .before .before .before .before .before .before .before .before .before .before .before .before .before .before in
-    let p = pictureOf (s .args .a) (s .args .w) (s .args .h) (s .args .pixels .now) in
-    let l = c .before .before .before .before .before .before .before .before .before .before .before .before .before .before .before .before .before .before .number .ensures in (
-      patched-frame p _ _ (s .pre .0) _ _ l _ (let z = s .pre .1 .beside in search needs) (c .before .before .before .before .before .before .before .before .before .before .before .map-patches .ensures),
+    let q = c .before .before .before .before in
+    let m = q .before .before .before .before .before .before .before in
+    let l = m .before .before .before .before .before .before .before in
+    let s = l .before .before .before .before .before .before in (
+      patched-frame (pictured s) _ _ (s .pre .0) _ _ (l .number .ensures) _ (let z = s .pre .1 .beside in search needs) (m .map-patches .ensures),
       refl,
-      c .before .before .before .before .put-patches .ensures .kept .size ∙ (numbered-size p _ _ (s .pre .0) _ _ l ∙ s .pre .1 .blocks),
+      q .put-patches .ensures .kept .size ∙ numbered-sizes (pictured s) _ _ (s .pre .0) _ _ (l .number .ensures) _ (s .pre .1) .blocks,
     )
 
 same-length : tie.Need-same-length
@@ -68,12 +61,13 @@ same-length-2 c = search needs
 
 returns : tie.Need-returns
 returns c =
-    let s = c .before .before .before .before .before .before .before .before .before .before .before .before .before .before .before .before .before .before .before .before .before .before .before .before .before .before .before in
-    let p = pictureOf (s .args .a) (s .args .w) (s .args .h) (s .args .pixels .now) in
-    let l = c .before .before .before .before .before .before .before .before .before .before .before .before .before .before .before .before .before .before .before .before .before .number .ensures in
-    figures-all p _ _ (s .pre .0) _ _ l _ (let z = s .pre .1 .beside in search needs) (c .before .before .before .before .before .before .before .before .before .before .before .before .before .before .map-patches .ensures) _ _ _ _
-    (c .before .before .before .before .before .before .before .before .before .before .cell-of .ensures ∙ c .before .before .before .before .before .before .before .before .before .before .before .largest .ensures)
-    (c .before .before .before .before .before .before .before .put-patches .ensures)
+    let q = c .before .before .before .before .before .before .before in
+    let m = q .before .before .before .before .before .before .before in
+    let l = m .before .before .before .before .before .before .before in
+    let s = l .before .before .before .before .before .before in
+    figures-all (pictured s) _ _ (s .pre .0) _ _ (l .number .ensures) _ (let z = s .pre .1 .beside in search needs) (m .map-patches .ensures) _ _ _ _
+    (q .before .before .before .cell-of .ensures ∙ q .before .before .before .before .largest .ensures)
+    (q .put-patches .ensures)
     (c .before .before .put-sums .ensures)
 
 pub figures-spec : {M : Type 1} → statement M

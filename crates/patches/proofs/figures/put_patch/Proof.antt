@@ -1,4 +1,4 @@
--- `patches::figures::put_patch` meets its contract: each return is one case of Put.
+-- `patches::figures::put_patch` meets its contract: each return is one case of PatchPut.
 use mathlib.Core.Path.{refl, sym, ap, ap₂, _∙_}
 use Prim.Native.Nat.{ℕ, _+_, _*_}
 use native.Mathlib.Omega.{arith}

@@ -4,15 +4,15 @@ use Prim.Native.Nat.{_-_, _≤_}
 use native.Mathlib.Omega.{arith}
 use borrow.Author.Needs.{needs}
 use Rattle.patches.specs.Figures.{Patched}
-use Rattle.patches.proofs.Patching.{patched-start, patched-mapped, patched-more, patched-end}
+use Rattle.patches.proofs.Depths.{patched-start, patched-mapped, patched-more, patched-end}
 use Rattle.patches.proofs.figures.put_patches.Statement.{statement}
 use Rattle.patches.proofs.figures.put_patches.Tie as tie
 
 abbrev Inv-loop : tie.InvT-loop
-Inv-loop n pixels map most work₀ r₀ x₀ work r x = (x ≤ n) × Patched n pixels map most x work₀ r work
+Inv-loop n pixels numbers most work₀ r₀ x₀ work r x = (x ≤ n) × Patched n pixels numbers most x work₀ r work
 
 abbrev μ-loop : tie.MeasureT-loop
-μ-loop n pixels map most work₀ r₀ x₀ work r x = n - x
+μ-loop n pixels numbers most work₀ r₀ x₀ work r x = n - x
 
 loop-holds : tie.Need-loop-holds Inv-loop μ-loop
 loop-holds c = (search needs, patched-start _ _ _ _ _)

@@ -5,15 +5,15 @@ use Prim.Native.Nat.{ℕ, _+_, _-_, _≤_}
 use native.Mathlib.Omega.{arith}
 use lib.ListN.{length}
 use borrow.Author.Needs.{needs}
-use Rattle.patches.proofs.Figuring.{onLine, line-few, line-in, line-out, line-count}
+use Rattle.patches.proofs.FigureLaws.{onLine, line-few, line-in, line-out, line-count}
 use Rattle.patches.proofs.places.count_line.Statement.{statement}
 use Rattle.patches.proofs.places.count_line.Tie as tie
 
 abbrev Inv-loop : tie.InvT-loop
-Inv-loop map r₀ x₀ r x = (x ≤ length map) × (r ≡ onLine map x)
+Inv-loop numbers r₀ x₀ r x = (x ≤ length numbers) × (r ≡ onLine numbers x)
 
 abbrev μ-loop : tie.MeasureT-loop
-μ-loop map r₀ x₀ r x = length map - x
+μ-loop numbers r₀ x₀ r x = length numbers - x
 
 loop-holds : tie.Need-loop-holds Inv-loop μ-loop
 loop-holds c = search needs
@@ -25,7 +25,7 @@ shared-slice-read-if1 : tie.Need-shared-slice-read-if1 Inv-loop μ-loop
 shared-slice-read-if1 c = search needs
 
 add-r : tie.Need-add-r Inv-loop μ-loop
-add-r c = omega (arith, line-few (c .before .before .before .before .args .map .now) (c .before .before .before .loop .x))
+add-r c = omega (arith, line-few (c .before .before .before .before .args .numbers .now) (c .before .before .before .loop .x))
 
 add-x : tie.Need-add-x Inv-loop μ-loop
 add-x c = search needs
@@ -35,7 +35,7 @@ loop-less c = search needs
 
 loop-again : tie.Need-loop-again Inv-loop μ-loop
 loop-again c =
-    let l = c .before .before .before .before .args .map .now in
+    let l = c .before .before .before .before .args .numbers .now in
     let x = c .before .before .before .loop .x in
     let e = c .before .before .before .loop .inv .1 in (
       search needs,
@@ -47,7 +47,7 @@ loop-again c =
 
 returns : tie.Need-returns Inv-loop μ-loop
 returns c =
-    let l = c .before .before .args .map .now in
+    let l = c .before .before .args .numbers .now in
     let e : c .before .loop .x ≡ length l = omega arith in
     λ p m. line-count p l _ (c .before .loop .inv .1 ∙ ap (onLine l) e) m
 

@@ -1,15 +1,18 @@
--- `watershed::run::turn` meets its contract: the winner's leaf is unset, and the winner settled.
-use Rattle.picture.specs.Pictures.{pictureOf}
-use Rattle.watershed_laws.proofs.Lending.{size-back, start-lent, turn-winner, turn-back, turn-over}
+-- `watershed::run::turn` meets its contract: the winner's leaf is unset, and the winner lowered.
+use Rattle.picture.specs.Pictures.{Picture, pictureOf}
+use Rattle.watershed_laws.proofs.Lending.{size-back, turn-ready, turn-back, turn-over}
 use mathlib.Core.Path.{refl}
 use mathlib.Core.Logic.{inr}
 use mathlib.Core.List.{[]}
 use native.Mathlib.Omega.{arith}
-use Rattle.picture.proofs.Sides.{area-most}
-use Rattle.watershed_laws.proofs.Turns.{turn-place}
+use Rattle.watershed_laws.proofs.Turns.{places-some, turn-place}
 use borrow.Author.Needs.{needs}
 use Rattle.watershed.proofs.run.turn.Statement.{statement}
 use Rattle.watershed.proofs.run.turn.Tie as tie
+
+-- the frame of the pixels
+abbrev framed : tie.Start → Picture
+framed s = pictureOf (s .args .a) (s .args .w) (s .args .h) []
 
 mul-n : tie.Need-mul-n
 mul-n c = search needs
@@ -30,22 +33,16 @@ part-assign-end : tie.Need-part-assign-end
 part-assign-end c = search needs
 
 assign-requires : tie.Need-assign-requires
-assign-requires c κs = let s = c .before .before .before .before in
-    let r = s .pre .0 .running in
-    let f = pictureOf (s .args .a) (s .args .w) (s .args .h) [] in (
-      turn-winner f _ _ _ (s .pre .0) (s .pre .1),
-      area-most (f .width) (f .height) (r .wide) (r .high),
-      r .size,
-      start-lent f (s .args .out .now) (s .args .work .now) (s .pre .1),
-      turn-place f _ _ _ _ (s .pre .0),
-      inr refl,
-    )
+assign-requires c κs =
+    let s = c .before .before .before .before in
+    (turn-ready (framed s) _ _ _ (s .pre .0) (s .pre .1), turn-place (framed s) _ _ _ _ (s .pre .0), inr refl)
 
 lower-place-requires : tie.Need-lower-place-requires
-lower-place-requires c κs = let s = c .before .before .before .before .before .before .before .before .before in
-    let f = pictureOf (s .args .a) (s .args .w) (s .args .h) [] in (
-      turn-back f _ _ _ (s .pre .0) (s .pre .1) _ (c .before .before .before .before .assign .ensures),
-      size-back f (s .args .out .now) (s .args .work .now) (c .before .before .before .before .assign .last .1 .0) (s .pre .1) (c .before .before .before .before .assign .ensures .size),
+lower-place-requires c κs =
+    let t = c .before .before .before .before in
+    let s = t .before .before .before .before .before in (
+      turn-back (framed s) _ _ _ (s .pre .0) (s .pre .1) _ (t .assign .ensures),
+      size-back (framed s) (s .args .out .now) (s .args .work .now) (t .assign .last .1 .0) (s .pre .1) (t .assign .ensures .size),
     )
 
 add-wide : tie.Need-add-wide
@@ -55,13 +52,14 @@ mul-wide : tie.Need-mul-wide
 mul-wide c = search needs
 
 slice-read-wide : tie.Need-slice-read-wide
-slice-read-wide c = let s = c .before .before .before .before .before .before .before .before .before .before .before .before .before .before .before in
-    let f = pictureOf (s .args .a) (s .args .w) (s .args .h) [] in
+slice-read-wide c =
+    let t = c .before .before .before .before .before .before .before .before .before .before in
+    let s = t .before .before .before .before .before in
     omega (
       arith,
-      s .pre .0 .running .filled,
+      places-some _ (s .pre .0 .running .accepted),
       c .before .before .before .before .before .lower-place .kept .1 .1 .1 .1 .1 .0,
-      size-back f (s .args .out .now) (s .args .work .now) (c .before .before .before .before .before .before .before .before .before .before .assign .last .1 .0) (s .pre .1) (c .before .before .before .before .before .before .before .before .before .before .assign .ensures .size),
+      size-back (framed s) (s .args .out .now) (s .args .work .now) (t .assign .last .1 .0) (s .pre .1) (t .assign .ensures .size),
     )
 
 wide-requires : tie.Need-wide-requires
@@ -74,9 +72,10 @@ same-length-2 : tie.Need-same-length-2
 same-length-2 c = search needs
 
 returns : tie.Need-returns
-returns c = let s = c .before .before .before .before .before .before .before .before .before .before .before .before .before .before .before .before in
-    let f = pictureOf (s .args .a) (s .args .w) (s .args .h) [] in
-    turn-over f _ _ _ (s .pre .0) (s .pre .1) _ (c .before .before .before .before .before .before .before .before .before .before .before .assign .ensures) _ _ (c .before .before .before .before .before .before .lower-place .ensures) _ (c .wide .ensures)
+returns c =
+    let t = c .before .before .before .before .before .before .before .before .before .before .before in
+    let s = t .before .before .before .before .before in
+    turn-over (framed s) _ _ _ (s .pre .0) (s .pre .1) _ (t .assign .ensures) _ _ (c .before .before .before .before .before .before .lower-place .ensures) _ (c .wide .ensures)
 
 pub turn-spec : {M : Type 1} → statement M
 turn-spec =

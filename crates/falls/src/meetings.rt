@@ -1,11 +1,11 @@
-// The climb in the cells of a tree: heights, fathers and the map, n cells each.
+// Where climbs meet in the cells of a tree: heights, fathers and the map, n cells each.
 use ancestors::meet;
 use cells::wide;
 ghost use Prim.Native.Nat.{_≤_, _<_};
 ghost use Rattle.watershed_laws.proofs.Stopping.{Climbs, Meets};
 
 // The height at which the climbs from the nodes of two places meet.
-pub fn meeting(tree: &[u16], n: usize, y: usize, z: usize) -> usize
+pub fn meeting_height(tree: &[u16], n: usize, y: usize, z: usize) -> usize
     requires { ⌜ Climbs n (now tree) × (n ≤ 1600) × (y < n) × (z < n) ⌝ }
     ensures { λ r. ⌜ Meets n (now (tree .entry)) y z r ⌝ }
 {

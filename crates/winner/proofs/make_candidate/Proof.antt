@@ -1,10 +1,10 @@
--- `winner::wake` meets its contract: the place is no candidate to be, is one, or becomes one.
+-- `winner::make_candidate` meets its contract: the place is no candidate to be, is one, or becomes one.
 use mathlib.Core.Path.{refl}
 use mathlib.Core.Logic.{inl}
-use Rattle.watershed_laws.proofs.WinnerSteps.{woken-now}
+use Rattle.watershed_laws.proofs.WinnerSteps.{candidate-made}
 use borrow.Author.Needs.{needs}
-use Rattle.winner.proofs.wake.Statement.{statement}
-use Rattle.winner.proofs.wake.Tie as tie
+use Rattle.winner.proofs.make_candidate.Statement.{statement}
+use Rattle.winner.proofs.make_candidate.Tie as tie
 
 shared-slice-read-value : tie.Need-shared-slice-read-value
 shared-slice-read-value c = search needs
@@ -38,16 +38,16 @@ cast-assign c = search needs
 
 assign-requires : tie.Need-assign-requires
 assign-requires c κs = let p = c .before .before .before .before .before .before .before .before .before .before .pre in
-    (p .0, p .1, p .2, p .3, p .4, inl refl)
+    (p .0, p .1, inl refl)
 
 same-length : tie.Need-same-length
 same-length c = search needs
 
 returns-4 : tie.Need-returns-4
-returns-4 c = woken-now _ _ _ _ _ _ _ (c .before .before .assign .ensures)
+returns-4 c = candidate-made _ _ _ _ _ _ _ (c .before .before .assign .ensures)
 
-pub wake-spec : {M : Type 1} → statement M
-wake-spec =
+pub make-candidate-spec : {M : Type 1} → statement M
+make-candidate-spec =
     tie.close
     (tie.spec
     shared-slice-read-value

@@ -20,13 +20,13 @@ use Rattle.lists.proofs.Positions.{tally-next-in, tally-next-out, tally-bound}
 use Rattle.topology.proofs.Accepted.{Accepted, accepted-is}
 use Rattle.topology.proofs.Nodes.{nodes-few}
 use Rattle.topology.proofs.PatchFigures.{patches-count}
-use Rattle.topology.proofs.PatchSums.{count-few, patch-most, patch-number, patch-size, patch-columns, patch-rows}
+use Rattle.topology.proofs.PatchSums.{count-few, patch-most, patch-size, patch-columns, patch-rows}
 use Rattle.lists.specs.Blocks.{UntouchedOutside}
 use Rattle.patch_numbers.specs.Numbers.{FiveBlocks, Mapped, Leaves, patchIn}
 use Rattle.patch_sums.specs.Sums.{sizes, columns, rows, NumberedRows, Sums}
-use Rattle.patches.specs.Figures.{TreeInWork, noPatch, Charted, Patched, Figures, PatchMap}
+use Rattle.patches.specs.Figures.{TreeInWork, noPatch, PatchesNumbered, Patched, Figures, PatchMap}
 use Rattle.patch_numbers.proofs.Numbering.{kept-row}
-use Rattle.patches.proofs.Charting.{arrays, map-in, leaves-patch}
+use Rattle.patches.proofs.LeafNumbers.{map-in, leaves-patch}
 
 -- the tree is not touched by changes from the fifth block on
 pub tree-kept : (p : Picture) (l m : List ℕ) → UntouchedOutside (4 * places p) (places p) l m → TreeIn p l → TreeIn p m
@@ -44,7 +44,7 @@ module _ (p : Picture) (count : ℕ) (work : List ℕ) (t : TreeInWork p count w
   ok = accepted-is p (t .accepted)
 
   pub tree-mapped : Mapped (places p) work
-  tree-mapped = record { map = map-in p ok (places p) refl work (arrays p (places p) work refl (t .tree)) }
+  tree-mapped = record { map = map-in p ok work (t .tree) }
 
   pub tree-few : count ≤ places p
   tree-few = let a = t .number in let b = nodes-few p in omega arith
@@ -54,21 +54,22 @@ module _ (p : Picture) (count : ℕ) (work : List ℕ) (t : TreeInWork p count w
     numbered-tree = tree-kept p (l .cleared) a (l .numbers .kept) (tree-kept p work (l .cleared) (l .kept) (t .tree))
 
     pub numbered-mapped : Mapped (places p) a
-    numbered-mapped = record { map = map-in p ok (places p) refl a (arrays p (places p) a refl numbered-tree) }
+    numbered-mapped = record { map = map-in p ok a numbered-tree }
 
-    pub numbered-size : length a ≡ length work
-    numbered-size = l .numbers .kept .size ∙ l .kept .size
+    pub numbered-sizes : (cells : List ℕ) → FiveBlocks (places p) work cells → FiveBlocks (places p) a (p .pixels)
+    numbered-sizes cells z =
+        record { few = z .few; blocks = l .numbers .kept .size ∙ (l .kept .size ∙ z .blocks); beside = ok .size }
 
     pub numbered-patch : (x : ℕ) → x < places p → patchIn (places p) (p .pixels) a x ≡ patchAt p x
-    numbered-patch = leaves-patch p ok (places p) refl work (arrays p (places p) work refl (t .tree)) count r a (t .number) l
+    numbered-patch = leaves-patch p ok work (t .tree) count r a (t .number) l
 
     module _ (cells : List ℕ) (long : length cells ≡ places p) (m : (x : ℕ) → x < places p → getD cells x 0 ≡ patchIn (places p) (p .pixels) a x) where
-      same : (x : ℕ) → x < places p → getD cells x 0 ≡ patchAt p x
-      same x h = m x h ∙ numbered-patch x h
+      mapped : PatchMap p cells
+      mapped = record { size = long; patch = λ x h. m x h ∙ numbered-patch x h }
 
-      charted : (most : ℕ) → most ≡ highest (p .pixels) → Charted p (places p) (p .pixels) cells most a
-      charted most e =
-          record { accepted = t .accepted; size = refl; same = refl; tree = numbered-tree; patch = same; largest = e }
+      patches-numbered : (most : ℕ) → most ≡ highest (p .pixels) → PatchesNumbered p (places p) (p .pixels) cells most a
+      patches-numbered most e =
+          record { accepted = t .accepted; size = refl; same = refl; tree = numbered-tree; map = mapped; largest = e }
 
       pub patched-frame : NumberedRows (p .width) (places p) cells
       patched-frame =
@@ -77,25 +78,24 @@ module _ (p : Picture) (count : ℕ) (work : List ℕ) (t : TreeInWork p count w
             wide = ok .wide;
             high = mul-le-mul-left (p .width) (ok .high);
             size = long;
-            most = λ x h. let q = same x h in let u = patch-most p ok x h in omega arith;
+            most = λ x h. let q = mapped .patch x h in let u = patch-most p ok x h in omega arith;
           }
 
       pub figures-all :
           (most q : ℕ) (b c : List ℕ) → most ≡ highest (p .pixels) →
           Patched (places p) (p .pixels) cells most (places p) a q b → Sums (p .width) (places p) (places p) cells b c → Figures p q c cells
       figures-all most q b c e f s =
-          let g = f .begun p (charted most e) in
+          let g = f .begun p (patches-numbered most e) in
           let n : q ≡ length (patches p) = g .count ∙ sym (patches-count p ok) in
           let few = count-few p ok in
           record {
             count = n;
-            number = λ i h. add-one i ∙ sym (patch-number p ok i noPatch (omega arith));
-            size = λ i h. s .sum sizes i (omega arith) ∙ sym (patch-size p ok i noPatch (omega arith) cells same);
-            columns = λ i h. s .sum columns i (omega arith) ∙ sym (patch-columns p ok i noPatch (omega arith) cells same);
-            rows = λ i h. s .sum rows i (omega arith) ∙ sym (patch-rows p ok i noPatch (omega arith) cells same);
+            size = λ i h. s .sum sizes i (omega arith) ∙ sym (patch-size p ok i noPatch (omega arith) cells (mapped .patch));
+            columns = λ i h. s .sum columns i (omega arith) ∙ sym (patch-columns p ok i noPatch (omega arith) cells (mapped .patch));
+            rows = λ i h. s .sum rows i (omega arith) ∙ sym (patch-rows p ok i noPatch (omega arith) cells (mapped .patch));
             depth = λ i h. s .kept .outside (3 * places p + i) (inr (omega arith)) ∙ g .depth i h;
             height = λ i h. s .kept .outside (4 * places p + i) (inr (omega arith)) ∙ g .height i h;
-            map = same;
+            map = mapped;
           }
 
 -- what the builder leaves

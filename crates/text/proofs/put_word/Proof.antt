@@ -1,9 +1,9 @@
--- `hold_lines::put_word` meets its contract.
+-- `text::put_word` meets its contract.
 use native.Mathlib.Omega.{arith}
 use Rattle.lists.proofs.Writings.{written-then}
 use borrow.Author.Needs.{needs}
-use Rattle.hold_lines.proofs.put_word.Statement.{statement}
-use Rattle.hold_lines.proofs.put_word.Tie as tie
+use Rattle.text.proofs.put_word.Statement.{statement}
+use Rattle.text.proofs.put_word.Tie as tie
 
 put-bytes-requires : tie.Need-put-bytes-requires
 put-bytes-requires c κs = search needs

@@ -1,32 +1,88 @@
--- The laws of the figures in their blocks: depths and heights by first place, sums by number.
+-- The laws of depths: by fathers in the arrays of a tree, and with the heights in their blocks, by first place.
 use mathlib.Core.Path.{_≡_, refl, sym, ap, subst, _∙_}
-use mathlib.Core.Bool.{true}
-use mathlib.Core.Logic.{_≢_, by-cases}
+use mathlib.Core.Bool.{Bool, true}
+use mathlib.Core.Logic.{inl, ⊎-elim, _≢_, by-cases}
 use mathlib.Core.List.{List}
-use Prim.Native.Nat.{ℕ, suc, _+_, _*_, _≤_, _<_}
-use native.Mathlib.Decide.{ℕ-discrete}
+use Prim.Native.Nat.{ℕ, suc, _+_, _-_, _*_, _≤_, _<_}
+use native.Mathlib.Decide.{ℕ-discrete, decLt}
 use native.Mathlib.Numerals.{add-one}
 use native.Mathlib.Omega.{arith}
 use lib.ListN.{length, getD, set, length-set}
 use lib.Seq.{getD-set-same, getD-set-other}
-use Rattle.lists.specs.Lists.{tally, range, highest}
+use borrow.Author.Tests.{lt-ltb, le-ltb}
+use Rattle.lists.specs.Lists.{pick, tally, range, highest}
 use Rattle.picture.specs.Pictures.{Picture, places}
-use Rattle.picture.specs.Trees.{mapOf}
-use Rattle.picture.specs.Patches.{patches}
-use Rattle.lists.specs.Blocks.{blockEntry}
+use Rattle.picture.specs.Trees.{nodes, nodeAt, fatherOf, mapOf}
+use Rattle.picture.specs.Patches.{patches, depthOf}
+use Rattle.lists.specs.Blocks.{blockEntry, UntouchedOutside}
 use Rattle.lists.proofs.Tests.{test-false}
-use Rattle.topology.proofs.Accepted.{Accepted, accepted-is}
-use Rattle.topology.proofs.Fathers.{map-found}
-use Rattle.topology.proofs.Nodes.{nodes-few}
+use Rattle.topology.proofs.Accepted.{Accepted, accepted-is, places-bound}
+use Rattle.topology.proofs.Fathers.{father-found, map-found, number-small}
+use Rattle.topology.proofs.Nodes.{nodes-few, node-is}
 use Rattle.lists.proofs.Positions.{tally-next-in, tally-next-out}
 use Rattle.topology.proofs.Leaves.{bottom}
+use Rattle.topology.proofs.LeafNodes.{depth-root, depth-father}
 use Rattle.topology.proofs.PatchFigures.{bottom-number}
 use Rattle.topology.proofs.PatchSums.{next-bottom, patch-height, patch-depth}
+use Rattle.tree.specs.Arrays.{TreeIn}
 use Rattle.patch_numbers.specs.Numbers.{Mapped}
-use Rattle.patches.specs.Figures.{depthIn, PatchPut, passed, begun, noPatch, DepthsBefore, Charted, Patched}
+use Rattle.patches.specs.Figures.{depthIn, PatchPut, passed, begun, noPatch, DepthsBefore, PatchesNumbered, Patched}
 use Rattle.lists.proofs.Blocks.{kept-refl, kept-store}
 use Rattle.patch_numbers.proofs.Numbering.{kept-row}
-use Rattle.patches.proofs.Charting.{arrays, depth-is, depth-kept}
+use Rattle.patches.proofs.LeafNumbers.{height-at}
+
+-- depths by the arrays
+module _ (n : ℕ) (work : List ℕ) (most m f : ℕ) (e : f ≡ blockEntry work n m) where
+  pub depth-below : f < n → getD work f 0 - getD work m 0 ≡ depthIn n work most m
+  unfolding depthIn
+  depth-below h =
+      sym
+      (ap (λ (b : Bool). pick b (getD work (blockEntry work n m) 0) most - getD work m 0) (lt-ltb (blockEntry work n m) n (omega arith)) ∙
+      ap (λ (i : ℕ). getD work i 0 - getD work m 0) (sym e))
+
+  pub depth-top : n ≤ f → most - getD work m 0 ≡ depthIn n work most m
+  unfolding depthIn
+  depth-top h =
+      sym (ap (λ (b : Bool). pick b (getD work (blockEntry work n m) 0) most - getD work m 0) (le-ltb (blockEntry work n m) n (omega arith)))
+
+pub depth-kept : (n most m : ℕ) (work l : List ℕ) → UntouchedOutside (3 * n) (2 * n) work l → m < n → depthIn n l most m ≡ depthIn n work most m
+depth-kept n most m work l k h =
+    let f = blockEntry work n m in
+    let e = kept-row (3 * n) (2 * n) n m k (omega arith) in
+    let own : getD l m 0 ≡ getD work m 0 = k .outside m (inl (omega arith)) in
+    by-cases (decLt f n)
+    (λ b.
+    let high : getD l f 0 ≡ getD work f 0 = k .outside f (inl (omega arith)) in
+    let a = depth-below n l most m f (sym e) b in
+    let c = depth-below n work most m f refl b in
+    omega arith)
+    (λ b.
+    let a = depth-top n l most m f (sym e) (omega arith) in
+    let c = depth-top n work most m f refl (omega arith) in
+    omega arith)
+
+-- the depth of a node
+pub depth-is :
+    (p : Picture) → Accepted p → (work : List ℕ) → TreeIn p work → (most m : ℕ) → m < length (nodes p) →
+    most ≡ highest (p .pixels) → depthIn (places p) work most m ≡ depthOf p (nodeAt p m)
+depth-is p ok work t most m b q =
+    let f = t .fathers m b in
+    let own = height-at p work t m b in
+    ⊎-elim
+    (λ h.
+    let small = number-small p ok (fatherOf p (nodeAt p m)) h in
+    let few = nodes-few p in
+    let d = depth-father p (nodeAt p m) (λ z. absurd (omega arith)) in
+    let high = height-at p work t (fatherOf p (nodeAt p m)) h in
+    let a = depth-below (places p) work most m (fatherOf p (nodeAt p m)) (sym f) (omega arith) in
+    omega arith)
+    (λ h.
+    let z = h .0 in
+    let most-places = places-bound p ok in
+    let d = depth-root p (nodeAt p m) z in
+    let a = depth-top (places p) work most m (fatherOf p (nodeAt p m)) (sym f) (omega arith) in
+    omega arith)
+    (father-found p (nodeAt p m) (node-is p m b))
 
 module _ (n : ℕ) (pixels numbers : List ℕ) (most : ℕ) (work : List ℕ) where
   pub patched-start : Patched n pixels numbers most 0 work 0 work
@@ -50,7 +106,7 @@ module _ (n : ℕ) (pixels numbers : List ℕ) (most : ℕ) (work : List ℕ) wh
               omega arith;
         }
 
-    module _ (p : Picture) (c : Charted p n pixels numbers most work) where
+    module _ (p : Picture) (c : PatchesNumbered p n pixels numbers most work) where
       ok : Accepted p
       ok = accepted-is p (c .accepted)
 
@@ -73,7 +129,7 @@ module _ (n : ℕ) (pixels numbers : List ℕ) (most : ℕ) (work : List ℕ) wh
           test-false (bottom p x)
           (λ b.
           let a = bottom-number p ok x place b in
-          let q = c .patch x h in
+          let q = c .map .patch x place in
           let e = before .count in
           d (omega arith))
           in
@@ -88,7 +144,7 @@ module _ (n : ℕ) (pixels numbers : List ℕ) (most : ℕ) (work : List ℕ) wh
       -- the next patch begins at x
       begins : getD numbers x 0 ≡ r + 1 → bottom p x ≡ true
       begins e =
-          let q = c .patch x h in
+          let q = c .map .patch x place in
           let a = before .count in
           next-bottom p ok x place (omega arith)
 
@@ -109,17 +165,17 @@ module _ (n : ℕ) (pixels numbers : List ℕ) (most : ℕ) (work : List ℕ) wh
         unfolding value
         value-is =
             let m = mapOf p x in
-            let t = arrays p n work (c .size) (c .tree) in
             let i = map-found p ok x place in
             let few = nodes-few p in
             let big = c .size in
             let mb : m < n = omega arith in
-            let at : blockEntry l (2 * n) x ≡ m = kept-row (3 * n) (2 * n) (2 * n) x (f .kept) (omega arith) ∙ t .map x h in
+            let at : blockEntry l (2 * n) x ≡ m = kept-row (3 * n) (2 * n) (2 * n) x (f .kept) (omega arith) ∙ (ap (λ (k : ℕ). blockEntry work (2 * k) x) big ∙ c .tree .map x place) in
             ap (depthIn n l most) at ∙
             (depth-kept n most m work l (f .kept) mb ∙
-            (depth-is p ok n (c .size) work t most m i (c .largest ∙ ap highest (sym (c .same))) ∙
+            (ap (λ (k : ℕ). depthIn k work most m) big ∙
+            (depth-is p ok work (c .tree) most m i (c .largest ∙ ap highest (sym (c .same))) ∙
             (sym (patch-depth p ok x noPatch place (begins e)) ∙
-            ap (λ (j : ℕ). getD (patches p) j noPatch .depth) (sym (before .count)))))
+            ap (λ (j : ℕ). getD (patches p) j noPatch .depth) (sym (before .count))))))
 
         height-is : getD pixels x 0 ≡ getD (patches p) r noPatch .height
         height-is =

@@ -1,11 +1,11 @@
--- `winner::fill` meets its contract. The invariant is Filling: the leaves passed are set.
+-- `winner::fill_leaves` meets its contract. The invariant is Filling: the leaves passed are set.
 use mathlib.Core.Path.{_≡_, subst}
 use Prim.Native.Nat.{_-_, _≤_}
 use native.Mathlib.Omega.{arith}
 use Rattle.watershed_laws.proofs.WinnerSteps.{Filling, fill-turn}
 use borrow.Author.Needs.{needs}
-use Rattle.winner.proofs.fill.Statement.{statement}
-use Rattle.winner.proofs.fill.Tie as tie
+use Rattle.winner.proofs.fill_leaves.Statement.{statement}
+use Rattle.winner.proofs.fill_leaves.Tie as tie
 
 abbrev Inv-loop : tie.InvT-loop
 Inv-loop cells₀ n x₀ cells x = Filling n cells x × (x ≤ n)
@@ -44,8 +44,8 @@ returns : tie.Need-returns Inv-loop μ-loop
 returns c = let e : c .before .loop .x ≡ c .before .before .args .n = omega arith in
     subst (Filling _ _) e (c .before .loop .inv .0)
 
-pub fill-spec : {M : Type 1} → statement M
-fill-spec =
+pub fill-leaves-spec : {M : Type 1} → statement M
+fill-leaves-spec =
     tie.close
     (tie.spec
     Inv-loop

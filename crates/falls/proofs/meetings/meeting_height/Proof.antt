@@ -1,18 +1,21 @@
--- `falls::climb::meeting` meets its contract: the climb from the nodes of two places, and the height where it meets.
+-- `falls::meetings::meeting_height` meets its contract: the climb from the nodes of two places, and the height where it meets.
 use Prim.Native.Nat.{_<_}
 use native.Mathlib.Omega.{arith}
 use lib.ListN.{getD}
 use Rattle.watershed_laws.proofs.Stopping.{Meets}
 use Rattle.falls.proofs.Fathers.{climb-places, climb-meets}
 use borrow.Author.Needs.{needs}
-use Rattle.falls.proofs.climb.meeting.Statement.{statement}
-use Rattle.falls.proofs.climb.meeting.Tie as tie
+use Rattle.falls.proofs.meetings.meeting_height.Statement.{statement}
+use Rattle.falls.proofs.meetings.meeting_height.Tie as tie
 
 -- the climb has met at a node
 met-at :
     (c : tie.After-meet) →
-    (c .meet .result < c .before .before .before .before .before .before .before .args .n) × Meets (c .before .before .before .before .before .before .before .args .n) (c .before .before .before .before .before .before .before .args .tree .now) (c .before .before .before .before .before .before .before .args .y) (c .before .before .before .before .before .before .before .args .z) (getD (c .before .before .before .before .before .before .before .args .tree .now) (c .meet .result) 0)
-met-at c = let p = c .before .before .before .before .before .before .before .pre in
+    let s = c .before .before .before .before .before .before .before in
+    let tree = s .args .tree .now in
+    (c .meet .result < s .args .n) × Meets (s .args .n) tree (s .args .y) (s .args .z) (getD tree (c .meet .result) 0)
+met-at c =
+    let p = c .before .before .before .before .before .before .before .pre in
     climb-meets _ _ (p .0) _ _ (p .2) (p .3) _ (rw (c .before .before .wide2 .ensures, c .before .before .before .before .wide .ensures) at (c .meet .ensures))
 
 mul-e : tie.Need-mul-e
@@ -70,8 +73,8 @@ wide-requires-3 c κs = search needs
 returns : tie.Need-returns
 returns c = rw (c .wide3 .ensures) (met-at (c .before .before) .1)
 
-pub meeting-spec : {M : Type 1} → statement M
-meeting-spec =
+pub meeting-height-spec : {M : Type 1} → statement M
+meeting-height-spec =
     tie.close
     (tie.spec
     mul-e
