@@ -9,7 +9,7 @@ use native.Mathlib.Omega.{arith}
 use lib.Dec.{eqb}
 use lib.ListN.{length, getD, set, length-map}
 use lib.Seq.{getD-set-same, getD-set-other, set-set, set-getD, ext-getD}
-use borrow.Author.Tests.{eqb-true, eq-eqb, ne-eqb}
+use borrow.Author.Tests.{eqb-true, eqb-false, eq-eqb, ne-eqb}
 use Rattle.lists.specs.Lists.{pick, any, all, tally, select, range, isIn}
 use Rattle.lists.proofs.Tests.{and-left, and-right, and-both, or-left, or-right, or-cases, on-test, clash}
 
@@ -216,7 +216,7 @@ mem-range x zero a b = absurd (omega arith)
 mem-range {y} x (suc l) a b =
     on-test (eqb y x)
     (λ e. List·Memᴰ·head (eqb-true y x e))
-    (λ e. let d : ¬ (y ≡ x) = λ q. clash (eq-eqb y x q) e in List·Memᴰ·tail (mem-range (suc x) l (omega arith) (omega arith)))
+    (λ e. let d = eqb-false y x e in List·Memᴰ·tail (mem-range (suc x) l (omega arith) (omega arith)))
 
 -- the elements of a mapped range
 pub getD-map-range : {A : Type 0} (f : ℕ → A) (d : A) (x l i : ℕ) → i < l → getD (map f (range x l)) i d ≡ f (x + i)

@@ -13,9 +13,9 @@ use Rattle.picture.specs.Pictures.{Picture, places, valueAt}
 use Rattle.picture.specs.Components.{componentAt, components}
 use Rattle.picture.specs.Trees.{Node, below, isBranch, nodes, isLeaf}
 use Rattle.picture.specs.Patches.{insertByFirst, byFirst, patchNodes}
-use Rattle.lists.proofs.Tests.{and-left, and-right, and-both, on-test, on-elim, same-test, test-false}
-use Rattle.lists.proofs.Lists.{select-in, select-out, select-mem, mem-select, length-select, tally-none, in-mem, mem-in, range-mem, mem-range}
-use Rattle.lists.proofs.Rising.{Rising, none, more, rising-select, rising-equal}
+use Rattle.lists.proofs.Tests.{and-left, and-right, and-both, on-test, on-elim, test-false}
+use Rattle.lists.proofs.Lists.{select-in, select-out, select-mem, mem-select, length-select, tally-none}
+use Rattle.lists.proofs.Rising.{Rising, none, more, rising-is-select}
 use Rattle.topology.proofs.Connected.{start, conn-target}
 use Rattle.topology.proofs.Adjacency.{At, Joined}
 use Rattle.topology.proofs.Accepted.{Accepted, byte-at}
@@ -192,7 +192,7 @@ pub patch-nodes-are : (p : Picture) → Accepted p → patchNodes p ≡ map (lea
 unfolding patchNodes
 patch-nodes-are p ok =
     known (byFirst leaves) (λ n i. by-first-mem leaves i) ∙
-    ap (map (leaf p)) (rising-equal (by-first-rising apart) (rising-select (bottom p) 0 (places p)) agree)
+    ap (map (leaf p)) (rising-is-select (bottom p) (places p) (by-first-rising apart) begins begun)
   where
     leaves : List Node
     leaves = select (isLeaf p) (nodes p)
@@ -206,21 +206,14 @@ patch-nodes-are p ok =
         let (j, l) = select-mem (isLeaf p) (nodes p) (f n (List·Memᴰ·head refl)) in
         ap₂ (λ (m : Node) (ms : List Node). m ∷ ms) (leaf-node p j l .0) (known ns (λ m i. f m (List·Memᴰ·tail i)))
 
-    agree : (y : ℕ) → isIn y (firsts (byFirst leaves)) ≡ isIn y (select (bottom p) (range 0 (places p)))
-    agree y =
-        same-test (isIn y (firsts (byFirst leaves))) (isIn y (select (bottom p) (range 0 (places p))))
-        (λ h.
-        let (n, i, e) = Memᴰ·of-map (λ m. m .first) (byFirst leaves) (in-mem y (firsts (byFirst leaves)) h) in
+    begins : (y : ℕ) → List·Memᴰ y (firsts (byFirst leaves)) → (y < places p) × (bottom p y ≡ true)
+    begins y h =
+        let (n, i, e) = Memᴰ·of-map (λ m. m .first) (byFirst leaves) h in
         let (j, l) = select-mem (isLeaf p) (nodes p) (by-first-mem leaves i) in
         let b = nodes-mem p j .place .within in
-        let q = leaf-node p j l .1 in
-        mem-in y (select (bottom p) (range 0 (places p)))
-        (mem-select (bottom p) (range 0 (places p))
-        (mem-range 0 (places p) (omega arith) (omega arith))
-        (subst (λ (z : ℕ). bottom p z ≡ true) e q)))
-        (λ h.
-        let (i, b) = select-mem (bottom p) (range 0 (places p)) (in-mem y (select (bottom p) (range 0 (places p))) h) in
-        let r = range-mem 0 (places p) i in
-        let (j, l) = bottom-node p ok y (omega arith) b in
-        mem-in y (firsts (byFirst leaves))
-        (Memᴰ·map (λ m. m .first) (mem-by-first leaves (mem-select (isLeaf p) (nodes p) j l))))
+        (omega arith, subst (λ (z : ℕ). bottom p z ≡ true) e (leaf-node p j l .1))
+
+    begun : (y : ℕ) → y < places p → bottom p y ≡ true → List·Memᴰ y (firsts (byFirst leaves))
+    begun y b h =
+        let (j, l) = bottom-node p ok y b h in
+        Memᴰ·map (λ m. m .first) (mem-by-first leaves (mem-select (isLeaf p) (nodes p) j l))

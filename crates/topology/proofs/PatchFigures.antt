@@ -1,24 +1,23 @@
 -- The figures of a patch: its pixels by their patch number, its record by its number, its node by the map.
 use mathlib.Core.Path.{_≡_, refl, sym, ap, ap₂, subst, _∙_}
-use mathlib.Core.Bool.{Bool, true}
-use mathlib.Core.List.{List, [], _∷_, map}
+use mathlib.Core.Bool.{true}
+use mathlib.Core.List.{List, [], _∷_, map, List·Memᴰ}
 use Prim.Native.Nat.{ℕ, zero, suc, _+_, _-_, _<_}
 use native.Mathlib.Omega.{arith}
 use lib.Dec.{eqb}
 use lib.ListN.{length, getD}
 use borrow.Author.Tests.{eqb-true, eq-eqb}
-use Rattle.lists.specs.Lists.{tally, select, range, isIn}
+use Rattle.lists.specs.Lists.{tally, select, range}
 use Rattle.picture.specs.Pictures.{Picture, places, valueAt}
 use Rattle.picture.specs.Components.{componentAt}
 use Rattle.picture.specs.Trees.{Node, nodeAt, componentOf, mapOf}
 use Rattle.picture.specs.Patches.{patchNodes, Patch, patchOf, patchesFrom, patches, patchAt}
-use Rattle.lists.proofs.Tests.{on-test, same-test}
-use Rattle.lists.proofs.Lists.{select-mem, mem-select, in-mem, mem-in, range-mem, mem-range}
-use Rattle.lists.proofs.Rising.{rising-select, rising-equal}
+use Rattle.lists.proofs.Tests.{on-test}
+use Rattle.lists.proofs.Rising.{rising-is-select}
 use Rattle.topology.proofs.Connected.{conn-target}
 use Rattle.topology.proofs.Adjacency.{At, Joined, joined-sym, at-own}
 use Rattle.topology.proofs.Accepted.{Accepted, byte-at}
-use Rattle.topology.proofs.Reached.{firstAt, component-rising, in-joined, joined-in, first-joined, first-same, first-at}
+use Rattle.topology.proofs.Reached.{firstAt, component-rising, mem-joined, joined-mem, first-joined, first-same, first-at}
 use Rattle.topology.proofs.Nodes.{node, number-found}
 use Rattle.topology.proofs.Descent.{map-under, under-fork, under-is}
 use Rattle.lists.proofs.Positions.{tally-next-in, select-index, tally-inject}
@@ -42,28 +41,19 @@ module _ (p : Picture) (ok : Accepted p) where
   -- the pixels of the patch that begins at z are those with its number
   pub patch-members : (z : ℕ) → z < places p → bottom p z ≡ true → componentOf p (leaf p z) ≡ select (λ x. eqb (patchAt p x) (patchAt p z)) (range 0 (places p))
   patch-members z b h =
-      rising-equal (component-rising p k z s) (rising-select numbered 0 (places p))
-      (λ x.
-      same-test (isIn x (componentAt p k z)) (isIn x (select numbered (range 0 (places p))))
-      (λ i.
-      let c = in-joined p k z x s i in
-      let xb = conn-target c .within in
+      rising-is-select (λ x. eqb (patchAt p x) (patchAt p z)) (places p) (component-rising p k z s)
+      (λ x i.
+      let c = mem-joined p k z x s i in
       let v = leaf-sound p k z s l x c in
-      let lx = subst (λ (j : ℕ). leafAt p j x ≡ true) (sym v) (sym (leaf-same p c) ∙ l) in
-      mem-in x (select numbered (range 0 (places p)))
-      (mem-select numbered (range 0 (places p))
-      (mem-range 0 (places p) (omega arith) (omega arith))
-      (eq-eqb (patchAt p x) (patchAt p z)
-      (patch-in p ok x xb lx ∙
-      (ap (λ (m : ℕ). tally (bottom p) (range 0 (suc m)))
-      (ap (λ (j : ℕ). firstAt p j x) v ∙ sym (first-same p k c)) ∙
-      sym (patch-in p ok z b l))))))
-      (λ i.
-      let (j, q) = select-mem numbered (range 0 (places p)) (in-mem x (select numbered (range 0 (places p))) i) in
-      let r = range-mem 0 (places p) j in
-      let xb : x < places p = omega arith in
-      let e = eqb-true (patchAt p x) (patchAt p z) q in
-      back x xb e (bottom-number z b h)))
+      let lx = subst (λ (j : ℕ). leafAt p j x ≡ true) (sym v) (sym (leaf-same p c) ∙ l) in (
+        conn-target c .within,
+        eq-eqb (patchAt p x) (patchAt p z)
+            (patch-in p ok x (conn-target c .within) lx ∙
+            (ap (λ (m : ℕ). tally (bottom p) (range 0 (suc m)))
+            (ap (λ (j : ℕ). firstAt p j x) v ∙ sym (first-same p k c)) ∙
+            sym (patch-in p ok z b l))),
+      ))
+      (λ x xb q. back x xb (eqb-true (patchAt p x) (patchAt p z) q) (bottom-number z b h))
     where
       k : ℕ
       k = valueAt p z
@@ -77,10 +67,7 @@ module _ (p : Picture) (ok : Accepted p) where
       l : leafAt p k z ≡ true
       l = bottom-is p z b h .2
 
-      numbered : ℕ → Bool
-      numbered x = eqb (patchAt p x) (patchAt p z)
-
-      back : (x : ℕ) → x < places p → patchAt p x ≡ patchAt p z → patchAt p z ≡ suc (tally (bottom p) (range 0 z)) → isIn x (componentAt p k z) ≡ true
+      back : (x : ℕ) → x < places p → patchAt p x ≡ patchAt p z → patchAt p z ≡ suc (tally (bottom p) (range 0 z)) → List·Memᴰ x (componentAt p k z)
       back x xb e n =
           on-test (leafAt p (valueAt p x) x)
           (λ lx.
@@ -95,8 +82,8 @@ module _ (p : Picture) (ok : Accepted p) where
           in
           let q = bottom-equal y z yb b hy h w in
           let c = joined-sym p (valueAt p x) (first-joined p (valueAt p x) x sx) in
-          subst (λ (u : ℕ). isIn x (componentAt p (valueAt p u) u) ≡ true) q
-          (subst (λ (j : ℕ). isIn x (componentAt p j y) ≡ true) (sym v) (joined-in p (valueAt p x) c)))
+          subst (λ (u : ℕ). List·Memᴰ x (componentAt p (valueAt p u) u)) q
+          (subst (λ (j : ℕ). List·Memᴰ x (componentAt p j y)) (sym v) (joined-mem p (valueAt p x) c)))
           (λ lx. absurd (let o = patch-out p ok x xb lx in omega arith))
 
   -- the records in order

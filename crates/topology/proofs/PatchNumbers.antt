@@ -14,7 +14,8 @@ use Rattle.picture.specs.Components.{componentAt}
 use Rattle.picture.specs.Trees.{Node, nodes, nodeAt, componentOf}
 use Rattle.picture.specs.Patches.{patchNodes, patchFrom, patchAt}
 use Rattle.lists.proofs.Tests.{on-test, clash, test-false}
-use Rattle.lists.proofs.Lists.{any-mem, mem-any, length-select, select-mem, range-mem}
+use Rattle.lists.proofs.Lists.{any-mem, mem-any, length-select}
+use Rattle.lists.proofs.Rising.{select-below}
 use Rattle.topology.proofs.Connected.{conn-target}
 use Rattle.topology.proofs.Keeping.{sec-mono}
 use Rattle.topology.proofs.Adjacency.{At, Joined, joined-sym, at-own}
@@ -72,10 +73,9 @@ module _ (p : Picture) (ok : Accepted p) where
       index-none (λ n. isIn x (componentOf p n)) 0 1 (map (leaf p) (select (bottom p) (range 0 (places p))))
       (λ n m.
       let (y, i, e) = Memᴰ·of-map (leaf p) (select (bottom p) (range 0 (places p))) m in
-      let (j, h) = select-mem (bottom p) (range 0 (places p)) i in
-      let r = range-mem 0 (places p) j in
+      let (r, h) = select-below (bottom p) (places p) i in
       test-false (isIn x (componentOf p n))
-      (λ g. clash (holds-first x y b (omega arith) h (subst (λ (k : Node). isIn x (componentOf p k) ≡ true) (sym e) g) .1) l))
+      (λ g. clash (holds-first x y b r h (subst (λ (k : Node). isIn x (componentOf p k) ≡ true) (sym e) g) .1) l))
 
   -- a node with a son contains a lower pixel
   pub father-no-leaf : (i j : ℕ) → i < length (nodes p) → j < length (nodes p) → father p j ≡ i → leafAt p (nodeAt p i .height) (nodeAt p i .first) ≡ false
