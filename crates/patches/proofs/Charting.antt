@@ -18,7 +18,8 @@ use Rattle.lists.proofs.Tests.{on-test, same-test, clash}
 use Rattle.lists.proofs.Lists.{tally-same, range-mem}
 use Rattle.topology.proofs.Accepted.{Accepted, places-bound}
 use Rattle.topology.proofs.Nodes.{nodes-few, node-is}
-use Rattle.topology.proofs.Fathers.{father-found, map-found, number-small}
+use Rattle.topology.proofs.Fathers.{father-found, number-small}
+use Rattle.topology.proofs.Descent.{map-found}
 use Rattle.topology.proofs.Leaves.{bottom}
 use Rattle.topology.proofs.PatchFigures.{bottom-number}
 use Rattle.topology.proofs.LeafNodes.{leafNode, leaf-bottom, bottom-map, bottom-leaf, leaf-mapped, map-bottom, patch-leaf, patch-line, father-leaf, childless-leaf, depth-root, depth-father}

@@ -16,7 +16,7 @@ use Rattle.picture.specs.Patches.{patches}
 use Rattle.lists.specs.Blocks.{blockEntry}
 use Rattle.lists.proofs.Tests.{test-false}
 use Rattle.topology.proofs.Accepted.{Accepted, accepted-is}
-use Rattle.topology.proofs.Fathers.{map-found}
+use Rattle.topology.proofs.Descent.{map-found}
 use Rattle.topology.proofs.Nodes.{nodes-few}
 use Rattle.lists.proofs.Positions.{tally-next-in, tally-next-out}
 use Rattle.topology.proofs.Leaves.{bottom}

@@ -21,7 +21,7 @@ use Rattle.topology.proofs.Least.{least-sections}
 use Rattle.topology.proofs.Adjacency.{Adj, At, adj-sym, section-at, at-section}
 use Rattle.topology.proofs.Reached.{in-joined, joined-in}
 use Rattle.topology.proofs.Bridge.{lowerable-above, lowerable-lowers, lowers-lowerable, keeps-parts, parts-keeps}
-use Rattle.topology.proofs.Accepted.{Accepted, accepted-is, is-accepted, accepted-with, byte-at, at-byte, above-at, at-above}
+use Rattle.topology.proofs.Accepted.{Accepted, accepted-is, is-accepted, accepted-with, byte-at, value-byte, at-byte, above-at, at-above}
 use Rattle.topology.proofs.Water.{Watered, lower-under, lower-keeps, watershed-shape, watershed-watered}
 use Rattle.topology.proofs.Branches.{joined-kept}
 use Rattle.topology.proofs.Minima.{patch-minimum, minimum-kept}
@@ -86,7 +86,7 @@ watered-kept f ys ok w =
     a = withPixels f ys
 
     byte : (i : ℕ) → getD ys i 0 ≤ 255
-    byte i = let b = byte-at (f .pixels) (ok .bytes) i in let u = w .under i in omega arith
+    byte i = let b = value-byte f ok i in let u = w .under i in omega arith
 
     size : length ys ≡ places f
     size = w .size ∙ ok .size

@@ -17,7 +17,7 @@ use Rattle.lists.proofs.Tests.{and-left, and-right, and-both, on-pick, on-elim,
 use Rattle.topology.proofs.Connected.{start, step, conn-trans, conn-source}
 use Rattle.topology.proofs.Adjacency.{Adj, At, Joined, adj-sym, joined-sym, section-at, at-section}
 use Rattle.topology.proofs.Reached.{in-joined, joined-in}
-use Rattle.topology.proofs.Accepted.{Accepted, byte-at}
+use Rattle.topology.proofs.Accepted.{Accepted, value-byte}
 
 distance-next : (a b : ℕ) → a ≡ suc b → distance a b ≡ 1
 distance-next a b h = distance-is a b ∙ omega arith
@@ -91,6 +91,10 @@ module _ (p : Picture) (wide : 1 ≤ p .width) where
         subst (λ (y : ℕ). Joined p k 0 y) e
         (row-joined (x / w) (x % w) b (omega arith) (rows-joined (x / w) (omega arith)))
 
+-- all places are joined at 255
+pub picture-joined : (p : Picture) → Accepted p → (x : ℕ) → x < places p → Joined p 255 0 x
+picture-joined p a = grid-joined p (a .some) 255 (λ y b. value-byte p a y)
+
 -- the pass is at most a height at which both places are joined
 pass-below : (p : Picture) (x y h l k : ℕ) → (inSection p h x && isIn y (componentAt p h x)) ≡ true → k ≤ h → h < k + l → passFrom l k p x y ≤ h
 pass-below p x y h zero k t a b = absurd (omega arith)
@@ -115,11 +119,7 @@ pass-most p x y h b c =
 -- the pass between two places of a picture is at most 255
 pub pass-byte : (p : Picture) → Accepted p → (x y : ℕ) → x < places p → y < places p → pass p x y ≤ 255
 pass-byte p a x y bx by =
-    let all-in : (z : ℕ) → z < places p → valueAt p z ≤ 255 = λ z b. byte-at (p .pixels) (a .bytes) z in
-    pass-most p x y 255 (omega arith)
-    (conn-trans
-    (joined-sym p 255 (grid-joined p (a .some) 255 all-in x bx))
-    (grid-joined p (a .some) 255 all-in y by))
+    pass-most p x y 255 (omega arith) (conn-trans (joined-sym p 255 (picture-joined p a x bx)) (picture-joined p a y by))
 
 -- at the pass both places are joined
 pass-from-joined : (p : Picture) (x y : ℕ) → x < places p → (l k : ℕ) → passFrom l k p x y < k + l → Joined p (passFrom l k p x y) x y

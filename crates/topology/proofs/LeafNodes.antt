@@ -3,7 +3,6 @@ use mathlib.Core.Path.{_≡_, sym, ap, subst, _∙_}
 use mathlib.Core.Bool.{Bool, true, false}
 use mathlib.Core.Logic.{_≢_}
 use Prim.Native.Nat.{ℕ, suc, _-_, _<_}
-use native.Mathlib.Omega.{arith}
 use lib.ListN.{length}
 use borrow.Author.Tests.{eq-eqb, ne-eqb}
 use Rattle.lists.specs.Lists.{pick, tally, range, highest}
@@ -12,11 +11,11 @@ use Rattle.picture.specs.Trees.{Node, nodes, nodeAt, fatherOf, mapOf}
 use Rattle.picture.specs.Patches.{depthOf, patchAt}
 use Rattle.lists.proofs.Tests.{on-test, test-false, clash}
 use Rattle.topology.proofs.Connected.{start}
-use Rattle.topology.proofs.Adjacency.{At}
+use Rattle.topology.proofs.Adjacency.{At, at-own}
 use Rattle.topology.proofs.Accepted.{Accepted}
 use Rattle.topology.proofs.Reached.{firstAt, first-joined}
 use Rattle.topology.proofs.Nodes.{node, node-is, node-equal}
-use Rattle.topology.proofs.Fathers.{map-found}
+use Rattle.topology.proofs.Descent.{map-found}
 use Rattle.topology.proofs.Climb.{father}
 use Rattle.topology.proofs.Leaves.{leafAt, bottom, leaf, leaf-sound, leaf-same, bottom-is, is-bottom}
 use Rattle.topology.proofs.PatchNumbers.{patch-in, patch-out, father-no-leaf, no-leaf-father}
@@ -88,7 +87,7 @@ module _ (p : Picture) (ok : Accepted p) where
       (λ l.
       let e = map-leaf p ok x b l in
       let v = ap (λ (n : Node). n .height) e in
-      let s : At p (valueAt p x) x = record { within = b; low = omega arith } in
+      let s = at-own p x b in
       clash
       (subst (λ (n : Node). leafAt p (n .height) (n .first) ≡ true) (sym e)
       (sym (leaf-first x s) ∙ l))

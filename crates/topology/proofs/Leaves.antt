@@ -18,7 +18,7 @@ use Rattle.lists.proofs.Lists.{select-in, select-out, select-mem, mem-select, l
 use Rattle.lists.proofs.Rising.{Rising, none, more, rising-is-select}
 use Rattle.topology.proofs.Connected.{start, conn-target}
 use Rattle.topology.proofs.Adjacency.{At, Joined}
-use Rattle.topology.proofs.Accepted.{Accepted, byte-at}
+use Rattle.topology.proofs.Accepted.{Accepted, value-byte}
 use Rattle.topology.proofs.Reached.{firstAt, component-same, first-joined, first-first}
 use Rattle.topology.proofs.Parts.{isFirst, first-is, is-first, components-mem}
 use Rattle.topology.proofs.Branches.{below-joined}
@@ -114,7 +114,7 @@ module _ (p : Picture) where
   bottom-node ok x b h =
       let (s, e, l) = bottom-is x b h in (
         subst (λ (y : ℕ). List·Memᴰ (node (valueAt p x) y) (nodes p)) e
-            (mem-nodes p (valueAt p x) x (byte-at (p .pixels) (ok .bytes) x) s (leaf-no-branch (valueAt p x) x l)),
+            (mem-nodes p (valueAt p x) x (value-byte p ok x) s (leaf-no-branch (valueAt p x) x l)),
         l,
       )
 

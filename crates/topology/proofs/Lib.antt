@@ -3,10 +3,10 @@ pub mod Connected
 pub mod Keeping
 pub mod Least
 pub mod Adjacency
+pub mod Accepted
 pub mod Reached
 pub mod Parts
 pub mod Bridge
-pub mod Accepted
 pub mod Water
 pub mod Branches
 pub mod Nodes
@@ -18,11 +18,11 @@ pub mod Climb
 pub mod Partners
 pub mod Demand
 pub mod Leaves
+pub mod Tree
 pub mod PatchNumbers
 pub mod PatchFigures
 pub mod ComponentNumbers
 pub mod LeafNodes
 pub mod PatchesKept
 pub mod PatchSums
-pub mod Tree
 pub mod TreeLists

@@ -18,10 +18,10 @@ use Rattle.lists.proofs.Tests.{on-elim}
 use Rattle.lists.proofs.Lists.{select-mem, mem-select}
 use Rattle.topology.proofs.Connected.{conn-target, conn-trans}
 use Rattle.topology.proofs.Keeping.{Keeps, sec-mono}
-use Rattle.topology.proofs.Adjacency.{Adj, At, Joined}
+use Rattle.topology.proofs.Adjacency.{Adj, At, Joined, joined-mono}
 use Rattle.topology.proofs.Reached.{in-joined}
 use Rattle.topology.proofs.Parts.{mem-components}
-use Rattle.topology.proofs.Branches.{joined-mono, joined-below}
+use Rattle.topology.proofs.Branches.{joined-below}
 use Rattle.topology.proofs.Nodes.{nodes-mem}
 
 pub insert-mem : {n : Node} (m : Node) (ns : List Node) → List·Memᴰ n (insertByFirst m ns) → (n ≡ m) ⊎ List·Memᴰ n ns

@@ -15,11 +15,11 @@ use Rattle.picture.specs.Patches.{patchNodes, Patch, patchOf, patchesFrom, patc
 use Rattle.lists.proofs.Tests.{on-test}
 use Rattle.lists.proofs.Rising.{rising-is-select}
 use Rattle.topology.proofs.Connected.{conn-target}
-use Rattle.topology.proofs.Adjacency.{At, Joined, joined-sym, at-own}
-use Rattle.topology.proofs.Accepted.{Accepted, byte-at}
+use Rattle.topology.proofs.Adjacency.{At, joined-sym, at-own}
+use Rattle.topology.proofs.Accepted.{Accepted, value-byte}
 use Rattle.topology.proofs.Reached.{firstAt, component-rising, mem-joined, joined-mem, first-joined, first-same, first-at}
 use Rattle.topology.proofs.Nodes.{node, number-found}
-use Rattle.topology.proofs.Descent.{map-under, under-fork, under-is}
+use Rattle.topology.proofs.Descent.{map-under, map-is, under-fork}
 use Rattle.lists.proofs.Positions.{tally-next-in, select-index, tally-inject}
 use Rattle.topology.proofs.Leaves.{leafAt, bottom, leaf, leaf-sound, leaf-same, leaf-no-branch, bottom-is, first-bottom, patch-nodes-are}
 use Rattle.topology.proofs.PatchNumbers.{patch-count, patch-in, patch-out}
@@ -136,10 +136,8 @@ module _ (p : Picture) (ok : Accepted p) where
       let s = at-own p x b in
       let e = leaf-no-branch p (valueAt p x) x l in
       ap (nodeAt p) (map-under p x ∙ under-fork p (valueAt p x) x e) ∙
-      number-found p (valueAt p x) x (byte-at (p .pixels) (ok .bytes) x) s e .1
+      number-found p (valueAt p x) x (value-byte p ok x) s e .1
 
   pub leaf-map : (x : ℕ) → x < places p → nodeAt p (mapOf p x) .height ≡ valueAt p x → leafAt p (valueAt p x) (nodeAt p (mapOf p x) .first) ≡ true → leafAt p (valueAt p x) x ≡ true
   leaf-map x b e l =
-      let u = under-is p (valueAt p x) x (byte-at (p .pixels) (ok .bytes) x) (at-own p x b) in
-      let c = subst (λ (i : ℕ). Joined p (valueAt p x) x (nodeAt p i .first)) (sym (map-under p x)) (u .joined) in
-      leaf-same p c ∙ l
+      leaf-same p (map-is p ok x b .joined) ∙ l

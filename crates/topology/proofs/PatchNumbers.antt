@@ -1,7 +1,6 @@
 -- The number of patches and the patch of a place, by the first places of minima; a leaf is the father of no node.
 use mathlib.Core.Path.{_≡_, refl, sym, ap, subst, _∙_}
 use mathlib.Core.Bool.{true, false}
-use mathlib.Core.Logic.{⊎-elim}
 use mathlib.Core.List.{List, map, Memᴰ·of-map}
 use Prim.Native.Nat.{ℕ, zero, suc, _+_, _-_, _≤_, _<_}
 use native.Mathlib.Omega.{arith}
@@ -23,8 +22,9 @@ use Rattle.topology.proofs.Accepted.{Accepted}
 use Rattle.topology.proofs.Reached.{firstAt, mem-joined, joined-mem, in-joined, joined-in, first-joined, first-same, first-at}
 use Rattle.topology.proofs.Nodes.{IsNode, node-is, number-found}
 use Rattle.topology.proofs.Fathers.{NodeFrom, top, fork, father-is, number-small}
-use Rattle.topology.proofs.Descent.{under, under-same, under-is, under-up}
-use Rattle.topology.proofs.Climb.{father, under-node}
+use Rattle.topology.proofs.Descent.{under, under-is}
+use Rattle.topology.proofs.Climb.{father}
+use Rattle.topology.proofs.Tree.{son-of}
 use Rattle.lists.proofs.Positions.{tally-next-in, index-only, index-none}
 use Rattle.topology.proofs.Leaves.{leafAt, bottom, leaf, leaf-sound, leaf-complete, leaf-same, bottom-is, first-bottom, patch-nodes-are}
 
@@ -137,16 +137,5 @@ module _ (p : Picture) (ok : Accepted p) where
       son (suc j) e =
           let (z, c, v) = below j e in
           let s : At p j z = record { within = conn-target c .within; low = v } in
-          let top : suc j ≤ 255 = let w = n .low in omega arith in
-          let u = under-is p j z (omega arith) s in
-          let same : under p (suc j) z ≡ i =
-          sym (under-same p c) ∙ (ap (λ (k : ℕ). under p k y) (sym e) ∙ under-node p ok i b)
-          in
-          ⊎-elim
-          (λ q.
-          absurd
-          (let w = u .low in
-          let h = ap (λ (m : ℕ). nodeAt p m .height) (sym q ∙ same) in
-          omega arith))
-          (λ q. (under p j z, u .number, q ∙ same))
-          (under-up p j z top s)
+          let low : j ≤ 255 = let w = n .low in omega arith in
+          (under p j z, under-is p j z low s .number, son-of p ok i j z b e s c)

@@ -15,7 +15,7 @@ use Rattle.picture.specs.Patches.{Patch, patchOf, patches, patchAt, depthOf}
 use Rattle.lists.proofs.Tests.{on-test, on-pick, pick-in, pick-out}
 use Rattle.lists.proofs.Lists.{range-mem}
 use Rattle.topology.proofs.Connected.{start}
-use Rattle.topology.proofs.Adjacency.{At}
+use Rattle.topology.proofs.Adjacency.{at-own}
 use Rattle.topology.proofs.Accepted.{Accepted}
 use Rattle.topology.proofs.Reached.{firstAt, first-least, first-at}
 use Rattle.lists.proofs.Numbers.{map-same}
@@ -76,7 +76,7 @@ module _ (p : Picture) (ok : Accepted p) where
       (λ l.
       let k = valueAt p x in
       let z = firstAt p k x in
-      let s : At p k x = record { within = b; low = omega arith } in
+      let s = at-own p x b in
       let least = first-least p k (start s) in
       by-cases (ℕ-discrete z x)
       (λ q. is-bottom p x s q l)
@@ -100,7 +100,7 @@ module _ (p : Picture) (ok : Accepted p) where
       on-test (leafAt p (valueAt p x) x)
       (λ l.
       let k = valueAt p x in
-      let s : At p k x = record { within = b; low = omega arith } in
+      let s = at-own p x b in
       let z = firstAt p k x in
       let w = first-at p k x s .within in
       let t = tally-bound (bottom p) (suc z) in

@@ -16,11 +16,11 @@ use Rattle.picture.specs.Kept.{partners}
 use Rattle.lists.proofs.Tests.{same-test}
 use Rattle.topology.proofs.Connected.{start, conn-target, conn-trans}
 use Rattle.topology.proofs.Keeping.{Keeps, sec-mono}
-use Rattle.topology.proofs.Adjacency.{Adj, At, Joined, joined-sym}
+use Rattle.topology.proofs.Adjacency.{Adj, At, Joined, joined-sym, joined-mono}
 use Rattle.topology.proofs.Reached.{firstAt, first-joined, first-same, first-at}
 use Rattle.topology.proofs.Accepted.{Accepted, accepted-is}
 use Rattle.topology.proofs.Water.{watershed-shape, watershed-watered}
-use Rattle.topology.proofs.Branches.{joined-mono, joined-kept}
+use Rattle.topology.proofs.Branches.{joined-kept}
 use Rattle.lists.proofs.Numbers.{pigeonhole}
 use Rattle.topology.proofs.Nodes.{node-is}
 use Rattle.lists.proofs.Positions.{tally-rises, tally-inject, tally-reach}

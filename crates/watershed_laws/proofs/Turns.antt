@@ -17,7 +17,7 @@ use Rattle.lists.proofs.Sums.{total-less, total-bounded}
 use Rattle.topology.proofs.Adjacency.{Adj}
 use Rattle.topology.proofs.Accepted.{Accepted, byte-at}
 use Rattle.topology.proofs.Nodes.{nodes-few}
-use Rattle.topology.proofs.Fathers.{map-found}
+use Rattle.topology.proofs.Descent.{map-found}
 use Rattle.topology.proofs.Climb.{father-of, father-greater}
 use Rattle.topology.proofs.Water.{Leads, less, ties}
 use Rattle.watershed_laws.proofs.Oracle.{Drops}
