@@ -149,7 +149,7 @@ module _ (p : Picture) where
                 (λ d. let l = least in absurd (s .done first x (omega arith) back new))
 
             begins : bottom p x ≡ true
-            begins = is-bottom p x at same leaf
+            begins = is-bottom p k x at same leaf
 
   -- all places scanned
   pub scan-end : (r : ℕ) (cells : List ℕ) → Accepted p → Scanned p (places p) r cells → r ≡ length (patches p)

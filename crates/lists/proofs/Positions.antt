@@ -1,15 +1,15 @@
 -- The place of a member in a list that a range selects: how many selected numbers come up to it.
 use mathlib.Core.Path.{_≡_, refl, sym, ap, subst, _∙_}
 use mathlib.Core.Bool.{Bool, true, false}
-use mathlib.Core.Logic.{by-cases}
+use mathlib.Core.Logic.{_≢_, by-cases}
 use mathlib.Core.List.{List, [], _∷_, map, List·Memᴰ, List·Memᴰ·head, List·Memᴰ·tail}
 use Prim.Native.Nat.{ℕ, zero, suc, _+_, _-_, _≤_, _<_}
 use native.Mathlib.Decide.{ℕ-discrete, decLt}
 use native.Mathlib.Omega.{arith}
 use lib.ListN.{length, getD}
-use Rattle.lists.specs.Lists.{tally, select, indexFrom, range}
-use Rattle.lists.proofs.Tests.{on-test, on-elim, clash}
-use Rattle.lists.proofs.Lists.{select-in, select-out, tally-in, tally-out}
+use Rattle.lists.specs.Lists.{any, tally, select, indexFrom, range}
+use Rattle.lists.proofs.Tests.{on-test, on-elim, clash, test-false}
+use Rattle.lists.proofs.Lists.{any-mem, mem-any, select-in, select-out, tally-in, tally-out}
 
 -- a range in two parts
 pub tally-range : (t : ℕ → Bool) (x l m : ℕ) → tally t (range x (l + m)) ≡ tally t (range x l) + tally t (range (x + l) m)
@@ -152,6 +152,13 @@ index-none s m i (x ∷ xs) f =
     on-elim (λ (r : ℕ). r ≡ m) (s x)
     (λ e. absurd (clash e (f x (List·Memᴰ·head refl))))
     (λ e. index-none s m (suc i) xs (λ y k. f y (List·Memᴰ·tail k)))
+
+-- a member that passes the test is found
+pub index-found : {A : Type 0} (s : A → Bool) (m i : ℕ) (l : List A) → indexFrom m i s l ≢ m → (x : A) × List·Memᴰ x l × (s x ≡ true)
+index-found s m i l h =
+    on-test (any s l)
+    (λ e. any-mem s l e)
+    (λ e. absurd (h (index-none s m i l (λ x k. test-false (s x) (λ q. clash (mem-any s k q) e)))))
 
 -- each number below a tally is the number of members before one that passes the test
 pub tally-reach : (t : ℕ → Bool) (m i : ℕ) → i < tally t (range 0 m) → (z : ℕ) × (z < m) × (t z ≡ true) × (tally t (range 0 z) ≡ i)

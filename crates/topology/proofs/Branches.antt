@@ -1,7 +1,7 @@
 -- Branches: components that contain exactly one component of the height below. Keeping parts keeps them.
 use mathlib.Core.Path.{_≡_, refl, sym, ap, _∙_}
 use mathlib.Core.Bool.{Bool, true, false}
-use mathlib.Core.List.{List, [], _∷_, List·Memᴰ, List·Memᴰ·not-nil, List·Memᴰ·eq-of-singleton}
+use mathlib.Core.List.{List, []}
 use Prim.Native.Nat.{ℕ, zero, suc}
 use native.Mathlib.Omega.{arith}
 use lib.Dec.{eqb}
@@ -13,6 +13,7 @@ use Rattle.picture.specs.Components.{componentAt, components}
 use Rattle.picture.specs.Trees.{below, isBranch}
 use Rattle.lists.proofs.Tests.{on-test, same-test, clash}
 use Rattle.lists.proofs.Lists.{any-mem, mem-any, mem-select, length-select}
+use Rattle.lists.proofs.Members.{only-member}
 use Rattle.topology.proofs.Connected.{start, step, conn-source, conn-target, conn-trans, conn-mono, conn-closed}
 use Rattle.topology.proofs.Keeping.{Keeps}
 use Rattle.topology.proofs.Adjacency.{Adj, At, Joined, joined-sym, at-next, joined-next}
@@ -75,14 +76,9 @@ module _ (p : Picture) (j x : ℕ) (s : At p (suc j) x) where
   pub branch-below : (b : Branch p j x) → getD (below p (suc j) (componentAt p (suc j) x)) 0 [] ≡ componentAt p j (b .low)
   unfolding isBranch within
   branch-below b =
-      only-member (below p (suc j) (componentAt p (suc j) x))
+      only-member [] (below p (suc j) (componentAt p (suc j) x))
       (eqb-true (length (below p (suc j) (componentAt p (suc j) x))) 1 (branch-complete b))
       (mem-select within (components p j) (mem-components p j (b .low) (b .place)) (joined-below (b .low) (b .place) (b .inside)))
-    where
-      only-member : {c : List ℕ} (l : List (List ℕ)) → length l ≡ 1 → List·Memᴰ c l → getD l 0 [] ≡ c
-      only-member [] e m = absurd (List·Memᴰ·not-nil m)
-      only-member (d ∷ []) e m = sym (List·Memᴰ·eq-of-singleton m)
-      only-member (d ∷ (g ∷ gs)) e m = absurd (omega arith)
 
 -- at height 0 there is no branch
 pub branch-zero : (p : Picture) (c : List ℕ) → isBranch p 0 c ≡ false

@@ -1,15 +1,15 @@
 -- Fathers: which node they are, and that only a root's father is missing.
-use mathlib.Core.Path.{_≡_, refl, subst}
+use mathlib.Core.Path.{_≡_, refl}
 use mathlib.Core.Bool.{true, false}
-use mathlib.Core.Logic.{_⊎_, inl, inr, by-cases}
+use mathlib.Core.Logic.{_⊎_, inl, inr}
 use Prim.Native.Nat.{ℕ, zero, suc, _+_, _-_, _≤_, _<_}
-use native.Mathlib.Decide.{ℕ-discrete}
 use native.Mathlib.Omega.{arith}
 use lib.ListN.{length}
 use Rattle.picture.specs.Pictures.{Picture}
 use Rattle.picture.specs.Components.{componentAt}
 use Rattle.picture.specs.Trees.{Node, isBranch, nodes, numberOf, aboveFrom, fatherOf}
 use Rattle.lists.proofs.Tests.{on-elim}
+use Rattle.lists.proofs.Numbers.{from-next}
 use Rattle.topology.proofs.Keeping.{sec-mono}
 use Rattle.topology.proofs.Accepted.{Accepted, places-bound}
 use Rattle.topology.proofs.Nodes.{IsNode, number-found, nodes-few}
@@ -21,10 +21,6 @@ pub data NodeFrom (p : Picture) (x k r : ℕ) : Type 0 where
       (h : ℕ) → k ≤ h → h ≤ 255 → isBranch p h (componentAt p h x) ≡ false →
       ((j : ℕ) → k ≤ j → j < h → isBranch p j (componentAt p j x) ≡ true) →
       r ≡ numberOf p h (componentAt p h x) → NodeFrom p x k r
-
-from-next : (P : ℕ → Type 0) (k h : ℕ) → k ≤ h → P k → (suc k ≤ h → P h) → P h
-from-next P k h a e f =
-    by-cases (ℕ-discrete k h) (λ i. subst P i e) (λ d. f (omega arith))
 
 module _ (p : Picture) (x : ℕ) where
   -- one branch more below

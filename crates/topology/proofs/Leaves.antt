@@ -82,31 +82,26 @@ module _ (p : Picture) where
       let (s, e) = first-is p (valueAt p x) x b (and-left (isFirst p (valueAt p x) x) (leafAt p (valueAt p x) x) h) in
       (s, e, and-right (isFirst p (valueAt p x) x) (leafAt p (valueAt p x) x) h)
 
-  pub is-bottom : (x : ℕ) → At p (valueAt p x) x → firstAt p (valueAt p x) x ≡ x → leafAt p (valueAt p x) x ≡ true → bottom p x ≡ true
+  pub is-bottom : (k x : ℕ) → At p k x → firstAt p k x ≡ x → leafAt p k x ≡ true → bottom p x ≡ true
   unfolding bottom
-  is-bottom x s e l = and-both (is-first p (valueAt p x) x s e) l
+  is-bottom k x s e l =
+      subst (λ (j : ℕ). isFirst p j x && leafAt p j x ≡ true) (sym (leaf-sound k x s l x (start s))) (and-both (is-first p k x s e) l)
 
   -- the first place of the minimum of a pixel
-  pub first-bottom : (x : ℕ) → (s : At p (valueAt p x) x) → leafAt p (valueAt p x) x ≡ true → (bottom p (firstAt p (valueAt p x) x) ≡ true) × (valueAt p (firstAt p (valueAt p x) x) ≡ valueAt p x)
-  first-bottom x s l =
-      let k = valueAt p x in
-      let z = firstAt p k x in
-      let c = first-joined p k x s in
-      let v = leaf-sound k x s l z c in (
-        subst (λ (j : ℕ). At p j z → firstAt p j z ≡ z → leafAt p j z ≡ true → bottom p z ≡ true) v (is-bottom z)
-            (conn-target c) (first-first p k x s) (sym (leaf-same c) ∙ l),
-        v,
+  pub first-bottom : (k x : ℕ) → At p k x → leafAt p k x ≡ true → (bottom p (firstAt p k x) ≡ true) × (valueAt p (firstAt p k x) ≡ k)
+  first-bottom k x s l =
+      let c = first-joined p k x s in (
+        is-bottom k (firstAt p k x) (conn-target c) (first-first p k x s) (sym (leaf-same c) ∙ l),
+        leaf-sound k x s l (firstAt p k x) c,
       )
 
   -- a leaf of the tree is known by its first place
-  leaf-node : {n : Node} → List·Memᴰ n (nodes p) → isLeaf p n ≡ true → (n ≡ leaf p (n .first)) × (bottom p (n .first) ≡ true)
+  pub leaf-node : {n : Node} → List·Memᴰ n (nodes p) → isLeaf p n ≡ true → (n ≡ leaf p (n .first)) × (bottom p (n .first) ≡ true)
   unfolding isLeaf leafAt
   leaf-node {n} m l =
-      let i = nodes-mem p m in
-      let v = leaf-sound (n .height) (n .first) (i .place) l (n .first) (start (i .place)) in (
-        ap (λ (k : ℕ). node k (n .first)) (sym v),
-        subst (λ (j : ℕ). At p j (n .first) → firstAt p j (n .first) ≡ n .first → leafAt p j (n .first) ≡ true → bottom p (n .first) ≡ true) v
-            (is-bottom (n .first)) (i .place) (i .first) l,
+      let i = nodes-mem p m in (
+        ap (λ (k : ℕ). node k (n .first)) (sym (leaf-sound (n .height) (n .first) (i .place) l (n .first) (start (i .place)))),
+        is-bottom (n .height) (n .first) (i .place) (i .first) l,
       )
 
   bottom-node : Accepted p → (x : ℕ) → x < places p → bottom p x ≡ true → List·Memᴰ (leaf p x) (nodes p) × (isLeaf p (leaf p x) ≡ true)

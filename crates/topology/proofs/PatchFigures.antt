@@ -1,11 +1,11 @@
 -- The figures of a patch: its pixels by their patch number, its record by its number, its node by the map.
 use mathlib.Core.Path.{_≡_, refl, sym, ap, ap₂, subst, _∙_}
 use mathlib.Core.Bool.{true}
-use mathlib.Core.List.{List, [], _∷_, map, List·Memᴰ}
+use mathlib.Core.List.{List, [], _∷_, List·Memᴰ}
 use Prim.Native.Nat.{ℕ, zero, suc, _+_, _-_, _<_}
 use native.Mathlib.Omega.{arith}
 use lib.Dec.{eqb}
-use lib.ListN.{length, getD}
+use lib.ListN.{length, getD, length-map}
 use borrow.Author.Tests.{eqb-true, eq-eqb}
 use Rattle.lists.specs.Lists.{tally, select, range}
 use Rattle.picture.specs.Pictures.{Picture, places, valueAt}
@@ -13,6 +13,7 @@ use Rattle.picture.specs.Components.{componentAt}
 use Rattle.picture.specs.Trees.{Node, nodeAt, componentOf, mapOf}
 use Rattle.picture.specs.Patches.{patchNodes, Patch, patchOf, patchesFrom, patches, patchAt}
 use Rattle.lists.proofs.Tests.{on-test}
+use Rattle.lists.proofs.Lists.{getD-map}
 use Rattle.lists.proofs.Rising.{rising-is-select}
 use Rattle.topology.proofs.Connected.{conn-target}
 use Rattle.topology.proofs.Adjacency.{At, joined-sym, at-own}
@@ -73,7 +74,7 @@ module _ (p : Picture) (ok : Accepted p) where
           (λ lx.
           let sx = at-own p x xb in
           let y = firstAt p (valueAt p x) x in
-          let (hy, v) = first-bottom p x sx lx in
+          let (hy, v) = first-bottom p (valueAt p x) x sx lx in
           let yb = first-at p (valueAt p x) x sx .within in
           let (sy, ey, ly) = bottom-is p y yb hy in
           let w : patchAt p y ≡ patchAt p z =
@@ -111,24 +112,15 @@ module _ (p : Picture) (ok : Accepted p) where
       let e′ = sym (ap (λ (m : ℕ). getD chosen (tally (bottom p) (range 0 m)) 0) q) ∙ e in
       let l′ = subst (λ (m : ℕ). tally (bottom p) (range 0 m) < length chosen) q l in
       let i = tally (bottom p) (range 0 z) in
-      let size = ap length (patch-nodes-are p ok) ∙ long chosen in
+      let size = ap length (patch-nodes-are p ok) ∙ length-map chosen (leaf p) in
       patches-at 1 d (patchNodes p) i (omega arith) ∙
       ap₂ (λ (m : ℕ) (n : Node). patchOf p m n)
       (let w = bottom-number z b h in omega arith)
       (ap (λ (ns : List Node). getD ns i (node 0 0)) (patch-nodes-are p ok) ∙
-      (entry chosen i l′ ∙ ap (leaf p) e′))
+      (getD-map (leaf p) 0 (node 0 0) chosen i l′ ∙ ap (leaf p) e′))
     where
       chosen : List ℕ
       chosen = select (bottom p) (range 0 (places p))
-
-      long : (l : List ℕ) → length (map (leaf p) l) ≡ length l
-      long [] = refl
-      long (x ∷ xs) = ap suc (long xs)
-
-      entry : (l : List ℕ) (i : ℕ) → i < length l → getD (map (leaf p) l) i (node 0 0) ≡ leaf p (getD l i 0)
-      entry [] i c = absurd (omega arith)
-      entry (x ∷ xs) zero c = refl
-      entry (x ∷ xs) (suc i) c = entry xs i (omega arith)
 
   -- a pixel is in a minimum exactly if its node is a leaf of its own value
   pub map-leaf : (x : ℕ) → x < places p → leafAt p (valueAt p x) x ≡ true → nodeAt p (mapOf p x) ≡ node (valueAt p x) (firstAt p (valueAt p x) x)

@@ -3,7 +3,7 @@ use mathlib.Core.Path.{_≡_, refl, sym, ap, subst, _∙_}
 use mathlib.Core.Bool.{true}
 use mathlib.Core.Logic.{by-cases}
 use mathlib.Core.List.{List, [], _∷_, map}
-use Prim.Native.Nat.{ℕ, suc, _+_, _-_, _*_, _≤_, _<_}
+use Prim.Native.Nat.{ℕ, suc, _+_, _*_, _≤_, _<_}
 use native.Mathlib.Decide.{ℕ-discrete}
 use native.Mathlib.Omega.{arith}
 use lib.Dec.{eqb}
@@ -20,7 +20,7 @@ use Rattle.topology.proofs.Accepted.{Accepted}
 use Rattle.topology.proofs.Reached.{firstAt, first-least, first-at}
 use Rattle.lists.proofs.Numbers.{map-same}
 use Rattle.topology.proofs.Leaves.{leafAt, bottom, leaf, is-bottom}
-use Rattle.lists.proofs.Positions.{tally-range, tally-bound, tally-reach}
+use Rattle.lists.proofs.Positions.{tally-below, tally-bound, tally-reach}
 use Rattle.lists.proofs.Sums.{total-select, total-next, total-most}
 use Rattle.topology.proofs.PatchNumbers.{patch-in, patch-out}
 use Rattle.topology.proofs.PatchFigures.{bottom-number, patch-members, patches-count, patch-record}
@@ -79,12 +79,10 @@ module _ (p : Picture) (ok : Accepted p) where
       let s = at-own p x b in
       let least = first-least p k (start s) in
       by-cases (ℕ-discrete z x)
-      (λ q. is-bottom p x s q l)
+      (λ q. is-bottom p k x s q l)
       (λ q.
       let n = patch-in p ok x b l in
-      let d : suc z + (x - suc z) ≡ x = omega arith in
-      let t = tally-range (bottom p) 0 (suc z) (x - suc z) in
-      let u = ap (λ (m : ℕ). tally (bottom p) (range 0 m)) d in
+      let t = tally-below (bottom p) (suc z) x (omega arith) in
       absurd (omega arith)))
       (λ l. absurd (let o = patch-out p ok x b l in omega arith))
 

@@ -1,10 +1,8 @@
 -- A picture and its watershed have equally many patches, and partners are leaves together, of one height.
 use mathlib.Core.Path.{_≡_, refl, sym, ap, subst, _∙_}
 use mathlib.Core.Bool.{true}
-use mathlib.Core.Logic.{by-cases}
 use mathlib.Core.List.{List}
-use Prim.Native.Nat.{ℕ, zero, suc, _≤_, _<_}
-use native.Mathlib.Decide.{decLt}
+use Prim.Native.Nat.{ℕ, _<_}
 use native.Mathlib.Omega.{arith}
 use lib.ListN.{length}
 use Rattle.lists.specs.Lists.{tally, range}
@@ -14,15 +12,16 @@ use Rattle.picture.specs.Watersheds.{watershed}
 use Rattle.picture.specs.Patches.{patches}
 use Rattle.picture.specs.Kept.{partners}
 use Rattle.lists.proofs.Tests.{same-test}
-use Rattle.topology.proofs.Connected.{start, conn-target, conn-trans}
-use Rattle.topology.proofs.Keeping.{Keeps, sec-mono}
-use Rattle.topology.proofs.Adjacency.{Adj, At, Joined, joined-sym, joined-mono}
+use Rattle.topology.proofs.Connected.{conn-target, conn-trans}
+use Rattle.topology.proofs.Keeping.{Keeps}
+use Rattle.topology.proofs.Adjacency.{Adj, At, Joined, joined-sym}
 use Rattle.topology.proofs.Reached.{firstAt, first-joined, first-same, first-at}
 use Rattle.topology.proofs.Accepted.{Accepted, accepted-is}
 use Rattle.topology.proofs.Water.{watershed-shape, watershed-watered}
 use Rattle.topology.proofs.Branches.{joined-kept}
 use Rattle.lists.proofs.Numbers.{pigeonhole}
 use Rattle.topology.proofs.Nodes.{node-is}
+use Rattle.topology.proofs.Minima.{flat-kept}
 use Rattle.lists.proofs.Positions.{tally-rises, tally-inject, tally-reach}
 use Rattle.topology.proofs.Leaves.{leafAt, bottom, leaf-sound, leaf-complete, leaf-same, bottom-is, first-bottom}
 use Rattle.topology.proofs.PatchFigures.{patches-count}
@@ -35,19 +34,7 @@ module _ (f : Picture) (xs : List ℕ) (keeps : (k : ℕ) → Keeps (places f) (
   a = withPixels f xs
 
   leaf-forth : (k x : ℕ) → At f k x → leafAt f k x ≡ true → leafAt a k x ≡ true
-  leaf-forth k x s l = leaf-complete a k x (keeps k .subset x s) (λ u c. level k refl u c)
-    where
-      level : (j : ℕ) → j ≡ k → (u : ℕ) → Joined a k x u → valueAt a u ≡ k
-      level zero e u c = let b = conn-target c .low in omega arith
-      level (suc j) e u c =
-          let b = conn-target c .low in
-          by-cases (decLt (valueAt a u) k)
-          (λ h.
-          let (z, sz, d) = keeps j .reaches u (record { within = conn-target c .within; low = omega arith }) in
-          let up : j ≤ k = omega arith in
-          let g = keeps k .separates x z s (sec-mono up z sz) (conn-trans c (joined-mono a up d)) in
-          absurd (let q = leaf-sound f k x s l z g in let r = sz .low in omega arith))
-          (λ h. omega arith)
+  leaf-forth k x s l = leaf-complete a k x (keeps k .subset x s) (flat-kept f xs keeps k x s (leaf-sound f k x s l))
 
   leaf-back : (k x : ℕ) → At f k x → leafAt a k x ≡ true → leafAt f k x ≡ true
   leaf-back k x s l =
@@ -84,12 +71,6 @@ module _ (f : Picture) (xs : List ℕ) (keeps : (k : ℕ) → Keeps (places f) (
   begins : (p : Picture) (x k : ℕ) → x < places p → bottom p x ≡ true → valueAt p x ≡ k → At p k x × (firstAt p k x ≡ x) × (leafAt p k x ≡ true)
   begins p x k b h v = subst (λ (l : ℕ). At p l x × (firstAt p l x ≡ x) × (leafAt p l x ≡ true)) v (bottom-is p x b h)
 
-  first-begins : (p : Picture) (x k : ℕ) → At p k x → leafAt p k x ≡ true → (bottom p (firstAt p k x) ≡ true) × (valueAt p (firstAt p k x) ≡ k)
-  first-begins p x k s l =
-      let v = leaf-sound p k x s l x (start s) in
-      subst (λ (j : ℕ). At p j x → leafAt p j x ≡ true → (bottom p (firstAt p j x) ≡ true) × (valueAt p (firstAt p j x) ≡ j)) v
-      (first-bottom p x) s l
-
   -- each patch of f has a partner
   forth : Accepted f → (i : ℕ) → i < length (patches f) → (j : ℕ) × (j < tally (bottom a) (range 0 (places f))) × Partner i j
   forth ok i h =
@@ -99,7 +80,7 @@ module _ (f : Picture) (xs : List ℕ) (keeps : (k : ℕ) → Keeps (places f) (
       let t = keeps k .subset z s in
       let w = firstAt a k z in
       let wb = first-at a k z t .within in
-      let (g, v) = first-begins a z k t (leaf-forth k z s l) in (
+      let (g, v) = first-bottom a k z t (leaf-forth k z s l) in (
         tally (bottom a) (range 0 w),
         tally-rises (bottom a) w (places f) wb g,
         partner z w k b wb q g r refl refl v (first-joined a k z t),
@@ -116,7 +97,7 @@ module _ (f : Picture) (xs : List ℕ) (keeps : (k : ℕ) → Keeps (places f) (
       let z = firstAt f k u in
       let d = first-joined f k u su in
       let zb = conn-target d .within in
-      let (g, v) = first-begins f u k su lu in (
+      let (g, v) = first-bottom f k u su lu in (
         tally (bottom f) (range 0 z),
         tally-rises (bottom f) z (places f) zb g,
         partner z w k zb b g q refl r v refl (joined-sym a k (conn-trans c (joined-kept f xs keeps d))),
