@@ -4,7 +4,7 @@ use mathlib.Core.List.{List, _++_, append-nil}
 use Prim.Native.Nat.{ℕ, _+_, _-_, _≤_, _<_}
 use native.Mathlib.Omega.{arith}
 use lib.ListN.{length, getD, take, drop, length-append, length-drop, drop-of-length-le, List·getD-append}
-use lib.Seq.{drop-drop, take-all, take-add, take-at}
+use lib.Seq.{drop-drop, getD-drop, take-all, take-add, take-at}
 use Rattle.lists.specs.Lists.{over}
 
 -- lists that are equal from a on are so from b on
@@ -31,8 +31,17 @@ pub over-all : {A : Type 0} (new old : List A) → length old ≤ length new →
 over-all {A = A} new old h = ap (λ (l : List A). new ++ l) (drop-of-length-le old {i = length new} h) ∙ append-nil new
 
 -- the part of a list from a position on, as a slice of it is made
-pub take-rest : (p : ℕ) (f : List ℕ) → take (length f - p) (drop p f) ≡ drop p f
+abbrev pub from : ℕ → List ℕ → List ℕ
+from b l = take (length l - b) (drop b l)
+
+pub take-rest : (p : ℕ) (f : List ℕ) → from p f ≡ drop p f
 take-rest p f = take-all (length f - p) (drop p f) (omega (arith, length-drop p f))
+
+pub from-at : (b i : ℕ) (l : List ℕ) → getD (from b l) i 0 ≡ getD l (b + i) 0
+from-at b i l = ap (λ (m : List ℕ). getD m i 0) (take-rest b l) ∙ getD-drop b l i 0
+
+pub from-length : (b : ℕ) (l : List ℕ) → length (from b l) ≡ length l - b
+from-length b l = ap length (take-rest b l) ∙ length-drop b l
 
 -- a part u that stands from p on, before q
 pub take-part : (f : List ℕ) (p q : ℕ) (u s : List ℕ) → drop p f ≡ u ++ s → q ≡ p + length u → take q f ≡ take p f ++ u

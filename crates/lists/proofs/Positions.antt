@@ -9,30 +9,18 @@ use native.Mathlib.Omega.{arith}
 use lib.ListN.{length, getD}
 use Rattle.lists.specs.Lists.{any, tally, select, indexFrom, range}
 use Rattle.lists.proofs.Tests.{on-test, on-elim, clash, test-false}
-use Rattle.lists.proofs.Lists.{any-mem, mem-any, select-in, select-out, tally-in, tally-out}
+use Rattle.lists.proofs.Lists.{any-mem, mem-any, select-in, select-out, tally-in, tally-out, tally-length, tally-append, length-range, range-append, range-next}
 
 -- a range in two parts
 pub tally-range : (t : ℕ → Bool) (x l m : ℕ) → tally t (range x (l + m)) ≡ tally t (range x l) + tally t (range (x + l) m)
-tally-range t x zero m =
-    let a : 0 + m ≡ m = omega arith in
-    let b : x + 0 ≡ x = omega arith in
-    ap (λ (k : ℕ). tally t (range x k)) a ∙ (ap (λ (y : ℕ). tally t (range y m)) (sym b) ∙ omega arith)
-tally-range t x (suc l) m =
-    let a : suc l + m ≡ suc (l + m) = omega arith in
-    let b : suc x + l ≡ x + suc l = omega arith in
-    let r = tally-range t (suc x) l m ∙ ap (λ (y : ℕ). tally t (range (suc x) l) + tally t (range y m)) b in
-    ap (λ (k : ℕ). tally t (range x k)) a ∙
-    on-test (t x)
-    (λ e. let p = tally-in t x (range (suc x) (l + m)) e in let q = tally-in t x (range (suc x) l) e in omega arith)
-    (λ e. let p = tally-out t x (range (suc x) (l + m)) e in let q = tally-out t x (range (suc x) l) e in omega arith)
+tally-range t x l m = ap (tally t) (range-append x l m) ∙ tally-append t (range x l) (range (x + l) m)
 
 -- one number more
 pub tally-next : (t : ℕ → Bool) (x : ℕ) → tally t (range 0 (suc x)) ≡ tally t (range 0 x) + tally t (x ∷ [])
 tally-next t x =
-    let a : suc x ≡ x + 1 = omega arith in
-    let b : 0 + x ≡ x = omega arith in
-    ap (λ (k : ℕ). tally t (range 0 k)) a ∙
-    (tally-range t 0 x 1 ∙ ap (λ (y : ℕ). tally t (range 0 x) + tally t (y ∷ [])) b)
+    let e : 0 + x ≡ x = omega arith in
+    ap (tally t) (range-next 0 x) ∙
+    (tally-append t (range 0 x) ((0 + x) ∷ []) ∙ ap (λ (y : ℕ). tally t (range 0 x) + tally t (y ∷ [])) e)
 
 pub tally-next-in : (t : ℕ → Bool) (x : ℕ) → t x ≡ true → tally t (range 0 (suc x)) ≡ suc (tally t (range 0 x))
 tally-next-in t x e = let a = tally-next t x in let b = tally-in t x [] e in omega arith
@@ -43,10 +31,7 @@ tally-next-out t x e = let a = tally-next t x in let b = tally-out t x [] e in o
 -- tallies of the numbers below a bound
 module _ (t : ℕ → Bool) where
   pub tally-bound : (x : ℕ) → tally t (range 0 x) ≤ x
-  tally-bound zero = omega arith
-  tally-bound (suc x) =
-      let r = tally-bound x in
-      on-test (t x) (λ e. omega (arith, tally-next-in t x e)) (λ e. omega (arith, tally-next-out t x e))
+  tally-bound x = omega (arith, tally-length t (range 0 x), length-range 0 x)
 
   pub tally-below : (x y : ℕ) → x ≤ y → tally t (range 0 x) ≤ tally t (range 0 y)
   tally-below x y h =

@@ -14,7 +14,7 @@ use lib.Seq.{getD-set-same, getD-set-other}
 use Rattle.lists.specs.Lists.{pick}
 use Rattle.lists.proofs.Tests.{pick-in, pick-out, pick-add}
 use Rattle.lists.specs.Blocks.{blockEntry, UntouchedOutside, Filled}
-use Rattle.topology.proofs.PatchSums.{sumAt, sum-none, sum-in, sum-out, sum-most}
+use Rattle.lists.proofs.Sums.{sumAt, sum-none, sum-in, sum-out, sum-most}
 use Rattle.patch_sums.specs.declared.Run.{Run}
 use Rattle.patch_sums.specs.Sums.{Figure, sizes, columns, rows, term, terms, termAt, base, raised, Raisable, SumsRoom, Added, RunAfter, NumberedRows, Sums, RowSummed}
 use Rattle.lists.proofs.Blocks.{kept-refl, kept-trans, kept-store}

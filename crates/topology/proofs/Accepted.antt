@@ -73,6 +73,9 @@ places-bound p a = area-most (p .width) (p .height) (a .wide) (a .high)
 pub picture-few : (p : Picture) → isPicture p ≡ true → places p ≤ 1600
 picture-few p h = places-bound p (accepted-is p h)
 
+pub pixels-few : (p : Picture) → isPicture p ≡ true → length (p .pixels) ≤ 1600
+pixels-few p h = let a = picture-few p h in let e = accepted-is p h .size in omega arith
+
 -- a place of it
 pub placed : (p : Picture) → Accepted p → (x : ℕ) → x < places p → Placed (p .width) (p .height) x
 placed p a x h = record { some = a .some; wide = a .wide; high = a .high; inside = h }

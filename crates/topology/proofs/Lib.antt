@@ -25,4 +25,5 @@ pub mod ComponentNumbers
 pub mod LeafNodes
 pub mod PatchesKept
 pub mod PatchSums
+pub mod PatchBounds
 pub mod TreeLists

@@ -1,4 +1,4 @@
--- A picture and its watershed have equally many patches, and partners are leaves together, of one height.
+-- A picture and its watershed have equally many patches.
 use mathlib.Core.Path.{_≡_, refl, sym, ap, subst, _∙_}
 use mathlib.Core.Bool.{true}
 use mathlib.Core.List.{List}
@@ -7,11 +7,8 @@ use native.Mathlib.Omega.{arith}
 use lib.ListN.{length}
 use Rattle.lists.specs.Lists.{tally, range}
 use Rattle.picture.specs.Pictures.{Picture, places, valueAt, withPixels, isPicture}
-use Rattle.picture.specs.Trees.{nodes, nodeAt}
 use Rattle.picture.specs.Watersheds.{watershed}
 use Rattle.picture.specs.Patches.{patches}
-use Rattle.picture.specs.Kept.{partners}
-use Rattle.lists.proofs.Tests.{same-test}
 use Rattle.topology.proofs.Connected.{conn-target, conn-trans}
 use Rattle.topology.proofs.Keeping.{Keeps}
 use Rattle.topology.proofs.Adjacency.{Adj, At, Joined, joined-sym}
@@ -20,13 +17,10 @@ use Rattle.topology.proofs.Accepted.{Accepted, accepted-is}
 use Rattle.topology.proofs.Water.{watershed-shape, watershed-watered}
 use Rattle.topology.proofs.Branches.{joined-kept}
 use Rattle.lists.proofs.Numbers.{pigeonhole}
-use Rattle.topology.proofs.Nodes.{node-is}
 use Rattle.topology.proofs.Minima.{flat-kept}
 use Rattle.lists.proofs.Positions.{tally-rises, tally-inject, tally-reach}
 use Rattle.topology.proofs.Leaves.{leafAt, bottom, leaf-sound, leaf-complete, leaf-same, bottom-is, first-bottom}
 use Rattle.topology.proofs.PatchFigures.{patches-count}
-use Rattle.topology.proofs.LeafNodes.{leafNode}
-use Rattle.topology.proofs.Partners.{partners-joined}
 use Rattle.topology.proofs.Demand.{demand-3}
 
 module _ (f : Picture) (xs : List ℕ) (keeps : (k : ℕ) → Keeps (places f) (Adj f) (valueAt f) (valueAt (withPixels f xs)) k) where
@@ -44,22 +38,6 @@ module _ (f : Picture) (xs : List ℕ) (keeps : (k : ℕ) → Keeps (places f) (
       let b = conn-target c .low in
       let q = keeps (valueAt f u) .subset u (record { within = conn-target c .within; low = omega arith }) .low in
       omega arith)
-
-  -- components that are joined in a are leaves together
-  pub leaf-kept : (k x y : ℕ) → At f k x → Joined a k x y → leafAt f k x ≡ leafAt a k y
-  leaf-kept k x y s c = same-test (leafAt f k x) (leafAt a k x) (leaf-forth k x s) (leaf-back k x s) ∙ leaf-same a c
-
-  -- partners have one height and are leaves together
-  pub leaf-partners :
-      (i j : ℕ) → i < length (nodes f) → j < length (nodes a) → partners f a (nodeAt f i) (nodeAt a j) ≡ true →
-      (nodeAt f i .height ≡ nodeAt a j .height) × (leafNode f i ≡ leafNode a j)
-  unfolding leafNode
-  leaf-partners i j bi bj h =
-      let s = node-is f i bi .place in
-      let (e, c) = partners-joined f xs keeps (nodeAt f i) (nodeAt a j) s (node-is a j bj .place) h in (
-        e,
-        leaf-kept (nodeAt f i .height) (nodeAt f i .first) (nodeAt a j .first) s c ∙ ap (λ (k : ℕ). leafAt a k (nodeAt a j .first)) e,
-      )
 
   -- the patches number i of f and j of a begin at places of one height that are joined in a
   data Partner (i j : ℕ) : Type 0 where
@@ -146,18 +124,3 @@ patches-kept f h =
     let good = accepted-is (watershed f) (demand-3 f h .accepted) in
     as-many f (watershed f .pixels) (watershed-watered f (ok .size) .keeps) ok (subst Accepted shape good) ∙
     ap (λ (p : Picture). length (patches p)) (sym shape)
-
--- a node and its partner in the watershed are leaves together, of one height
-pub watershed-leaves :
-    (f : Picture) → isPicture f ≡ true → (i j : ℕ) → i < length (nodes f) → j < length (nodes (watershed f)) →
-    partners f (watershed f) (nodeAt f i) (nodeAt (watershed f) j) ≡ true →
-    (nodeAt f i .height ≡ nodeAt (watershed f) j .height) × (leafNode f i ≡ leafNode (watershed f) j)
-watershed-leaves f h i j bi =
-    let ok = accepted-is f h in
-    let shape = watershed-shape f (ok .size) in
-    subst Says (sym shape) (leaf-partners f (watershed f .pixels) (watershed-watered f (ok .size) .keeps) i j bi)
-  where
-    Says : Picture → Type 0
-    Says p =
-        j < length (nodes p) → partners f p (nodeAt f i) (nodeAt p j) ≡ true →
-        (nodeAt f i .height ≡ nodeAt p j .height) × (leafNode f i ≡ leafNode p j)
