@@ -10,7 +10,7 @@ use borrow.Author.Tests.{eqb-true}
 use Rattle.lists.specs.Lists.{pick, any, all, select, range, isIn}
 use Rattle.lists.proofs.Tests.{and-left, and-right, and-both, not-of-false, test-false}
 use Rattle.lists.proofs.Lists.{any-mem, mem-any, all-mem, length-select, tally-length, in-mem, mem-in, mem-range}
-use Rattle.lists.proofs.Numbers.{mem-index, index-mem}
+use Rattle.lists.proofs.Indices.{mem-index, index-mem}
 
 module _ {A : Type 0} (t : A → Bool) where
   -- a test that every member and the default pass passes at every index

@@ -24,7 +24,7 @@ use Rattle.topology.proofs.PatchFigures.{bottom-number}
 use Rattle.topology.proofs.PatchSums.{next-bottom, patch-height, patch-depth}
 use Rattle.patch_numbers.specs.Numbers.{Mapped}
 use Rattle.patches.specs.Figures.{depthIn, PatchPut, passed, begun, noPatch, DepthsBefore, Charted, Patched}
-use Rattle.lists.proofs.Blocks.{kept-refl, kept-store}
+use Rattle.lists.proofs.Blocks.{untouched-refl, untouched-store}
 use Rattle.patch_numbers.proofs.Numbering.{kept-row}
 use Rattle.patches.proofs.Charting.{arrays, depth-is, depth-kept}
 
@@ -32,7 +32,7 @@ module _ (n : ℕ) (pixels numbers : List ℕ) (most : ℕ) (work : List ℕ) wh
   pub patched-start : Patched n pixels numbers most 0 work 0 work
   patched-start =
       record {
-        kept = kept-refl (3 * n) (2 * n) work;
+        kept = untouched-refl (3 * n) (2 * n) work;
         few = omega arith;
         begun =
             λ p c.
@@ -174,9 +174,9 @@ module _ (n : ℕ) (pixels numbers : List ℕ) (most : ℕ) (work : List ℕ) wh
         rw (e, g)
         (record {
           kept =
-              kept-store (3 * n) (2 * n) (4 * n + r) (getD pixels x 0) work (set l (3 * n + r) (depthIn n l most (blockEntry l (2 * n) x)))
+              untouched-store (3 * n) (2 * n) (4 * n + r) (getD pixels x 0) work (set l (3 * n + r) (depthIn n l most (blockEntry l (2 * n) x)))
               (omega arith) (omega arith)
-              (kept-store (3 * n) (2 * n) (3 * n + r) (depthIn n l most (blockEntry l (2 * n) x)) work l (omega arith) (omega arith) (f .kept));
+              (untouched-store (3 * n) (2 * n) (3 * n + r) (depthIn n l most (blockEntry l (2 * n) x)) work l (omega arith) (omega arith) (f .kept));
           few = omega arith;
           begun = λ p c. begun-next p c d long;
         })

@@ -1,15 +1,15 @@
 -- The climb from two nodes to their nearest common ancestor, whose height decides at which heights two places are joined.
 use mathlib.Core.Path.{_≡_, sym, ap, subst, _∙_}
 use mathlib.Core.Logic.{⊎-elim, by-cases, _↔_}
-use Prim.Native.Nat.{ℕ, zero, suc, _+_, _-_, _≤_, _<_, max}
+use Prim.Native.Nat.{ℕ, zero, suc, _+_, _-_, _≤_, _<_}
 use native.Mathlib.Decide.{decLe, decLt}
 use native.Mathlib.Omega.{arith}
 use lib.ListN.{length}
 use Rattle.picture.specs.Pictures.{Picture, places, valueAt}
-use Rattle.picture.specs.Components.{componentAt, pass}
+use Rattle.picture.specs.Components.{componentAt}
 use Rattle.picture.specs.Trees.{Node, isBranch, nodes, nodeAt, numberOf, fatherOf, mapOf}
 use Rattle.lists.proofs.Tests.{clash}
-use Rattle.topology.proofs.Connected.{conn-source, conn-target, conn-trans}
+use Rattle.topology.proofs.Connected.{conn-source, conn-trans}
 use Rattle.topology.proofs.Keeping.{sec-mono}
 use Rattle.topology.proofs.Adjacency.{At, Joined, joined-sym, joined-mono, at-next, at-own}
 use Rattle.topology.proofs.Reached.{component-same}
@@ -17,7 +17,7 @@ use Rattle.topology.proofs.Accepted.{Accepted, value-byte}
 use Rattle.topology.proofs.Nodes.{node, node-is, node-equal, number-found, heights-rise}
 use Rattle.topology.proofs.Fathers.{NodeFrom, top, fork, father-is, father-found, number-small}
 use Rattle.topology.proofs.Descent.{under, map-under, map-found, under-same, under-fork, Under, under-is, under-down, under-up}
-use Rattle.topology.proofs.Grid.{picture-joined, pass-most, pass-byte, pass-joined}
+use Rattle.topology.proofs.Grid.{picture-joined}
 
 -- c is a or an ancestor of a, by the fathers P of m nodes
 pub data Up (P : ℕ → ℕ) (m c : ℕ) : ℕ → Type 0 where
@@ -262,21 +262,3 @@ module _ (p : Picture) (ok : Accepted p) where
             conn-trans
             (reach-joined x r (up-reach x (own x bx) u) k b l s)
             (joined-sym p k (reach-joined y r (up-reach y (own y by) v) k b l t))
-
-    -- the pass is the largest of both values and the height of the nearest common ancestor
-    pub pass-meet : {r : ℕ} → Meet (father p) (mapOf p x) (mapOf p y) r → pass p x y ≡ max (max (valueAt p x) (valueAt p y)) (nodeAt p r .height)
-    pass-meet {r} n =
-        let c = pass-joined p ok x y bx by in
-        let a = conn-source c in
-        let b = conn-target c in
-        let la = a .low in
-        let lb = b .low in
-        let pb = pass-byte p ok x y bx by in
-        let up = meet-joined n (pass p x y) pb a b .0 c in
-        let h : ℕ = max (max (valueAt p x) (valueAt p y)) (nodeAt p r .height) in
-        let hb : h ≤ 255 = omega arith in
-        let d =
-        meet-joined n h hb (record { within = bx; low = omega arith }) (record { within = by; low = omega arith }) .1 (omega arith)
-        in
-        let low = pass-most p x y h hb d in
-        omega arith

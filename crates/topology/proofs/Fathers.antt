@@ -9,7 +9,7 @@ use Rattle.picture.specs.Pictures.{Picture}
 use Rattle.picture.specs.Components.{componentAt}
 use Rattle.picture.specs.Trees.{Node, isBranch, nodes, numberOf, aboveFrom, fatherOf}
 use Rattle.lists.proofs.Tests.{on-elim}
-use Rattle.lists.proofs.Numbers.{from-next}
+use Rattle.lists.proofs.Indices.{from-next}
 use Rattle.topology.proofs.Keeping.{sec-mono}
 use Rattle.topology.proofs.Accepted.{Accepted, places-bound}
 use Rattle.topology.proofs.Nodes.{IsNode, number-found, nodes-few}

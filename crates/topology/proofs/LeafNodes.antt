@@ -14,7 +14,7 @@ use Rattle.picture.specs.Patches.{depthOf, patchAt}
 use Rattle.lists.proofs.Tests.{test-false, clash}
 use Rattle.topology.proofs.Connected.{conn-target}
 use Rattle.topology.proofs.Keeping.{sec-mono}
-use Rattle.lists.proofs.Numbers.{index-mem}
+use Rattle.lists.proofs.Indices.{index-mem}
 use Rattle.topology.proofs.Adjacency.{At, Joined, joined-sym, at-own}
 use Rattle.topology.proofs.Accepted.{Accepted}
 use Rattle.topology.proofs.Reached.{firstAt, first-joined}

@@ -2,29 +2,30 @@
 use mathlib.Core.Path.{_≡_, refl, sym, ap, ap₂, subst, _∙_}
 use mathlib.Core.Bool.{Bool, true, false, _&&_}
 use mathlib.Core.Logic.{⊎-elim, _≢_}
-use mathlib.Core.List.{List, [], _∷_, map, List·Memᴰ, List·Memᴰ·head, List·Memᴰ·tail, List·Memᴰ·cases-cons, Memᴰ·map, Memᴰ·of-map}
-use Prim.Native.Nat.{ℕ, zero, suc, _≤_, _<_}
+use mathlib.Core.List.{List, [], _∷_, map, List·Memᴰ, List·Memᴰ·head, List·Memᴰ·tail, Memᴰ·map, Memᴰ·of-map}
+use Prim.Native.Nat.{ℕ, zero, suc, _<_}
 use native.Mathlib.Omega.{arith}
-use lib.Dec.{eqb, ltb}
+use lib.Dec.{eqb}
 use lib.ListN.{length}
-use borrow.Author.Tests.{eqb-true, eq-eqb, ltb-true, ltb-false}
+use borrow.Author.Tests.{eqb-true, eq-eqb}
 use Rattle.lists.specs.Lists.{select, range, isIn, headOf}
 use Rattle.picture.specs.Pictures.{Picture, places, valueAt}
 use Rattle.picture.specs.Components.{componentAt, components}
 use Rattle.picture.specs.Trees.{Node, below, isBranch, nodes, isLeaf}
-use Rattle.picture.specs.Patches.{insertByFirst, byFirst, patchNodes}
-use Rattle.lists.proofs.Tests.{and-left, and-right, and-both, on-test, on-elim, test-false}
+use Rattle.picture.specs.Patches.{byFirst, patchNodes}
+use Rattle.lists.proofs.Tests.{and-left, and-right, and-both, on-test, test-false}
 use Rattle.lists.proofs.Lists.{select-in, select-out, select-mem, mem-select, length-select, tally-none}
-use Rattle.lists.proofs.Rising.{Rising, none, more, rising-is-select}
+use Rattle.lists.proofs.Rising.{rising-is-select}
 use Rattle.topology.proofs.Connected.{start, conn-target}
 use Rattle.topology.proofs.Adjacency.{At, Joined}
 use Rattle.topology.proofs.Accepted.{Accepted, value-byte}
 use Rattle.topology.proofs.Reached.{firstAt, component-same, first-joined, first-first}
 use Rattle.topology.proofs.Parts.{isFirst, first-is, is-first, components-mem}
 use Rattle.topology.proofs.Branches.{below-joined}
-use Rattle.lists.proofs.Numbers.{mem-index}
+use Rattle.lists.proofs.Indices.{mem-index}
 use Rattle.topology.proofs.Nodes.{node, nodes-mem, mem-nodes, Sorted, end, next, nodes-sorted, sorted-later}
-use Rattle.topology.proofs.Minima.{by-first-mem, leaf-flat}
+use Rattle.topology.proofs.ByFirst.{Apart, alone, beside, firsts, by-first-mem, by-first-rising, mem-by-first}
+use Rattle.topology.proofs.Minima.{leaf-flat}
 
 -- the component of height k with x contains none of the height below
 unfoldable pub leafAt : Picture → ℕ → ℕ → Bool
@@ -112,53 +113,6 @@ module _ (p : Picture) where
             (mem-nodes p (valueAt p x) x (value-byte p ok x) s (leaf-no-branch (valueAt p x) x l)),
         l,
       )
-
--- nodes with different first places
-data Apart : List Node → Type 0 where
-  alone : Apart []
-  beside : {n : Node} {ns : List Node} → ((m : Node) → List·Memᴰ m ns → m .first ≢ n .first) → Apart ns → Apart (n ∷ ns)
-
-abbrev firsts : List Node → List ℕ
-firsts ns = map (λ n. n .first) ns
-
-insert-rising :
-    {a : ℕ} (n : Node) (ns : List Node) → Rising a (firsts ns) → a ≤ n .first →
-    ((m : Node) → List·Memᴰ m ns → m .first ≢ n .first) → Rising a (firsts (insertByFirst n ns))
-insert-rising n [] r h f = more h none
-insert-rising {a} n (m ∷ ms) (more g r) h f =
-    on-elim (λ (l : List Node). Rising a (firsts l)) (ltb (n .first) (m .first))
-    (λ e. more h (more (ltb-true (n .first) (m .first) e) r))
-    (λ e.
-    let d = f m (List·Memᴰ·head refl) in
-    let b = ltb-false (n .first) (m .first) e in
-    more g (insert-rising n ms r (omega arith) (λ k i. f k (List·Memᴰ·tail i))))
-
-by-first-rising : {ns : List Node} → Apart ns → Rising 0 (firsts (byFirst ns))
-by-first-rising alone = none
-by-first-rising (beside {n} {ns} f a) =
-    insert-rising n (byFirst ns) (by-first-rising a) (omega arith) (λ m i. f m (by-first-mem ns i))
-
-insert-head : (n : Node) (ns : List Node) → List·Memᴰ n (insertByFirst n ns)
-insert-head n [] = List·Memᴰ·head refl
-insert-head n (m ∷ ms) =
-    on-elim (λ (l : List Node). List·Memᴰ n l) (ltb (n .first) (m .first))
-    (λ e. List·Memᴰ·head refl)
-    (λ e. List·Memᴰ·tail (insert-head n ms))
-
-insert-tail : {k : Node} (n : Node) (ns : List Node) → List·Memᴰ k ns → List·Memᴰ k (insertByFirst n ns)
-insert-tail n [] i = List·Memᴰ·tail i
-insert-tail {k} n (m ∷ ms) i =
-    on-elim (λ (l : List Node). List·Memᴰ k l) (ltb (n .first) (m .first))
-    (λ e. List·Memᴰ·tail i)
-    (λ e. ⊎-elim (λ q. List·Memᴰ·head q) (λ j. List·Memᴰ·tail (insert-tail n ms j)) (List·Memᴰ·cases-cons i))
-
-mem-by-first : {k : Node} (ns : List Node) → List·Memᴰ k ns → List·Memᴰ k (byFirst ns)
-mem-by-first [] i = i
-mem-by-first {k} (n ∷ ns) i =
-    ⊎-elim
-    (λ q. subst (λ (m : Node). List·Memᴰ m (insertByFirst n (byFirst ns))) (sym q) (insert-head n (byFirst ns)))
-    (λ j. insert-tail n (byFirst ns) (mem-by-first ns j))
-    (List·Memᴰ·cases-cons i)
 
 -- two leaves of the sorted nodes have different first places
 leaves-apart :

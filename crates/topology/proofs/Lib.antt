@@ -11,10 +11,12 @@ pub mod Water
 pub mod Branches
 pub mod Nodes
 pub mod Fathers
+pub mod ByFirst
 pub mod Minima
 pub mod Descent
 pub mod Grid
 pub mod Climb
+pub mod Passes
 pub mod Partners
 pub mod Demand
 pub mod Leaves

@@ -1,20 +1,18 @@
 -- Patches are minima: leaves of the tree, whose pixels all have the leaf's height.
 use mathlib.Core.Path.{_≡_, sym, _∙_}
 use mathlib.Core.Bool.{Bool}
-use mathlib.Core.Logic.{_⊎_, inl, inr, ⊎-elim, by-cases}
-use mathlib.Core.List.{List, [], _∷_, List·Memᴰ, List·Memᴰ·head, List·Memᴰ·tail, List·Memᴰ·cases-cons}
+use mathlib.Core.Logic.{by-cases}
+use mathlib.Core.List.{List}
 use Prim.Native.Nat.{ℕ, zero, suc, _≤_}
 use native.Mathlib.Decide.{decLe}
 use native.Mathlib.Omega.{arith}
-use lib.Dec.{ltb}
 use lib.ListN.{length}
 use borrow.Author.Tests.{eqb-true}
 use Rattle.lists.specs.Lists.{select, isIn, headOf}
 use Rattle.picture.specs.Pictures.{Picture, places, valueAt, withPixels}
 use Rattle.picture.specs.Components.{componentAt, components}
-use Rattle.picture.specs.Trees.{Node, below, nodes, componentOf, isLeaf}
-use Rattle.picture.specs.Patches.{insertByFirst, byFirst, patchNodes, patchAt}
-use Rattle.lists.proofs.Tests.{on-elim}
+use Rattle.picture.specs.Trees.{below, nodes, componentOf, isLeaf}
+use Rattle.picture.specs.Patches.{patchNodes, patchAt}
 use Rattle.lists.proofs.Lists.{select-mem, length-select, none-tally}
 use Rattle.lists.proofs.Positions.{index-found}
 use Rattle.topology.proofs.Connected.{start, conn-target, conn-trans}
@@ -24,23 +22,7 @@ use Rattle.topology.proofs.Reached.{in-joined}
 use Rattle.topology.proofs.Parts.{mem-components}
 use Rattle.topology.proofs.Branches.{joined-below}
 use Rattle.topology.proofs.Nodes.{nodes-mem}
-
-pub insert-mem : {n : Node} (m : Node) (ns : List Node) → List·Memᴰ n (insertByFirst m ns) → (n ≡ m) ⊎ List·Memᴰ n ns
-insert-mem m [] i = List·Memᴰ·cases-cons i
-insert-mem {n} m (k ∷ ks) i =
-    on-elim (λ (l : List Node). List·Memᴰ n l → (n ≡ m) ⊎ List·Memᴰ n (k ∷ ks)) (ltb (m .first) (k .first))
-    (λ e i. List·Memᴰ·cases-cons i)
-    (λ e i.
-    ⊎-elim
-    (λ q. inr (List·Memᴰ·head q))
-    (λ j. ⊎-elim inl (λ q. inr (List·Memᴰ·tail q)) (insert-mem m ks j))
-    (List·Memᴰ·cases-cons i))
-    i
-
-pub by-first-mem : {n : Node} (ns : List Node) → List·Memᴰ n (byFirst ns) → List·Memᴰ n ns
-by-first-mem [] i = i
-by-first-mem (m ∷ ms) i =
-    ⊎-elim (λ e. List·Memᴰ·head e) (λ j. List·Memᴰ·tail (by-first-mem ms j)) (insert-mem m (byFirst ms) i)
+use Rattle.topology.proofs.ByFirst.{by-first-mem}
 
 -- x lies in a minimum of height k: no lower pixel is in its component
 pub record InMinimum (p : Picture) (k x : ℕ) : Type 0 where

@@ -20,7 +20,7 @@ use Rattle.topology.proofs.Adjacency.{At}
 use Rattle.topology.proofs.Reached.{firstAt, component-same, first-joined, first-same, first-at}
 use Rattle.topology.proofs.Parts.{isFirst, first-is, first-true, components-are}
 use Rattle.topology.proofs.Branches.{own-pixel}
-use Rattle.lists.proofs.Numbers.{mem-index, index-mem, map-same, pigeonhole}
+use Rattle.lists.proofs.Indices.{mem-index, index-mem, map-same, pigeonhole}
 
 -- the node of a height and a first place
 abbrev pub node : ℕ → ℕ → Node

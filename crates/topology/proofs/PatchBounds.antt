@@ -11,7 +11,7 @@ use Rattle.picture.specs.Pictures.{Picture, places, valueAt}
 use Rattle.picture.specs.Trees.{Node, nodes, nodeAt, fatherOf, mapOf}
 use Rattle.picture.specs.Patches.{Patch, patchOf, patches, patchAt, lineCount, depthOf}
 use Rattle.lists.proofs.Tests.{on-pick}
-use Rattle.lists.proofs.Numbers.{mem-index}
+use Rattle.lists.proofs.Indices.{mem-index}
 use Rattle.lists.proofs.Positions.{tally-bound}
 use Rattle.lists.proofs.Sums.{highest-most}
 use Rattle.topology.proofs.Connected.{start}

@@ -18,7 +18,7 @@ use Rattle.topology.proofs.Connected.{start}
 use Rattle.topology.proofs.Adjacency.{at-own}
 use Rattle.topology.proofs.Accepted.{Accepted}
 use Rattle.topology.proofs.Reached.{firstAt, first-least, first-at}
-use Rattle.lists.proofs.Numbers.{map-same}
+use Rattle.lists.proofs.Indices.{map-same}
 use Rattle.topology.proofs.Leaves.{leafAt, bottom, leaf, is-bottom}
 use Rattle.lists.proofs.Positions.{tally-below, tally-bound, tally-reach}
 use Rattle.lists.proofs.Sums.{total-select, length-total, sumAt}

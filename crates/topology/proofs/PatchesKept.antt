@@ -16,7 +16,7 @@ use Rattle.topology.proofs.Reached.{firstAt, first-joined, first-same, 
 use Rattle.topology.proofs.Accepted.{Accepted, accepted-is}
 use Rattle.topology.proofs.Water.{watershed-shape, watershed-watered}
 use Rattle.topology.proofs.Branches.{joined-kept}
-use Rattle.lists.proofs.Numbers.{pigeonhole}
+use Rattle.lists.proofs.Indices.{pigeonhole}
 use Rattle.topology.proofs.Minima.{flat-kept}
 use Rattle.lists.proofs.Positions.{tally-rises, tally-inject, tally-reach}
 use Rattle.topology.proofs.Leaves.{leafAt, bottom, leaf-sound, leaf-complete, leaf-same, bottom-is, first-bottom}
