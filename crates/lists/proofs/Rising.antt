@@ -1,4 +1,4 @@
--- Rising lists of numbers, and exactly one number of a range.
+-- Rising lists of numbers, what a range selects, and exactly one number of a range.
 use mathlib.Core.Path.{_≡_, refl, sym, ap, ap₂, subst, _∙_}
 use mathlib.Core.Bool.{Bool, true, false, _||_, false≢true}
 use mathlib.Core.Logic.{_⊎_, inl, inr, ⊎-elim}

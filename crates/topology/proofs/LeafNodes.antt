@@ -7,7 +7,7 @@ use native.Mathlib.Decide.{decLe}
 use native.Mathlib.Omega.{arith}
 use lib.ListN.{length}
 use borrow.Author.Tests.{eq-eqb, ne-eqb}
-use Rattle.lists.specs.Lists.{pick, tally, range, highest}
+use Rattle.lists.specs.Lists.{pick, highest}
 use Rattle.picture.specs.Pictures.{Picture, places, valueAt}
 use Rattle.picture.specs.Trees.{Node, nodes, nodeAt, fatherOf, mapOf, isLeaf}
 use Rattle.picture.specs.Patches.{depthOf, patchAt}
@@ -20,11 +20,11 @@ use Rattle.topology.proofs.Accepted.{Accepted}
 use Rattle.topology.proofs.Reached.{firstAt, first-joined}
 use Rattle.topology.proofs.Nodes.{node, IsNode, node-is, node-equal, number-found}
 use Rattle.topology.proofs.Fathers.{NodeFrom, top, fork, father-is, number-small}
-use Rattle.topology.proofs.Descent.{under, under-is, map-found}
+use Rattle.topology.proofs.Descent.{under, under-is, map-is, map-found}
 use Rattle.topology.proofs.Climb.{father}
 use Rattle.topology.proofs.Tree.{son-of}
 use Rattle.topology.proofs.Leaves.{leafAt, bottom, leaf, leaf-sound, leaf-complete, leaf-same, bottom-is, leaf-node}
-use Rattle.topology.proofs.PatchNumbers.{patch-in, patch-out}
+use Rattle.topology.proofs.PatchNumbers.{patch-same, patch-out}
 use Rattle.topology.proofs.PatchFigures.{map-leaf, leaf-map}
 
 -- the node of a number is a leaf
@@ -65,16 +65,8 @@ module _ (p : Picture) (ok : Accepted p) where
       patchAt p x ≡ patchAt p (nodeAt p (mapOf p x) .first)
   unfolding leafNode
   patch-leaf x b e l =
-      let m = mapOf p x in
-      let bm = map-found p ok x b in
-      let y = nodeAt p m .first in
-      let yb = node-is p m bm .place .within in
-      let lx = leaf-map p ok x b e (subst (λ (j : ℕ). leafAt p j y ≡ true) e l) in
-      let (a, h) = leaf-bottom m bm l in
-      let (s, fy, ly) = bottom-is p y yb h in
-      let f = ap (λ (n : Node). n .first) (map-leaf p ok x b lx) in
-      patch-in p ok x b lx ∙
-      (ap (λ (z : ℕ). tally (bottom p) (range 0 (suc z))) (sym f ∙ sym fy) ∙ sym (patch-in p ok y yb ly))
+      patch-same p ok (valueAt p x) (map-is p ok x b .joined)
+      (leaf-map p ok x b e (subst (λ (k : ℕ). leafAt p k (nodeAt p (mapOf p x) .first) ≡ true) e l))
 
   pub patch-line :
       (x : ℕ) → x < places p → (nodeAt p (mapOf p x) .height ≡ valueAt p x → leafNode p (mapOf p x) ≡ false) → patchAt p x ≡ 0

@@ -18,12 +18,12 @@ use Rattle.lists.proofs.Rising.{rising-is-select}
 use Rattle.topology.proofs.Connected.{conn-target}
 use Rattle.topology.proofs.Adjacency.{At, joined-sym, at-own}
 use Rattle.topology.proofs.Accepted.{Accepted, value-byte}
-use Rattle.topology.proofs.Reached.{firstAt, component-rising, mem-joined, joined-mem, first-joined, first-same, first-at}
+use Rattle.topology.proofs.Reached.{firstAt, component-rising, mem-joined, joined-mem, first-joined, first-at}
 use Rattle.topology.proofs.Nodes.{node, number-found}
 use Rattle.topology.proofs.Descent.{map-under, map-is, under-fork}
 use Rattle.lists.proofs.Positions.{tally-next-in, select-index, tally-inject}
-use Rattle.topology.proofs.Leaves.{leafAt, bottom, leaf, leaf-sound, leaf-same, leaf-no-branch, bottom-is, first-bottom, patch-nodes-are}
-use Rattle.topology.proofs.PatchNumbers.{patch-count, patch-in, patch-out}
+use Rattle.topology.proofs.Leaves.{leafAt, bottom, leaf, leaf-same, leaf-no-branch, bottom-is, first-bottom, patch-nodes-are}
+use Rattle.topology.proofs.PatchNumbers.{patch-count, patch-in, patch-same, patch-out}
 
 module _ (p : Picture) (ok : Accepted p) where
   -- the number of the patch that begins at z
@@ -45,15 +45,7 @@ module _ (p : Picture) (ok : Accepted p) where
       rising-is-select (λ x. eqb (patchAt p x) (patchAt p z)) (places p) (component-rising p k z s)
       (λ x i.
       let c = mem-joined p k z x s i in
-      let v = leaf-sound p k z s l x c in
-      let lx = subst (λ (j : ℕ). leafAt p j x ≡ true) (sym v) (sym (leaf-same p c) ∙ l) in (
-        conn-target c .within,
-        eq-eqb (patchAt p x) (patchAt p z)
-            (patch-in p ok x (conn-target c .within) lx ∙
-            (ap (λ (m : ℕ). tally (bottom p) (range 0 (suc m)))
-            (ap (λ (j : ℕ). firstAt p j x) v ∙ sym (first-same p k c)) ∙
-            sym (patch-in p ok z b l))),
-      ))
+      (conn-target c .within, eq-eqb (patchAt p x) (patchAt p z) (sym (patch-same p ok k c l))))
       (λ x xb q. back x xb (eqb-true (patchAt p x) (patchAt p z) q) (bottom-number z b h))
     where
       k : ℕ
@@ -61,9 +53,6 @@ module _ (p : Picture) (ok : Accepted p) where
 
       s : At p k z
       s = bottom-is p z b h .0
-
-      first : firstAt p k z ≡ z
-      first = bottom-is p z b h .1
 
       l : leafAt p k z ≡ true
       l = bottom-is p z b h .2
@@ -76,11 +65,7 @@ module _ (p : Picture) (ok : Accepted p) where
           let y = firstAt p (valueAt p x) x in
           let (hy, v) = first-bottom p (valueAt p x) x sx lx in
           let yb = first-at p (valueAt p x) x sx .within in
-          let (sy, ey, ly) = bottom-is p y yb hy in
-          let w : patchAt p y ≡ patchAt p z =
-          patch-in p ok y yb ly ∙
-          (ap (λ (m : ℕ). tally (bottom p) (range 0 (suc m))) ey ∙ (sym (patch-in p ok x xb lx) ∙ e))
-          in
+          let w = sym (patch-same p ok (valueAt p x) (first-joined p (valueAt p x) x sx) lx) ∙ e in
           let q = bottom-equal y z yb b hy h w in
           let c = joined-sym p (valueAt p x) (first-joined p (valueAt p x) x sx) in
           subst (λ (u : ℕ). List·Memᴰ x (componentAt p (valueAt p u) u)) q

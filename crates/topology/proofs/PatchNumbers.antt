@@ -13,7 +13,8 @@ use Rattle.picture.specs.Patches.{patchNodes, patchFrom, patchAt}
 use Rattle.lists.proofs.Tests.{clash, test-false}
 use Rattle.lists.proofs.Lists.{length-select}
 use Rattle.lists.proofs.Rising.{select-below}
-use Rattle.topology.proofs.Adjacency.{joined-sym, at-own}
+use Rattle.topology.proofs.Connected.{start, conn-source, conn-target}
+use Rattle.topology.proofs.Adjacency.{Joined, joined-sym, at-own}
 use Rattle.topology.proofs.Accepted.{Accepted}
 use Rattle.topology.proofs.Reached.{firstAt, in-joined, joined-in, first-joined, first-same, first-at}
 use Rattle.lists.proofs.Positions.{tally-next-in, index-only, index-none}
@@ -55,6 +56,16 @@ module _ (p : Picture) (ok : Accepted p) where
       (λ y a d g i. holds-first x y b (omega arith) g i .0) ∙
       (ap (λ (m : ℕ). 1 + tally (bottom p) (range 0 m)) q ∙
       (let w = tally-next-in (bottom p) z h in omega arith)))
+
+  -- the pixels of a minimum are in one patch
+  pub patch-same : (k : ℕ) {x y : ℕ} → Joined p k x y → leafAt p k x ≡ true → patchAt p x ≡ patchAt p y
+  patch-same k {x} {y} c l = counted x (start (conn-source c)) ∙ sym (counted y c)
+    where
+      counted : (z : ℕ) → Joined p k x z → patchAt p z ≡ tally (bottom p) (range 0 (suc (firstAt p k x)))
+      counted z d =
+          let v = leaf-sound p k x (conn-source d) l z d in
+          patch-in z (conn-target d .within) (subst (λ (j : ℕ). leafAt p j z ≡ true) (sym v) (sym (leaf-same p d) ∙ l)) ∙
+          ap (λ (m : ℕ). tally (bottom p) (range 0 (suc m))) (ap (λ (j : ℕ). firstAt p j z) v ∙ sym (first-same p k d))
 
   -- every other pixel is on the line
   pub patch-out : (x : ℕ) → x < places p → leafAt p (valueAt p x) x ≡ false → patchAt p x ≡ 0
