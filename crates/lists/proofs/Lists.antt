@@ -273,6 +273,11 @@ pub tally-append : {A : Type 0} (t : A → Bool) (l m : List A) → tally t (l +
 tally-append t [] m = omega arith
 tally-append t (x ∷ xs) m = let r = tally-append t xs m in omega arith
 
+pub select-append : {A : Type 0} (t : A → Bool) (l m : List A) → select t (l ++ m) ≡ select t l ++ select t m
+select-append t [] m = refl
+select-append {A} t (x ∷ xs) m =
+    ap (λ (r : List A). pick (t x) (x ∷ []) [] ++ r) (select-append t xs m) ∙ sym (append-assoc (pick (t x) (x ∷ []) []) (select t xs) (select t m))
+
 pub all-snoc : {A : Type 0} (t : A → Bool) (s : List A) (b : A) → all t s ≡ true → t b ≡ true → all t (s ++ b ∷ []) ≡ true
 all-snoc t [] b h e = and-both e refl
 all-snoc t (a ∷ s) b h e = and-both (and-left (t a) _ h) (all-snoc t s b (and-right (t a) _ h) e)

@@ -3,7 +3,7 @@ use mathlib.Core.Path.{_≡_, sym, ap, subst, _∙_}
 use mathlib.Core.Bool.{true}
 use mathlib.Core.Logic.{_⊎_, inr, by-cases}
 use mathlib.Core.List.{List}
-use Prim.Native.Nat.{ℕ, suc, _+_, _-_, _≤_, _<_}
+use Prim.Native.Nat.{ℕ, suc, _+_, _≤_, _<_}
 use native.Mathlib.Decide.{decLt}
 use native.Mathlib.Omega.{arith}
 use lib.ListN.{length, getD, length-map}
@@ -50,14 +50,12 @@ module _ (p : Picture) (k : ℕ) where
   label-at : (y : ℕ) → At p k y → labelFrom 0 y (components p k) ≡ numberAt p k y
   unfolding numberAt
   label-at y s =
-      let z = firstAt p k y in
-      let b = first-at p k y s .within in
-      let q : z - 0 ≡ z = omega arith in
       ap (labelFrom 0 y) (components-are p k) ∙
-      (index-only (componentAt p k) (isIn y) (isFirst p k) 0 z (joined-in p k (joined-sym p k (first-joined p k y s))) (first-true p k y s)
-      (places p) 0 1 (omega arith) (omega arith)
-      (λ x a c f g. let (sx, e) = first-is p k x (omega arith) f in sym e ∙ first-same p k (in-joined p k x y sx g)) ∙
-      (let w = ap (λ (m : ℕ). tally (isFirst p k) (range 0 m)) q in omega arith))
+      (index-only (componentAt p k) (isIn y) (isFirst p k) 0 1 (places p) (firstAt p k y) (first-at p k y s .within)
+      (joined-in p k (joined-sym p k (first-joined p k y s)))
+      (first-true p k y s)
+      (λ x b f g. let (sx, e) = first-is p k x b f in sym e ∙ first-same p k (in-joined p k x y sx g)) ∙
+      omega arith)
 
   label-none : (y : ℕ) → (At p k y → ⊥) → labelFrom 0 y (components p k) ≡ 0
   label-none y h =

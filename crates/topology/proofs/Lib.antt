@@ -25,7 +25,7 @@ pub mod PatchNumbers
 pub mod PatchFigures
 pub mod ComponentNumbers
 pub mod LeafNodes
-pub mod PatchesKept
 pub mod PatchSums
+pub mod PatchesKept
 pub mod PatchBounds
 pub mod TreeLists

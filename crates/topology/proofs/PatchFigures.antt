@@ -2,7 +2,7 @@
 use mathlib.Core.Path.{_≡_, refl, sym, ap, ap₂, subst, _∙_}
 use mathlib.Core.Bool.{true}
 use mathlib.Core.List.{List, [], _∷_, List·Memᴰ}
-use Prim.Native.Nat.{ℕ, zero, suc, _+_, _-_, _<_}
+use Prim.Native.Nat.{ℕ, zero, suc, _+_, _<_}
 use native.Mathlib.Omega.{arith}
 use lib.Dec.{eqb}
 use lib.ListN.{length, getD, length-map}
@@ -92,17 +92,14 @@ module _ (p : Picture) (ok : Accepted p) where
   pub patch-record : (z : ℕ) (d : Patch) → z < places p → bottom p z ≡ true → getD (patches p) (tally (bottom p) (range 0 z)) d ≡ patchOf p (patchAt p z) (leaf p z)
   unfolding patches
   patch-record z d b h =
-      let q : z - 0 ≡ z = omega arith in
-      let (l, e) = select-index (bottom p) 0 0 (places p) z (omega arith) (omega arith) h in
-      let e′ = sym (ap (λ (m : ℕ). getD chosen (tally (bottom p) (range 0 m)) 0) q) ∙ e in
-      let l′ = subst (λ (m : ℕ). tally (bottom p) (range 0 m) < length chosen) q l in
+      let (l, e) = select-index (bottom p) 0 (places p) z b h in
       let i = tally (bottom p) (range 0 z) in
       let size = ap length (patch-nodes-are p ok) ∙ length-map chosen (leaf p) in
       patches-at 1 d (patchNodes p) i (omega arith) ∙
       ap₂ (λ (m : ℕ) (n : Node). patchOf p m n)
       (let w = bottom-number z b h in omega arith)
       (ap (λ (ns : List Node). getD ns i (node 0 0)) (patch-nodes-are p ok) ∙
-      (getD-map (leaf p) 0 (node 0 0) chosen i l′ ∙ ap (leaf p) e′))
+      (getD-map (leaf p) 0 (node 0 0) chosen i l ∙ ap (leaf p) e))
     where
       chosen : List ℕ
       chosen = select (bottom p) (range 0 (places p))

@@ -2,7 +2,7 @@
 use mathlib.Core.Path.{_≡_, sym, ap, subst, _∙_}
 use mathlib.Core.Bool.{true, false}
 use mathlib.Core.List.{List, map, Memᴰ·of-map}
-use Prim.Native.Nat.{ℕ, suc, _+_, _-_, _<_}
+use Prim.Native.Nat.{ℕ, suc, _<_}
 use native.Mathlib.Omega.{arith}
 use lib.ListN.{length, length-map}
 use Rattle.lists.specs.Lists.{tally, select, range, isIn}
@@ -50,12 +50,10 @@ module _ (p : Picture) (ok : Accepted p) where
       let inside : isIn x (componentOf p (leaf p z)) ≡ true =
       subst (λ (j : ℕ). isIn x (componentAt p j z) ≡ true) (sym v) (joined-in p k c)
       in
-      let q : z - 0 ≡ z = omega arith in
       ap (λ (ns : List Node). patchFrom 1 p x ns) (patch-nodes-are p ok) ∙
-      (index-only (leaf p) (λ n. isIn x (componentOf p n)) (bottom p) 0 z inside h (places p) 0 1 (omega arith) (omega arith)
-      (λ y a d g i. holds-first x y b (omega arith) g i .0) ∙
-      (ap (λ (m : ℕ). 1 + tally (bottom p) (range 0 m)) q ∙
-      (let w = tally-next-in (bottom p) z h in omega arith)))
+      (index-only (leaf p) (λ n. isIn x (componentOf p n)) (bottom p) 0 1 (places p) z zb inside h
+      (λ y d g i. holds-first x y b d g i .0) ∙
+      (let w = tally-next-in (bottom p) z h in omega arith))
 
   -- the pixels of a minimum are in one patch
   pub patch-same : (k : ℕ) {x y : ℕ} → Joined p k x y → leafAt p k x ≡ true → patchAt p x ≡ patchAt p y

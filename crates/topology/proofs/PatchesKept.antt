@@ -18,9 +18,10 @@ use Rattle.topology.proofs.Water.{watershed-shape, watershed-watered}
 use Rattle.topology.proofs.Branches.{joined-kept}
 use Rattle.lists.proofs.Indices.{pigeonhole}
 use Rattle.topology.proofs.Minima.{flat-kept}
-use Rattle.lists.proofs.Positions.{tally-rises, tally-inject, tally-reach}
+use Rattle.lists.proofs.Positions.{tally-rises, tally-inject}
 use Rattle.topology.proofs.Leaves.{leafAt, bottom, leaf-sound, leaf-complete, leaf-same, bottom-is, first-bottom}
 use Rattle.topology.proofs.PatchFigures.{patches-count}
+use Rattle.topology.proofs.PatchSums.{patch-begins}
 use Rattle.topology.proofs.Demand.{demand-3}
 
 module _ (f : Picture) (xs : List ℕ) (keeps : (k : ℕ) → Keeps (places f) (Adj f) (valueAt f) (valueAt (withPixels f xs)) k) where
@@ -52,7 +53,7 @@ module _ (f : Picture) (xs : List ℕ) (keeps : (k : ℕ) → Keeps (places f) (
   -- each patch of f has a partner
   forth : Accepted f → (i : ℕ) → i < length (patches f) → (j : ℕ) × (j < tally (bottom a) (range 0 (places f))) × Partner i j
   forth ok i h =
-      let (z, b, q, r) = tally-reach (bottom f) (places f) i (subst (λ (m : ℕ). i < m) (patches-count f ok) h) in
+      let (z, b, q, r) = patch-begins f ok i h in
       let k = valueAt f z in
       let (s, e, l) = bottom-is f z b q in
       let t = keeps k .subset z s in
@@ -67,7 +68,7 @@ module _ (f : Picture) (xs : List ℕ) (keeps : (k : ℕ) → Keeps (places f) (
   -- and is the partner of one
   back : Accepted f → Accepted a → (j : ℕ) → j < length (patches a) → (i : ℕ) × (i < tally (bottom f) (range 0 (places f))) × Partner i j
   back ok good j h =
-      let (w, b, q, r) = tally-reach (bottom a) (places f) j (subst (λ (m : ℕ). j < m) (patches-count a good) h) in
+      let (w, b, q, r) = patch-begins a good j h in
       let k = valueAt a w in
       let (s, e, l) = bottom-is a w b q in
       let (u, su, c) = keeps k .reaches w s in
