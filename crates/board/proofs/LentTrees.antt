@@ -15,7 +15,7 @@ use Rattle.faults.specs.PictureFault.{firstOf, when}
 use Rattle.lists.proofs.Tests.{and-left, and-right, and-both, or-fails, clash, on-test}
 use Rattle.topology.proofs.Accepted.{accepted-is}
 use Rattle.topology.proofs.Nodes.{nodes-few}
-use Rattle.topology.proofs.Grid.{pass-byte}
+use Rattle.topology.proofs.Passes.{pass-byte}
 use Rattle.topology.proofs.TreeLists.{length-heights, length-fathers, length-firsts, length-map-of, heights-at, fathers-at, firsts-at, map-at}
 use Rattle.tree_lists.specs.Lists.{Rooms}
 use Rattle.lent_tree.specs.Lent.{HoldsTree}

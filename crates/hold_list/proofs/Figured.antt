@@ -1,22 +1,18 @@
 -- The lines of the patches of a picture are those of the lists of its figures.
 use mathlib.Core.Path.{_≡_, refl, sym, ap, ap₂, _∙_}
-use mathlib.Core.Logic.{by-cases}
 use mathlib.Core.List.{List, [], _∷_, _++_, flatMap}
-use Prim.Native.Nat.{ℕ, zero, suc, _+_, _-_, _*_, _≤_, _<_}
-use native.Mathlib.Decide.{ℕ-discrete}
+use Prim.Native.Nat.{ℕ, suc, _+_, _*_, _≤_, _<_}
 use native.Mathlib.Numerals.{add-one}
 use native.Mathlib.Omega.{arith}
-use lib.Dec.{eqb}
-use lib.ListN.{length, getD, take, drop, length-drop}
-use lib.Seq.{length-take-le, getD-take, getD-drop}
+use lib.ListN.{length, getD, take}
+use lib.Seq.{length-take-le, getD-take}
 use Rattle.lists.specs.Lists.{range}
 use Rattle.picture.specs.Pictures.{Picture, places}
-use Rattle.picture.specs.Patches.{Patch, patches, patchAt, lineCount, centre}
-use Rattle.lists.proofs.Positions.{tally-bound}
-use Rattle.lists.proofs.Cuts.{take-rest}
+use Rattle.picture.specs.Patches.{Patch, patches, lineCount, centre}
+use Rattle.lists.proofs.Cuts.{from, from-at, from-length}
 use Rattle.topology.proofs.Accepted.{Accepted, places-bound}
-use Rattle.topology.proofs.PatchFigures.{bottom-number}
-use Rattle.topology.proofs.PatchSums.{sumAt, sum-in, sum-out, patch-begins, count-few, patch-number, patch-size}
+use Rattle.topology.proofs.PatchSums.{count-few, patch-number}
+use Rattle.topology.proofs.PatchBounds.{size-some}
 use Rattle.lists.specs.Blocks.{blockEntry}
 use Rattle.patches.specs.Figures.{noPatch, Figures}
 use Rattle.hold_lines.specs.Figures.{lineAt, Lists}
@@ -36,36 +32,6 @@ lines-from d f (q ∷ qs) x h =
     (lines-from d f qs (suc x)
     (λ i b. let e : suc x + i ≡ x + suc i = omega arith in ap f e ∙ h (suc i) (omega arith)))
 
--- a sum is at least what each place with the number adds
-sum-least : (g : ℕ → ℕ) (numbers : List ℕ) (c z m : ℕ) → z < m → getD numbers z 0 ≡ c → g z ≤ sumAt g numbers c m
-sum-least g numbers c z zero b e = absurd (omega arith)
-sum-least g numbers c z (suc m) b e =
-    by-cases (ℕ-discrete z m)
-    (λ q.
-    let s = sum-in g numbers c m (sym (ap (λ (y : ℕ). getD numbers y 0) q) ∙ e) in
-    let t = ap g q in
-    omega arith)
-    (λ d.
-    let r = sum-least g numbers c z m (omega arith) e in
-    by-cases (ℕ-discrete (getD numbers m 0) c)
-    (λ q. let s = sum-in g numbers c m q in omega arith)
-    (λ q. let s = sum-out g numbers c m q in omega arith))
-
--- the part of a list from b on
-abbrev pub from : ℕ → List ℕ → List ℕ
-from b l = take (length l - b) (drop b l)
-
-from-at : (b i : ℕ) (l : List ℕ) → getD (from b l) i 0 ≡ blockEntry l b i
-from-at b i l = ap (λ (m : List ℕ). getD m i 0) (take-rest b l) ∙ getD-drop b l i 0
-
-from-length : (b : ℕ) (l : List ℕ) → length (from b l) ≡ length l - b
-from-length b l = ap length (take-rest b l) ∙ length-drop b l
-
--- the line pixels are places
-pub line-few : (p : Picture) → lineCount p ≤ places p
-unfolding lineCount
-line-few p = tally-bound (λ x. eqb (patchAt p x) 0) (places p)
-
 module _ (p : Picture) (r n : ℕ) (work cells : List ℕ) (ok : Accepted p) (size : n ≡ places p) (long : length work ≡ 5 * n) (f : Figures p r work cells) where
   pub count-most : (r ≤ n) × (n ≤ 1600)
   count-most =
@@ -73,17 +39,6 @@ module _ (p : Picture) (r n : ℕ) (work cells : List ℕ) (ok : Accepted p) (si
       let m = count-few p ok in
       let b = places-bound p ok in
       (omega arith, omega arith)
-
-  -- each patch has a pixel
-  size-some : (i : ℕ) → i < r → 1 ≤ getD (patches p) i noPatch .size
-  size-some i h =
-      let c = f .count in
-      let b : i < length (patches p) = omega arith in
-      let (z, w, t, e) = patch-begins p ok i b in
-      let s = patch-size p ok i noPatch b cells (f .map .patch) in
-      let q = f .map .patch z w ∙ (bottom-number p ok z w t ∙ ap suc e) in
-      let l = sum-least (λ x. 1) cells (suc i) z (places p) w q in
-      omega arith
 
   -- the entry of a block
   at : (k b i : ℕ) → b ≡ k → (q : ℕ) → blockEntry work k i ≡ q → getD (from b work) i 0 ≡ q
@@ -101,6 +56,7 @@ module _ (p : Picture) (r n : ℕ) (work cells : List ℕ) (ok : Accepted p) (si
       Lists r (take n work) (from h work) (from d work) (from c work) (from t work)
   figured-lists h d c t bh bd bc bt =
       let m = count-most in
+      let k = f .count in
       record {
         few = omega arith;
         sizes = omega (arith, length-take-le n work (omega arith));
@@ -108,7 +64,7 @@ module _ (p : Picture) (r n : ℕ) (work cells : List ℕ) (ok : Accepted p) (si
         depths = omega (arith, from-length d work);
         columns = omega (arith, from-length c work);
         rows = omega (arith, from-length t work);
-        some = λ i b. let e = first i b in let k = size-some i b in omega arith;
+        some = λ i b. let e = first i b in let o = size-some p ok i noPatch (omega arith) in omega arith;
       }
 
   line-at :

@@ -1,5 +1,5 @@
 -- The scan of a labelling: the places whose component begins before x have its number, the others none.
-use mathlib.Core.Path.{_≡_, refl, sym, ap, subst, _∙_}
+use mathlib.Core.Path.{_≡_, refl, sym, ap, _∙_}
 use mathlib.Core.Bool.{true, false}
 use mathlib.Core.Logic.{⊎-elim, _≢_, by-cases}
 use mathlib.Core.List.{List}
@@ -14,8 +14,8 @@ use Rattle.picture.specs.Components.{inSection, components, labels}
 use Rattle.lists.proofs.Tests.{clash, test-false}
 use Rattle.topology.proofs.Connected.{start, conn-target}
 use Rattle.topology.proofs.Adjacency.{At, Joined, section-at, at-section}
-use Rattle.topology.proofs.Reached.{firstAt, first-least, first-same, first-at, first-first, same-first}
-use Rattle.topology.proofs.Parts.{isFirst, first-is, is-first}
+use Rattle.topology.proofs.Reached.{firstAt, first-least, first-same, first-at, same-first}
+use Rattle.topology.proofs.Parts.{isFirst, first-is, is-first, not-first}
 use Rattle.topology.proofs.ComponentNumbers.{numberAt, at-dec, number-some, number-less, length-labels, labels-at, labels-none, count-components}
 use Rattle.labelling_laws.proofs.Flood.{Flooded}
 use Rattle.lists.proofs.Positions.{tally-next-in, tally-next-out, tally-bound}
@@ -79,18 +79,12 @@ module _ (p : Picture) (k : ℕ) where
         record {
           count = s .count ∙ (sym (tally-next-out (isFirst p k) x f) ∙ ap (λ (z : ℕ). tally (isFirst p k) (range 0 z)) next);
           size = s .size;
-          done = λ y a h. let d = other y a in s .done y a (omega arith);
+          done = λ y a h. let d = not-first p k x y a f in s .done y a (omega arith);
           rest = λ y h. s .rest y (λ a. let q = h a in omega arith);
         }
       where
         next : suc x ≡ x + 1
         next = omega arith
-
-        other : (y : ℕ) → At p k y → firstAt p k y ≢ x
-        other y a e =
-            clash
-            (is-first p k x (subst (λ (z : ℕ). At p k z) e (first-at p k y a)) (ap (firstAt p k) (sym e) ∙ (first-first p k y a ∙ e)))
-            f
 
     module _ (f : isFirst p k x ≡ true) where
       -- the component of x has no labels, and no label is the next number

@@ -14,7 +14,7 @@ use Rattle.picture.specs.Patches.{patches}
 use Rattle.lists.proofs.Tests.{test-false, clash}
 use Rattle.lists.proofs.Lists.{tally-set}
 use Rattle.topology.proofs.Connected.{start, conn-target, conn-trans, conn-sym}
-use Rattle.topology.proofs.Adjacency.{At, Joined, adj-sym, joined-sym}
+use Rattle.topology.proofs.Adjacency.{At, Joined, adj-sym, joined-sym, at-own}
 use Rattle.topology.proofs.Accepted.{Accepted}
 use Rattle.topology.proofs.Reached.{firstAt, first-joined, first-least}
 use Rattle.lists.proofs.Positions.{tally-next-in, tally-next-out}
@@ -125,7 +125,7 @@ module _ (p : Picture) where
             k = valueAt p x
 
             at : At p k x
-            at = record { within = b; low = omega arith }
+            at = at-own p x b
 
             leaf : leafAt p k x ≡ true
             leaf = zone-leaf p k x (own x b) (f .high e)
@@ -149,7 +149,7 @@ module _ (p : Picture) where
                 (λ d. let l = least in absurd (s .done first x (omega arith) back new))
 
             begins : bottom p x ≡ true
-            begins = is-bottom p x at same leaf
+            begins = is-bottom p k x at same leaf
 
   -- all places scanned
   pub scan-end : (r : ℕ) (cells : List ℕ) → Accepted p → Scanned p (places p) r cells → r ≡ length (patches p)

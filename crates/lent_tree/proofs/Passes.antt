@@ -9,8 +9,9 @@ use Rattle.picture.specs.Pictures.{Picture, places, valueAt, isPicture}
 use Rattle.picture.specs.Components.{pass}
 use Rattle.picture.specs.Trees.{nodes}
 use Rattle.topology.proofs.Accepted.{accepted-is}
-use Rattle.topology.proofs.Fathers.{map-found}
-use Rattle.topology.proofs.Climb.{Meet, meet-same, father, father-of, father-greater, pass-meet}
+use Rattle.topology.proofs.Descent.{map-found}
+use Rattle.topology.proofs.Climb.{Meet, meet-same, father, father-of, father-greater}
+use Rattle.topology.proofs.Passes.{pass-meet}
 use Rattle.ancestors.specs.Ancestors.{Climbing}
 use Rattle.lent_tree.specs.Lent.{HoldsTree}
 use Rattle.lent_tree.specs.Passes.{PassReady, PassOf}

@@ -1,10 +1,10 @@
 -- Lists cut in two: what `take` and `drop` leave.
-use mathlib.Core.Path.{_≡_, refl, sym, ap, _∙_}
+use mathlib.Core.Path.{_≡_, refl, sym, ap, subst, _∙_}
 use mathlib.Core.List.{List, _++_, append-nil}
 use Prim.Native.Nat.{ℕ, _+_, _-_, _≤_, _<_}
 use native.Mathlib.Omega.{arith}
 use lib.ListN.{length, getD, take, drop, length-append, length-drop, drop-of-length-le, List·getD-append}
-use lib.Seq.{drop-drop, take-all, take-add, take-at}
+use lib.Seq.{drop-drop, getD-drop, getD-append-add, take-all, take-add, take-at}
 use Rattle.lists.specs.Lists.{over}
 
 -- lists that are equal from a on are so from b on
@@ -22,17 +22,35 @@ module _ {A : Type 0} (n : ℕ) (new : List A) (long : length new ≡ n) where
   pub over-same : (old other : List A) → drop n old ≡ drop n other → over new old ≡ over new other
   over-same old other e = sym (over-cut old) ∙ (ap (λ (l : List A). new ++ l) e ∙ over-cut other)
 
--- the entries of the front
+-- the length, the entries of the front and those behind it
+pub over-length : {A : Type 0} (new old : List A) → length new ≤ length old → length (over new old) ≡ length old
+over-length new old h = omega (arith, length-append new (drop (length new) old), length-drop (length new) old)
+
 pub over-front : (new old : List ℕ) (i : ℕ) → i < length new → getD (over new old) i 0 ≡ getD new i 0
 over-front new old i h = List·getD-append new (drop (length new) old) 0 i h
+
+pub over-behind : (new old : List ℕ) (i : ℕ) → length new ≤ i → getD (over new old) i 0 ≡ getD old i 0
+over-behind new old i h =
+    let n = length new in
+    let e : n + (i - n) ≡ i = omega arith in
+    subst (λ (j : ℕ). getD (over new old) j 0 ≡ getD old j 0) e (getD-append-add new (drop n old) (i - n) 0 ∙ getD-drop n old (i - n) 0)
 
 -- in front of a list that is no longer nothing follows
 pub over-all : {A : Type 0} (new old : List A) → length old ≤ length new → over new old ≡ new
 over-all {A = A} new old h = ap (λ (l : List A). new ++ l) (drop-of-length-le old {i = length new} h) ∙ append-nil new
 
 -- the part of a list from a position on, as a slice of it is made
-pub take-rest : (p : ℕ) (f : List ℕ) → take (length f - p) (drop p f) ≡ drop p f
+abbrev pub from : ℕ → List ℕ → List ℕ
+from b l = take (length l - b) (drop b l)
+
+pub take-rest : (p : ℕ) (f : List ℕ) → from p f ≡ drop p f
 take-rest p f = take-all (length f - p) (drop p f) (omega (arith, length-drop p f))
+
+pub from-at : (b i : ℕ) (l : List ℕ) → getD (from b l) i 0 ≡ getD l (b + i) 0
+from-at b i l = ap (λ (m : List ℕ). getD m i 0) (take-rest b l) ∙ getD-drop b l i 0
+
+pub from-length : (b : ℕ) (l : List ℕ) → length (from b l) ≡ length l - b
+from-length b l = ap length (take-rest b l) ∙ length-drop b l
 
 -- a part u that stands from p on, before q
 pub take-part : (f : List ℕ) (p q : ℕ) (u s : List ℕ) → drop p f ≡ u ++ s → q ≡ p + length u → take q f ≡ take p f ++ u

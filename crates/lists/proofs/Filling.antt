@@ -1,12 +1,12 @@
 -- A list whose first i entries are written anew, one after the other.
-use mathlib.Core.Path.{_≡_, ap, _∙_}
-use mathlib.Core.List.{List, _∷_, _++_, map}
-use Prim.Native.Nat.{ℕ, zero, suc, _+_, _≤_, _<_}
+use mathlib.Core.Path.{_≡_, sym, ap, _∙_}
+use mathlib.Core.List.{List, [], _∷_, _++_, map, map-append, append-assoc}
+use Prim.Native.Nat.{ℕ, suc, _+_, _≤_, _<_}
 use native.Mathlib.Omega.{arith}
 use lib.ListN.{length, getD, drop, set, length-append, length-drop, length-map}
 use lib.Seq.{drop-cons, set-at}
 use Rattle.lists.specs.Lists.{range, over}
-use Rattle.lists.proofs.Lists.{length-range}
+use Rattle.lists.proofs.Lists.{length-range, range-next}
 use Rattle.lists.proofs.Cuts.{over-cut}
 
 module _ {A : Type 0} (f : ℕ → A) where
@@ -25,10 +25,10 @@ module _ {A : Type 0} (f : ℕ → A) where
       omega arith
 
   one-more : (x l : ℕ) (ys : List A) → map f (range x l) ++ (f (x + l) ∷ ys) ≡ map f (range x (suc l)) ++ ys
-  one-more x zero ys = let e : x + 0 ≡ x = omega arith in ap (λ (y : ℕ). f y ∷ ys) e
-  one-more x (suc l) ys =
-      let e : x + suc l ≡ suc x + l = omega arith in
-      ap (λ (zs : List A). f x ∷ zs) (ap (λ (y : ℕ). map f (range (suc x) l) ++ (f y ∷ ys)) e ∙ one-more (suc x) l ys)
+  one-more x l ys =
+      sym
+      (ap (λ (r : List ℕ). map f r ++ ys) (range-next x l) ∙
+      (ap (λ (r : List A). r ++ ys) (map-append f (range x l) ((x + l) ∷ [])) ∙ append-assoc (map f (range x l)) (f (x + l) ∷ []) ys))
 
   -- the next value is stored
   pub written-next : (i : ℕ) (xs : List A) → i < length xs → set (written i xs) i (f i) ≡ written (suc i) xs

@@ -7,7 +7,7 @@ pub mod Cuts
 pub mod Blocks
 pub mod Updates
 pub mod Rising
-pub mod Numbers
+pub mod Indices
 pub mod Positions
 pub mod Filling
 pub mod Copies

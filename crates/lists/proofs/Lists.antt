@@ -1,15 +1,16 @@
 -- Laws of the list functions that the definitions share: membership, selection, tallies, ranges, stores.
 use mathlib.Core.Path.{_≡_, refl, sym, ap, subst, _∙_}
-use mathlib.Core.Bool.{Bool, true, false, _&&_, _||_, false≢true}
+use mathlib.Core.Bool.{Bool, true, false, _&&_, _||_, or-assoc, false≢true}
 use mathlib.Core.Logic.{_⊎_, inl, inr, ⊎-elim, _≢_, by-cases}
 use mathlib.Core.List.{List, [], _∷_, _++_, map, List·Memᴰ, List·Memᴰ·head, List·Memᴰ·tail, List·Memᴰ·not-nil, List·Memᴰ·cases-cons, flatMap, append-nil, append-assoc}
 use Prim.Native.Nat.{ℕ, zero, suc, _+_, _≤_, _<_}
+use native.Mathlib.Nat.{zero-add, add-zero}
 use native.Mathlib.Decide.{ℕ-discrete}
 use native.Mathlib.Omega.{arith}
 use lib.Dec.{eqb}
 use lib.ListN.{length, getD, set, length-map}
 use lib.Seq.{getD-set-same, getD-set-other, set-set, set-getD, ext-getD}
-use borrow.Author.Tests.{eqb-true, eq-eqb, ne-eqb}
+use borrow.Author.Tests.{eqb-true, eqb-false, eq-eqb, ne-eqb}
 use Rattle.lists.specs.Lists.{pick, any, all, tally, select, range, isIn}
 use Rattle.lists.proofs.Tests.{and-left, and-right, and-both, or-left, or-right, or-cases, on-test, clash}
 
@@ -118,19 +119,6 @@ module _ {A : Type 0} (s t : A → Bool) where
       let e = h x (List·Memᴰ·head refl) in
       ap (λ (b : Bool). pick b 1 0 + tally s xs) e ∙ ap (λ (m : ℕ). pick (t x) 1 0 + m) r
 
-  pub tally-select : (l : List A) → tally t (select s l) ≡ tally (λ x. s x && t x) l
-  tally-select [] = refl
-  tally-select (x ∷ xs) =
-      let r = tally-select xs in
-      on-test (s x)
-      (λ e.
-      ap (tally t) (select-in s x xs e) ∙
-      (ap (λ (m : ℕ). pick (t x) 1 0 + m) r ∙
-      sym (ap (λ (b : Bool). pick (b && t x) 1 0 + tally (λ y. s y && t y) xs) e)))
-      (λ e.
-      ap (tally t) (select-out s x xs e) ∙
-      (r ∙ sym (tally-out (λ y. s y && t y) x xs (ap (λ (b : Bool). b && t x) e))))
-
   -- a stronger test passes no more often, and if as often then alike
   pub tally-stronger : (l : List A) → ((x : A) → s x ≡ true → t x ≡ true) → tally s l ≤ tally t l
   tally-stronger [] h = omega arith
@@ -191,6 +179,9 @@ select-select {A} s t (x ∷ xs) =
     ap (select t) (select-out s x xs e) ∙
     (r ∙ sym (select-out (λ y. s y && t y) x xs (ap (λ (b : Bool). b && t x) e))))
 
+pub tally-select : {A : Type 0} (s t : A → Bool) (l : List A) → tally t (select s l) ≡ tally (λ x. s x && t x) l
+tally-select s t l = sym (length-select t (select s l)) ∙ (ap length (select-select s t l) ∙ length-select (λ x. s x && t x) l)
+
 -- membership of numbers
 pub in-mem : (x : ℕ) (l : List ℕ) → isIn x l ≡ true → List·Memᴰ x l
 in-mem x l h = let (y, m, e) = any-mem (eqb x) l h in subst (λ (z : ℕ). List·Memᴰ z l) (sym (eqb-true x y e)) m
@@ -202,6 +193,17 @@ mem-in x l m = mem-any (eqb x) m (eq-eqb x x refl)
 pub length-range : (x l : ℕ) → length (range x l) ≡ l
 length-range x zero = refl
 length-range x (suc l) = ap suc (length-range (suc x) l)
+
+-- a range in two parts, and longer by one
+pub range-append : (x l m : ℕ) → range x (l + m) ≡ range x l ++ range (x + l) m
+range-append x zero m = rw (zero-add, add-zero)
+range-append x (suc l) m =
+    let a : suc l + m ≡ suc (l + m) = omega arith in
+    let b : suc x + l ≡ x + suc l = omega arith in
+    ap (range x) a ∙ ap (λ (r : List ℕ). x ∷ r) (range-append (suc x) l m ∙ ap (λ (y : ℕ). range (suc x) l ++ range y m) b)
+
+pub range-next : (x l : ℕ) → range x (suc l) ≡ range x l ++ ((x + l) ∷ [])
+range-next x l = let e : suc l ≡ l + 1 = omega arith in ap (range x) e ∙ range-append x l 1
 
 pub range-mem : {y : ℕ} (x l : ℕ) → List·Memᴰ y (range x l) → (x ≤ y) × (y < x + l)
 range-mem x zero m = absurd (List·Memᴰ·not-nil m)
@@ -216,7 +218,7 @@ mem-range x zero a b = absurd (omega arith)
 mem-range {y} x (suc l) a b =
     on-test (eqb y x)
     (λ e. List·Memᴰ·head (eqb-true y x e))
-    (λ e. let d : ¬ (y ≡ x) = λ q. clash (eq-eqb y x q) e in List·Memᴰ·tail (mem-range (suc x) l (omega arith) (omega arith)))
+    (λ e. let d = eqb-false y x e in List·Memᴰ·tail (mem-range (suc x) l (omega arith) (omega arith)))
 
 -- the elements of a mapped range
 pub getD-map-range : {A : Type 0} (f : ℕ → A) (d : A) (x l i : ℕ) → i < l → getD (map f (range x l)) i d ≡ f (x + i)
@@ -265,23 +267,29 @@ by-index d l =
 
 pub any-append : {A : Type 0} (t : A → Bool) (l m : List A) → any t (l ++ m) ≡ (any t l || any t m)
 any-append t [] m = refl
-any-append t (x ∷ xs) m =
-    on-test (t x)
-    (λ e. ap (λ (b : Bool). b || any t (xs ++ m)) e ∙ sym (ap (λ (b : Bool). b || any t xs || any t m) e))
-    (λ e.
-    ap (λ (b : Bool). b || any t (xs ++ m)) e ∙
-    (any-append t xs m ∙ sym (ap (λ (b : Bool). (b || any t xs) || any t m) e)))
+any-append t (x ∷ xs) m = ap (λ (b : Bool). t x || b) (any-append t xs m) ∙ sym (or-assoc (t x) (any t xs) (any t m))
+
+pub tally-append : {A : Type 0} (t : A → Bool) (l m : List A) → tally t (l ++ m) ≡ tally t l + tally t m
+tally-append t [] m = omega arith
+tally-append t (x ∷ xs) m = let r = tally-append t xs m in omega arith
+
+pub select-append : {A : Type 0} (t : A → Bool) (l m : List A) → select t (l ++ m) ≡ select t l ++ select t m
+select-append t [] m = refl
+select-append {A} t (x ∷ xs) m =
+    ap (λ (r : List A). pick (t x) (x ∷ []) [] ++ r) (select-append t xs m) ∙ sym (append-assoc (pick (t x) (x ∷ []) []) (select t xs) (select t m))
 
 pub all-snoc : {A : Type 0} (t : A → Bool) (s : List A) (b : A) → all t s ≡ true → t b ≡ true → all t (s ++ b ∷ []) ≡ true
 all-snoc t [] b h e = and-both e refl
 all-snoc t (a ∷ s) b h e = and-both (and-left (t a) _ h) (all-snoc t s b (and-right (t a) _ h) e)
 
--- the images of a range longer by one, behind one another
+-- the images of a list, and of a range longer by one, behind one another
+flatMap-append : {A B : Type 0} (f : A → List B) (l m : List A) → flatMap f (l ++ m) ≡ flatMap f l ++ flatMap f m
+unfolding flatMap
+flatMap-append f [] m = refl
+flatMap-append {B = B} f (x ∷ xs) m = ap (λ (r : List B). f x ++ r) (flatMap-append f xs m) ∙ sym (append-assoc (f x) (flatMap f xs) (flatMap f m))
+
 pub flatMap-next : {A : Type 0} (f : ℕ → List A) (x l : ℕ) → flatMap f (range x (suc l)) ≡ flatMap f (range x l) ++ f (x + l)
 unfolding flatMap
-flatMap-next f x zero = let e : x ≡ x + 0 = omega arith in append-nil (f x) ∙ ap f e
-flatMap-next f x (suc l) =
-    let e : suc x + l ≡ x + suc l = omega arith in
-    ap (λ m. f x ++ m) (flatMap-next f (suc x) l) ∙
-    (sym (append-assoc (f x) (flatMap f (range (suc x) l)) (f (suc x + l))) ∙
-    ap (λ (y : ℕ). (f x ++ flatMap f (range (suc x) l)) ++ f y) e)
+flatMap-next {A} f x l =
+    ap (flatMap f) (range-next x l) ∙
+    (flatMap-append f (range x l) ((x + l) ∷ []) ∙ ap (λ (r : List A). flatMap f (range x l) ++ r) (append-nil (f (x + l))))

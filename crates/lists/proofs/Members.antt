@@ -1,17 +1,16 @@
 -- Members and selections of lists by tests, and lists without repetition.
 use mathlib.Core.Path.{_≡_, refl, sym, ap, _∙_}
-use mathlib.Core.Bool.{Bool, true, false, _&&_, _||_, not, false≢true}
-use mathlib.Core.List.{List, [], _∷_, _++_, map}
-use mathlib.Core.Logic.{⊎-elim}
+use mathlib.Core.Bool.{Bool, true, false, _&&_, _||_, not}
+use mathlib.Core.List.{List, [], _∷_, _++_, map, List·Memᴰ, List·Memᴰ·not-nil, List·Memᴰ·eq-of-singleton}
 use Prim.Native.Nat.{ℕ, zero, suc, _≤_, _<_}
 use native.Mathlib.Omega.{arith}
 use lib.Dec.{eqb}
 use lib.ListN.{length, getD}
 use borrow.Author.Tests.{eqb-true}
 use Rattle.lists.specs.Lists.{pick, any, all, select, range, isIn}
-use Rattle.lists.proofs.Tests.{and-left, and-right, and-both, or-cases, or-left, or-right, not-of-false, test-false}
-use Rattle.lists.proofs.Lists.{all-mem, length-select, tally-length, in-mem, mem-in, mem-range}
-use Rattle.lists.proofs.Numbers.{mem-index, index-mem}
+use Rattle.lists.proofs.Tests.{and-left, and-right, and-both, not-of-false, test-false}
+use Rattle.lists.proofs.Lists.{any-mem, mem-any, all-mem, length-select, tally-length, in-mem, mem-in, mem-range}
+use Rattle.lists.proofs.Indices.{mem-index, index-mem}
 
 module _ {A : Type 0} (t : A → Bool) where
   -- a test that every member and the default pass passes at every index
@@ -23,21 +22,11 @@ module _ {A : Type 0} (t : A → Bool) where
   -- if some member passes the test and every member passes another, one passes both
   pub any-all :
       (u : A → Bool) (xs : List A) → any t xs ≡ true → all u xs ≡ true → (a : A) × (t a ≡ true) × (u a ≡ true)
-  any-all u [] p q = absurd (false≢true p)
-  any-all u (x ∷ xs) p q =
-      ⊎-elim
-      (λ e. (x, e, and-left (u x) _ q))
-      (λ e. any-all u xs e (and-right (u x) _ q))
-      (or-cases (t x) (any t xs) p)
+  any-all u xs p q = let (a, m, e) = any-mem t xs p in (a, e, all-mem u q m)
 
   -- a test that passes wherever another does passes at some member if the other does
   pub any-mono : (v : A → Bool) → ((a : A) → v a ≡ true → t a ≡ true) → (xs : List A) → any v xs ≡ true → any t xs ≡ true
-  any-mono v f [] p = p
-  any-mono v f (x ∷ xs) p =
-      ⊎-elim
-      (λ e. or-left (any t xs) (f x e))
-      (λ e. or-right (t x) (any-mono v f xs e))
-      (or-cases (v x) (any v xs) p)
+  any-mono v f xs p = let (a, m, e) = any-mem v xs p in mem-any t m (f a e)
 
   -- a selection is no longer than the list
   pub select-most : (xs : List A) → length (select t xs) ≤ length xs
@@ -93,6 +82,12 @@ isIn-at xs i h = mem-in (getD xs i 0) xs (index-mem 0 xs i h)
 
 pub isIn-index : (y : ℕ) (xs : List ℕ) → isIn y xs ≡ true → (i : ℕ) × (i < length xs) × (getD xs i 0 ≡ y)
 isIn-index y xs e = mem-index 0 (in-mem y xs e)
+
+-- the only member
+pub only-member : {A : Type 0} (d : A) {x : A} (l : List A) → length l ≡ 1 → List·Memᴰ x l → getD l 0 d ≡ x
+only-member d [] e m = absurd (List·Memᴰ·not-nil m)
+only-member d (y ∷ []) e m = sym (List·Memᴰ·eq-of-singleton m)
+only-member d (y ∷ (z ∷ zs)) e m = absurd (omega arith)
 
 -- a test that every number below l passes passes at each of them
 pub all-below : (t : ℕ → Bool) (l : ℕ) → all t (range 0 l) ≡ true → (i : ℕ) → i < l → t i ≡ true

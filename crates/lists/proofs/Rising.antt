@@ -1,4 +1,4 @@
--- Rising lists of numbers, and exactly one number of a range.
+-- Rising lists of numbers, what a range selects, and exactly one number of a range.
 use mathlib.Core.Path.{_≡_, refl, sym, ap, ap₂, subst, _∙_}
 use mathlib.Core.Bool.{Bool, true, false, _||_, false≢true}
 use mathlib.Core.Logic.{_⊎_, inl, inr, ⊎-elim}
@@ -6,10 +6,10 @@ use mathlib.Core.List.{List, [], _∷_, List·Memᴰ, List·Memᴰ·head, List·
 use Prim.Native.Nat.{ℕ, zero, suc, _+_, _≤_, _<_}
 use native.Mathlib.Omega.{arith}
 use lib.Dec.{eqb}
-use borrow.Author.Tests.{eqb-true, eq-eqb}
+use borrow.Author.Tests.{eqb-true, eqb-false}
 use Rattle.lists.specs.Lists.{tally, select, range, isIn, headOf}
-use Rattle.lists.proofs.Tests.{on-test, clash, test-false}
-use Rattle.lists.proofs.Lists.{select-in, select-out, tally-in, tally-out, tally-none, none-tally, in-mem, mem-in, range-mem, mem-range}
+use Rattle.lists.proofs.Tests.{on-test, same-test, clash, test-false}
+use Rattle.lists.proofs.Lists.{select-in, select-out, tally-in, tally-out, tally-none, none-tally, select-mem, mem-select, in-mem, mem-in, range-mem, mem-range}
 
 -- strictly rising, from a on
 pub data Rising : ℕ → List ℕ → Type 0 where
@@ -68,6 +68,24 @@ rising-equal (more {x = x} {xs} g r) (more {x = y} {xs = ys} i s) h =
         let n : eqb z y ≡ false = ap (eqb z) (sym heads) ∙ e in
         sym (ap (λ (b : Bool). b || isIn z xs) e) ∙ (h z ∙ ap (λ (b : Bool). b || isIn z ys) n))
 
+-- the members of what a range selects, and a rising list with these members
+module _ (t : ℕ → Bool) (n : ℕ) where
+  pub select-below : {y : ℕ} → List·Memᴰ y (select t (range 0 n)) → (y < n) × (t y ≡ true)
+  select-below m = let (i, e) = select-mem t (range 0 n) m in let b = range-mem 0 n i in (omega arith, e)
+
+  pub below-select : {y : ℕ} → y < n → t y ≡ true → List·Memᴰ y (select t (range 0 n))
+  below-select b e = mem-select t (range 0 n) (mem-range 0 n (omega arith) (omega arith)) e
+
+  pub rising-is-select :
+      {a : ℕ} {c : List ℕ} → Rising a c → ((y : ℕ) → List·Memᴰ y c → (y < n) × (t y ≡ true)) →
+      ((y : ℕ) → y < n → t y ≡ true → List·Memᴰ y c) → c ≡ select t (range 0 n)
+  rising-is-select {c = c} r f g =
+      rising-equal r (rising-select t 0 n)
+      (λ y.
+      same-test (isIn y c) (isIn y (select t (range 0 n)))
+      (λ h. let (b, e) = f y (in-mem y c h) in mem-in y (select t (range 0 n)) (below-select b e))
+      (λ h. let (b, e) = select-below (in-mem y (select t (range 0 n)) h) in mem-in y c (g y b e)))
+
 -- the first member of a rising list is a member and the least
 pub head-in : {a y : ℕ} {l : List ℕ} → Rising a l → List·Memᴰ y l → List·Memᴰ (headOf l) l × (headOf l ≤ y)
 head-in none m = absurd (List·Memᴰ·not-nil m)
@@ -97,7 +115,7 @@ one-tally x (suc l) t o =
     let b = range-mem (suc x) l m in
     test-false (t y) (λ p. let f = o .only y (omega arith) (omega arith) p in omega arith))))
     (λ e.
-    let d : ¬ (x ≡ o .at) = λ q. clash (eq-eqb x (o .at) q) e in
+    let d = eqb-false x (o .at) e in
     let p = o .from in
     let q = o .to in
     tally-out t x (range (suc x) l) (test-false (t x) (λ p. d (o .only x (omega arith) (omega arith) p))) ∙
@@ -126,7 +144,7 @@ tally-one x (suc l) t h =
           on-test (eqb y x)
           (λ f. eqb-true y x f)
           (λ f.
-          let d : ¬ (y ≡ x) = λ q. clash (eq-eqb y x q) f in
+          let d = eqb-false y x f in
           absurd (none-tally t (range (suc x) l) z (mem-range (suc x) l (omega arith) (omega arith)) p));
     })
     (λ e.
@@ -142,7 +160,7 @@ tally-one x (suc l) t h =
           λ y a b p.
           on-test (eqb y x)
           (λ f. absurd (clash (subst (λ (z : ℕ). t z ≡ true) (eqb-true y x f) p) e))
-          (λ f. let d : ¬ (y ≡ x) = λ q. clash (eq-eqb y x q) f in o .only y (omega arith) (omega arith) p);
+          (λ f. let d = eqb-false y x f in o .only y (omega arith) (omega arith) p);
     })
 
 -- the values of a rising function on a range

@@ -1,16 +1,16 @@
--- Sums over lists: of selected members, of a range, after a store, under a bound. The largest member.
+-- Sums over lists: of selected members, of a range, after a store, under a bound, by a number. The largest member.
 use mathlib.Core.Path.{_≡_, refl, sym, ap, subst, _∙_}
 use mathlib.Core.Bool.{Bool}
-use mathlib.Core.List.{List, [], _∷_, map}
+use mathlib.Core.List.{List, [], _∷_, _++_, map, map-append}
 use Prim.Native.Nat.{ℕ, zero, suc, _+_, _-_, _*_, _≤_, _<_}
 use native.Mathlib.Nat.{mul-suc}
 use native.Mathlib.Omega.{arith}
-use lib.Dec.{leb}
+use lib.Dec.{eqb, leb}
 use lib.ListN.{length, getD, set, drop, length-map}
 use lib.Seq.{drop-cons}
 use Rattle.lists.specs.Lists.{pick, select, range, total, highest}
-use Rattle.lists.proofs.Tests.{on-test, on-pick}
-use Rattle.lists.proofs.Lists.{select-in, select-out, length-range, getD-map-range}
+use Rattle.lists.proofs.Tests.{on-test, on-pick, pick-in, pick-out}
+use Rattle.lists.proofs.Lists.{select-in, select-out, length-range, range-next, getD-map-range}
 
 -- a sum over selected members is one over all, with 0 for the others
 pub total-select : (g : ℕ → ℕ) (t : ℕ → Bool) (l : List ℕ) → total (map g (select t l)) ≡ total (map (λ x. pick (t x) (g x) 0) l)
@@ -25,14 +25,20 @@ total-select g t (x ∷ xs) =
     ap (λ (l : List ℕ). total (map g l)) (select-out t x xs e) ∙
     (r ∙ sym (ap (λ (b : Bool). pick b (g x) 0 + total (map (λ y. pick (t y) (g y) 0) xs)) e ∙ omega arith)))
 
--- a range longer by one
+-- a list in two parts, and a range longer by one
+pub total-append : (l m : List ℕ) → total (l ++ m) ≡ total l + total m
+total-append [] m = omega arith
+total-append (x ∷ xs) m = let r = total-append xs m in omega arith
+
 pub total-next : (f : ℕ → ℕ) (y l : ℕ) → total (map f (range y (suc l))) ≡ total (map f (range y l)) + f (y + l)
-total-next f y zero = let e : y + 0 ≡ y = omega arith in let q = ap f e in omega arith
-total-next f y (suc l) =
-    let e : suc y + l ≡ y + suc l = omega arith in
-    let q = ap f e in
-    let r = total-next f (suc y) l in
-    omega arith
+total-next f y l =
+    ap (λ (r : List ℕ). total (map f r)) (range-next y l) ∙
+    (ap total (map-append f (range y l) ((y + l) ∷ [])) ∙ (total-append (map f (range y l)) (f (y + l) ∷ []) ∙ omega arith))
+
+-- as many as the sum of 1 for each
+pub length-total : (l : List ℕ) → length l ≡ total (map (λ x. 1) l)
+length-total [] = refl
+length-total (x ∷ xs) = let r = length-total xs in omega arith
 
 -- one entry replaced
 total-set : (xs : List ℕ) (x k : ℕ) → x < length xs → total (set xs x k) + getD xs x 0 ≡ total xs + k
@@ -79,3 +85,32 @@ highest-next l i most r some h e q =
     q ∙
     (ap (λ (m : ℕ). pick (leb m v) v m) (e ∙ ap (λ (k : ℕ). highest (drop k l)) (sym up)) ∙
     sym (ap highest (drop-cons l (i - 1) 0 b)))
+
+-- the sum of g over the first m places with the number c
+unfoldable pub sumAt : (ℕ → ℕ) → List ℕ → ℕ → ℕ → ℕ
+sumAt g numbers c m = total (map (λ x. pick (eqb (getD numbers x 0) c) (g x) 0) (range 0 m))
+
+module _ (g : ℕ → ℕ) (numbers : List ℕ) (c : ℕ) where
+  pub sum-none : sumAt g numbers c 0 ≡ 0
+  unfolding sumAt
+  sum-none = refl
+
+  pub sum-next : (m : ℕ) → sumAt g numbers c (suc m) ≡ sumAt g numbers c m + pick (eqb (getD numbers m 0) c) (g m) 0
+  unfolding sumAt
+  sum-next m =
+      let term : ℕ → ℕ = λ x. pick (eqb (getD numbers x 0) c) (g x) 0 in
+      let z : 0 + m ≡ m = omega arith in
+      total-next term 0 m ∙ ap (λ (x : ℕ). total (map term (range 0 m)) + term x) z
+
+  pub sum-in : (m : ℕ) → getD numbers m 0 ≡ c → sumAt g numbers c (suc m) ≡ sumAt g numbers c m + g m
+  sum-in m e = let q = pick-in (getD numbers m 0) c (g m) 0 e in let r = sum-next m in omega arith
+
+  pub sum-out : (m : ℕ) → ¬ (getD numbers m 0 ≡ c) → sumAt g numbers c (suc m) ≡ sumAt g numbers c m
+  sum-out m d = let q = pick-out (getD numbers m 0) c (g m) 0 d in let r = sum-next m in omega arith
+
+  pub sum-most : (d m : ℕ) → ((x : ℕ) → x < m → g x ≤ d) → sumAt g numbers c m ≤ d * m
+  unfolding sumAt
+  sum-most d m h =
+      total-most (λ x. pick (eqb (getD numbers x 0) c) (g x) 0) d 0 m
+      (λ x b.
+      on-pick (λ (v : ℕ). v ≤ d) (eqb (getD numbers x 0) c) (λ e. h x (omega arith)) (λ e. omega arith))

@@ -14,7 +14,11 @@ pub record UntouchedOutside (b n : ℕ) (cells after : List ℕ) : Type 0 where
   pub size : length after ≡ length cells
   pub outside : (j : ℕ) → (j < b) ⊎ (b + n ≤ j) → getD after j 0 ≡ getD cells j 0
 
--- the n entries from b on are v, and the others as they were
-pub record Filled (b n v : ℕ) (cells after : List ℕ) : Type 0 where
+-- the n entries from b on are the values of f from 0 on, and the others as they were
+pub record Overwritten (f : ℕ → ℕ) (b n : ℕ) (cells after : List ℕ) : Type 0 where
   pub kept : UntouchedOutside b n cells after
-  pub inside : (i : ℕ) → i < n → getD after (b + i) 0 ≡ v
+  pub inside : (i : ℕ) → i < n → getD after (b + i) 0 ≡ f i
+
+-- the n entries from b on are v
+abbrev pub Filled : ℕ → ℕ → ℕ → List ℕ → List ℕ → Type 0
+Filled b n v cells after = Overwritten (λ _. v) b n cells after

@@ -14,7 +14,7 @@ use Rattle.picture.specs.Patches.{patches}
 use Rattle.picture.proofs.Neighbours.{neighbour-next, neighbours-touch}
 use Rattle.lists.proofs.Lists.{in-mem, tally-length, set-back}
 use Rattle.lists.proofs.Positions.{tally-bound}
-use Rattle.lists.proofs.Blocks.{filled-entry}
+use Rattle.lists.proofs.Blocks.{overwritten-entry}
 use Rattle.topology.proofs.Connected.{start, conn-target}
 use Rattle.labelling_laws.proofs.Zones.{Flat, ZoneFlooding, ZoneFlooded, zone-start, zone-pop, zone-done, zone-lower, zone-higher, zone-level, zone-visit, zone-end}
 use Rattle.labelling_laws.proofs.ZoneScan.{unvisited-set, Scanned, scan-start, scan-seen, scan-fresh, scan-lower, scan-minimum, scan-end}
@@ -244,7 +244,7 @@ counting-start p cells after n ok e m f =
     record {
       accepted = ok;
       size = f .kept .size ∙ e;
-      scanned = scan-start p after (λ y b. filled-entry f y (omega arith));
+      scanned = scan-start p after (λ y b. overwritten-entry f y (omega arith));
     }
 
 pub counting-end : (p : Picture) (x r : ℕ) (cells : List ℕ) → x ≡ places p → Counting p x r cells → r ≡ length (patches p)

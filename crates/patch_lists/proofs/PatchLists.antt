@@ -1,28 +1,23 @@
--- The laws of the call that lists the patches: its fault, that height and depth of a patch are bytes, the records read off the figures, and what the call leaves.
+-- The laws of the call that lists the patches: its fault, the records read off the figures, and what the call leaves.
 use mathlib.Core.Path.{_≡_, refl, sym, ap, subst, _∙_}
 use mathlib.Core.Bool.{Bool, true}
-use mathlib.Core.Logic.{_≢_, by-cases}
+use mathlib.Core.Logic.{_≢_}
 use mathlib.Core.List.{List, [], _++_, map}
 use Prim.Native.Nat.{ℕ, _+_, _*_, _≤_, _<_}
-use native.Mathlib.Decide.{decLt}
 use native.Mathlib.Numerals.{add-one}
 use native.Mathlib.Omega.{arith}
-use lib.Dec.{eqb, ltb}
-use lib.ListN.{length, getD, take, drop, replicate, length-replicate, length-map, List·getD-append, List·getD-map, List·getD-eq-default}
+use lib.Dec.{ltb}
+use lib.ListN.{length, getD, take, drop, replicate, length-replicate, length-map, List·getD-append, List·getD-map}
 use lib.Seq.{length-front, ext-getD}
 use borrow.Author.Tests.{ltb-false, ne-eqb}
-use Rattle.lists.specs.Lists.{pick, range, highest}
+use Rattle.lists.specs.Lists.{pick, range}
 use Rattle.picture.specs.Pictures.{Picture, places, isPicture}
 use Rattle.faults.specs.PictureFault.{firstOf, when}
-use Rattle.picture.specs.Trees.{Node, nodes, nodeAt, fatherOf, mapOf}
-use Rattle.picture.specs.Patches.{patches, depthOf}
-use Rattle.picture.proofs.Sides.{area-most}
-use Rattle.lists.proofs.Tests.{on-pick}
+use Rattle.picture.specs.Patches.{patches}
 use Rattle.lists.proofs.Lists.{length-range, getD-map-range}
-use Rattle.lists.proofs.Sums.{highest-most}
-use Rattle.topology.proofs.Accepted.{Accepted, accepted-is, byte-at}
-use Rattle.topology.proofs.Nodes.{node-is}
-use Rattle.topology.proofs.PatchSums.{patch-begins, count-few, patch-number, patch-height, patch-depth}
+use Rattle.topology.proofs.Accepted.{Accepted, accepted-is, pixels-few}
+use Rattle.topology.proofs.PatchSums.{count-few, patch-number}
+use Rattle.topology.proofs.PatchBounds.{patches-few, height-fits, depth-fits}
 use Rattle.patches.specs.Figures.{noPatch, Figures}
 use Rattle.patch_records.specs.Records.{Entry, Entries, recordAt, records}
 use Rattle.answers.specs.declared.Answer.{Answer}
@@ -41,53 +36,14 @@ module _ (p : Picture) (room work : ℕ) where
   pub list-enough : listFault p room work ≡ 0 → (workFaultOf p work ≡ 0) × (length (patches p) ≤ room)
   list-enough e = let z = then-none _ 8 _ _ list-is e in (z .0, ltb-false room (length (patches p)) (z .1))
 
--- an accepted picture has at most 1,600 places, and heights and depths of its patches are bytes
+-- of an accepted picture
 module _ (p : Picture) (h : isPicture p ≡ true) where
   ok : Accepted p
   ok = accepted-is p h
 
-  pub pixels-few : length (p .pixels) ≤ 1600
-  pixels-few = let a = area-most (p .width) (p .height) (ok .wide) (ok .high) in let e = ok .size in omega arith
-
   -- a cell a pixel of a local array
   pub cells-lent : length (p .pixels) ≡ length (take (length (p .pixels)) (replicate {A = ℕ} 1600 0))
-  cells-lent = lent-length (length (p .pixels)) (replicate {A = ℕ} 1600 0) (omega (arith, pixels-few, length-replicate {A = ℕ} 1600 0))
-
-  pub patches-few : length (patches p) ≤ 1600
-  patches-few = let a = count-few p ok in let e = ok .size in let f = pixels-few in omega arith
-
-  node-byte : (i : ℕ) → nodeAt p i .height ≤ 255
-  node-byte i =
-      by-cases (decLt i (length (nodes p)))
-      (λ l. node-is p i l .low)
-      (λ l.
-      let b : length (nodes p) ≤ i = omega arith in
-      let e = ap (λ (n : Node). n .height) (List·getD-eq-default (nodes p) (record { height = 0; first = 0 }) {n = i} b) in
-      omega (arith, e))
-
-  depth-byte : (n : Node) → depthOf p n ≤ 255
-  unfolding depthOf
-  depth-byte n =
-      let most : pick (eqb (fatherOf p n) 65535) (highest (p .pixels)) (nodeAt p (fatherOf p n) .height) ≤ 255 =
-      on-pick (λ (v : ℕ). v ≤ 255) (eqb (fatherOf p n) 65535)
-      (λ e. highest-most 255 (p .pixels) (byte-at (p .pixels) (ok .bytes)))
-      (λ e. node-byte (fatherOf p n))
-      in
-      omega arith
-
-  -- of a patch by its index
-  module _ (i : ℕ) (b : i < length (patches p)) where
-    pub height-fits : getD (patches p) i noPatch .height ≤ 255
-    height-fits =
-        let (z, c, t, e) = patch-begins p ok i b in
-        subst (λ (j : ℕ). getD (patches p) j noPatch .height ≤ 255) e
-        (subst (λ (v : ℕ). v ≤ 255) (sym (patch-height p ok z noPatch c t)) (byte-at (p .pixels) (ok .bytes) z))
-
-    pub depth-fits : getD (patches p) i noPatch .depth ≤ 255
-    depth-fits =
-        let (z, c, t, e) = patch-begins p ok i b in
-        subst (λ (j : ℕ). getD (patches p) j noPatch .depth ≤ 255) e
-        (subst (λ (v : ℕ). v ≤ 255) (sym (patch-depth p ok z noPatch c t)) (depth-byte (nodeAt p (mapOf p z))))
+  cells-lent = lent-length (length (p .pixels)) (replicate {A = ℕ} 1600 0) (omega (arith, pixels-few p h, length-replicate {A = ℕ} 1600 0))
 
   -- the figures in the first 5 n entries of work, as records
   module _ (r : ℕ) (q ys cells : List ℕ) (room : 5 * length (p .pixels) ≤ length q) (long : length ys ≡ 5 * places p) (f : Figures p r ys cells) where
@@ -122,10 +78,10 @@ module _ (p : Picture) (h : isPicture p ≡ true) where
         let x = inside (3 * places p + i) (omega (arith, few, b)) ∙ f .depth i b in
         let y = inside (4 * places p + i) (omega (arith, few, b)) ∙ f .height i b in
         record {
-          few = omega (arith, c, patches-few);
+          few = omega (arith, c, patches-few p ok);
           last = omega (arith, few, b, total, room, ok .size);
-          depth = omega (arith, x, depth-fits i c);
-          height = omega (arith, y, height-fits i c);
+          depth = omega (arith, x, depth-fits p ok i noPatch c);
+          height = omega (arith, y, height-fits p ok i noPatch c);
         }
 
     records-are : records (places p) after r ≡ map recordOf (patches p)

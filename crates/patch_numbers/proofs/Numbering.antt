@@ -17,7 +17,7 @@ use Rattle.lists.proofs.Tests.{and-left, and-right, and-both, clash, on-pick}
 use Rattle.lists.proofs.Lists.{set-cases}
 use Rattle.lists.proofs.Positions.{tally-next-in, tally-next-out, tally-bound}
 use Rattle.patch_numbers.specs.Numbers.{Mapped, Cleared, Mark, beyond, marked, Son, Marks, starts, Number, passed, given, Numbers, patchIn}
-use Rattle.lists.proofs.Blocks.{kept-refl, kept-set, filled-entry}
+use Rattle.lists.proofs.Blocks.{untouched-refl, untouched-set, overwritten-entry}
 
 -- an entry before the block that may have changed
 pub kept-row : (b n o i : ℕ) {l m : List ℕ} → UntouchedOutside b n l m → o + i < b → blockEntry m o i ≡ blockEntry l o i
@@ -35,7 +35,7 @@ module _ (n : ℕ) (work : List ℕ) where
       record {
         size = f .kept .size ∙ e;
         free = λ i b z j c. absurd (omega arith);
-        taken = λ i b d. absurd (d (filled-entry f i b));
+        taken = λ i b d. absurd (d (overwritten-entry f i b));
       }
 
   son-later : (j : ℕ) {i : ℕ} → Son n j work i → Son n (j + 1) work i
@@ -120,7 +120,7 @@ module _ (n : ℕ) (work marks : List ℕ) where
   pub numbers-start : Cleared n work → Numbers n work marks 0 0 work
   numbers-start z =
       record {
-        kept = kept-refl (4 * n) n work;
+        kept = untouched-refl (4 * n) n work;
         count = refl;
         number = λ z b s. absurd (omega arith);
         other = λ m b d. z .zero m b;
@@ -178,7 +178,7 @@ module _ (n : ℕ) (work marks : List ℕ) where
         let at = ap (λ (i : ℕ). set l (4 * n + i) (r + 1)) (same-map x b) in
         rw (e, g, at)
         (record {
-          kept = kept-set (4 * n) n node (r + 1) work l (maps .map x b) (k .kept);
+          kept = untouched-set (4 * n) n node (r + 1) work l (maps .map x b) (k .kept);
           count = u;
           number =
               λ z h t.

@@ -14,10 +14,10 @@ use lib.Seq.{getD-set-same, getD-set-other}
 use Rattle.lists.specs.Lists.{pick}
 use Rattle.lists.proofs.Tests.{pick-in, pick-out, pick-add}
 use Rattle.lists.specs.Blocks.{blockEntry, UntouchedOutside, Filled}
-use Rattle.topology.proofs.PatchSums.{sumAt, sum-none, sum-in, sum-out, sum-most}
+use Rattle.lists.proofs.Sums.{sumAt, sum-none, sum-in, sum-out, sum-most}
 use Rattle.patch_sums.specs.declared.Run.{Run}
 use Rattle.patch_sums.specs.Sums.{Figure, sizes, columns, rows, term, terms, termAt, base, raised, Raisable, SumsRoom, Added, RunAfter, NumberedRows, Sums, RowSummed}
-use Rattle.lists.proofs.Blocks.{kept-refl, kept-trans, kept-store}
+use Rattle.lists.proofs.Blocks.{untouched-refl, untouched-trans, untouched-store}
 
 -- the sum with one place more
 sum-next : (g : ℕ → ℕ) (numbers : List ℕ) (c x : ℕ) → sumAt g numbers c (x + 1) ≡ sumAt g numbers c x + pick (eqb (getD numbers x 0) c) (g x) 0
@@ -28,7 +28,7 @@ sum-next g numbers c x =
     (λ d. let s = sum-out g numbers c x d in let q = pick-out (getD numbers x 0) c (g x) 0 d in omega arith)
 
 raised-kept : (n j v : ℕ) (l m o : List ℕ) → o ≡ raised m j v → j < n → UntouchedOutside 0 n l m → UntouchedOutside 0 n l o
-raised-kept n j v l m o q h k = rw q (kept-store 0 n j (getD m j 0 + v) l m (omega arith) (omega arith) k)
+raised-kept n j v l m o q h k = rw q (untouched-store 0 n j (getD m j 0 + v) l m (omega arith) (omega arith) k)
 
 -- an entry raised, seen from elsewhere
 raised-apart : (l m : List ℕ) (i j v : ℕ) → m ≡ raised l i v → j ≢ i → getD m j 0 ≡ getD l j 0
@@ -55,7 +55,7 @@ raised-own c i n l m o b j v p q h =
 pub added-none : (n c : ℕ) (t : Figure → ℕ) (l : List ℕ) → c ≡ 0 → Added n c t l l
 added-none n c t l e =
     record {
-      kept = kept-refl 0 (3 * n) l;
+      kept = untouched-refl 0 (3 * n) l;
       sum = λ k i h. let q = pick-out c (suc i) (t k) 0 (λ d. absurd (omega arith)) in omega arith;
     }
 
@@ -72,11 +72,11 @@ module _ (n c : ℕ) (t : Figure → ℕ) (l : List ℕ) (i : ℕ) (e : c ≡ su
       record { inside = omega arith; few = omega arith; room = omega arith }
 
   pub room-sizes : Raisable l i (t sizes)
-  room-sizes = let m = r .number in room-in sizes l i (omega arith) (omega arith) (kept-refl 0 (3 * n) l) refl
+  room-sizes = let m = r .number in room-in sizes l i (omega arith) (omega arith) (untouched-refl 0 (3 * n) l) refl
 
   module _ (a : List ℕ) (ea : a ≡ raised l i (t sizes)) where
     first : UntouchedOutside 0 (3 * n) l a
-    first = let m = r .number in raised-kept (3 * n) i (t sizes) l l a ea (omega arith) (kept-refl 0 (3 * n) l)
+    first = let m = r .number in raised-kept (3 * n) i (t sizes) l l a ea (omega arith) (untouched-refl 0 (3 * n) l)
 
     pub room-columns : Raisable a (n + i) (t columns)
     room-columns =
@@ -137,7 +137,7 @@ module _ (n c u v : ℕ) (run : Run) (l : List ℕ) where
   pub next-line : c ≡ 0 → RunAfter n c u v run l run l
   next-line e =
       record {
-        kept = kept-refl 0 (3 * n) l;
+        kept = untouched-refl 0 (3 * n) l;
         number = λ m a b. b;
         size = omega arith;
         columns = omega arith;
@@ -147,7 +147,7 @@ module _ (n c u v : ℕ) (run : Run) (l : List ℕ) where
   pub next-same : c ≡ run .number → RunAfter n c u v run l (record { number = c; size = run .size + 1; columns = run .columns + u }) l
   next-same e =
       record {
-        kept = kept-refl 0 (3 * n) l;
+        kept = untouched-refl 0 (3 * n) l;
         number = λ m a b. a;
         size = omega arith;
         columns = omega arith;
@@ -177,7 +177,7 @@ module _ (n c u v : ℕ) (run : Run) (l : List ℕ) where
 pub sums-start : (w n : ℕ) (numbers work l : List ℕ) → length work ≡ 5 * n → Filled 0 (3 * n) 0 work l → Sums w n 0 numbers l l
 sums-start w n numbers work l e f =
     record {
-      kept = kept-refl 0 (3 * n) l;
+      kept = untouched-refl 0 (3 * n) l;
       blocks = f .kept .size ∙ e;
       sum = λ k i h. empty k i h ∙ sym (sum-none (termAt w k) numbers (suc i));
     }
@@ -208,11 +208,11 @@ module _ (w n x : ℕ) (numbers l m : List ℕ) (s : Sums w n x numbers l m) whe
 
   -- seen from the cells as they are
   pub sums-now : Sums w n x numbers m m
-  sums-now = record { kept = kept-refl 0 (3 * n) m; blocks = s .blocks; sum = s .sum }
+  sums-now = record { kept = untouched-refl 0 (3 * n) m; blocks = s .blocks; sum = s .sum }
 
   -- seen from earlier cells
   pub sums-since : (o : List ℕ) → UntouchedOutside 0 (3 * n) o l → Sums w n x numbers o m
-  sums-since o k = record { kept = kept-trans 0 (3 * n) o l m k (s .kept); blocks = s .blocks; sum = s .sum }
+  sums-since o k = record { kept = untouched-trans 0 (3 * n) o l m k (s .kept); blocks = s .blocks; sum = s .sum }
 
 module _ (w n : ℕ) (numbers : List ℕ) (f : NumberedRows w n numbers) where
   -- columns and rows are at most 39
@@ -283,7 +283,7 @@ module _ (w n : ℕ) (numbers : List ℕ) (f : NumberedRows w n numbers) where
             let fewer = s .size in
             let less = s .columns in
             record {
-              kept = kept-trans 0 (3 * n) work l m (s .kept) (a .kept);
+              kept = untouched-trans 0 (3 * n) work l m (s .kept) (a .kept);
               blocks = a .kept .size ∙ s .blocks;
               number = a .number n (omega arith) (s .number);
               size = omega arith;
@@ -305,7 +305,7 @@ module _ (w n : ℕ) (numbers : List ℕ) (f : NumberedRows w n numbers) where
         pub running-end : u ≡ w → (m : List ℕ) → Added n (run .number) (terms run v) l m → Sums w n (v * w + w) numbers work m
         running-end e m a =
             record {
-              kept = kept-trans 0 (3 * n) work l m (s .kept) (a .kept);
+              kept = untouched-trans 0 (3 * n) work l m (s .kept) (a .kept);
               blocks = a .kept .size ∙ s .blocks;
               sum = λ k i h. a .sum k i h ∙ (s .sum k i h ∙ ap (λ (z : ℕ). sumAt (termAt w k) numbers (suc i) (v * w + z)) e);
             }

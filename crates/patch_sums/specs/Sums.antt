@@ -6,7 +6,7 @@ use lib.Dec.{eqb}
 use lib.ListN.{length, getD, set}
 use Rattle.lists.specs.Lists.{pick}
 use Rattle.lists.specs.Blocks.{blockEntry, UntouchedOutside}
-use Rattle.topology.proofs.PatchSums.{sumAt}
+use Rattle.lists.proofs.Sums.{sumAt}
 use Rattle.patch_sums.specs.declared.Run.{Run}
 
 -- the figures that are sums over the places of a patch

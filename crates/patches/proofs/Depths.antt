@@ -17,7 +17,8 @@ use Rattle.picture.specs.Patches.{patches, depthOf}
 use Rattle.lists.specs.Blocks.{blockEntry, UntouchedOutside}
 use Rattle.lists.proofs.Tests.{test-false}
 use Rattle.topology.proofs.Accepted.{Accepted, accepted-is, places-bound}
-use Rattle.topology.proofs.Fathers.{father-found, map-found, number-small}
+use Rattle.topology.proofs.Fathers.{father-found, number-small}
+use Rattle.topology.proofs.Descent.{map-found}
 use Rattle.topology.proofs.Nodes.{nodes-few, node-is}
 use Rattle.lists.proofs.Positions.{tally-next-in, tally-next-out}
 use Rattle.topology.proofs.Leaves.{bottom}
@@ -27,7 +28,7 @@ use Rattle.topology.proofs.PatchSums.{next-bottom, patch-height, patch-depth}
 use Rattle.tree.specs.Arrays.{TreeIn}
 use Rattle.patch_numbers.specs.Numbers.{Mapped}
 use Rattle.patches.specs.Figures.{depthIn, PatchPut, passed, begun, noPatch, DepthsBefore, PatchesNumbered, Patched}
-use Rattle.lists.proofs.Blocks.{kept-refl, kept-store}
+use Rattle.lists.proofs.Blocks.{untouched-refl, untouched-store}
 use Rattle.patch_numbers.proofs.Numbering.{kept-row}
 use Rattle.patches.proofs.LeafNumbers.{height-at}
 
@@ -88,7 +89,7 @@ module _ (n : ℕ) (pixels numbers : List ℕ) (most : ℕ) (work : List ℕ) wh
   pub patched-start : Patched n pixels numbers most 0 work 0 work
   patched-start =
       record {
-        kept = kept-refl (3 * n) (2 * n) work;
+        kept = untouched-refl (3 * n) (2 * n) work;
         few = omega arith;
         begun =
             λ p c.
@@ -230,9 +231,9 @@ module _ (n : ℕ) (pixels numbers : List ℕ) (most : ℕ) (work : List ℕ) wh
         rw (e, g)
         (record {
           kept =
-              kept-store (3 * n) (2 * n) (4 * n + r) (getD pixels x 0) work (set l (3 * n + r) (depthIn n l most (blockEntry l (2 * n) x)))
+              untouched-store (3 * n) (2 * n) (4 * n + r) (getD pixels x 0) work (set l (3 * n + r) (depthIn n l most (blockEntry l (2 * n) x)))
               (omega arith) (omega arith)
-              (kept-store (3 * n) (2 * n) (3 * n + r) (depthIn n l most (blockEntry l (2 * n) x)) work l (omega arith) (omega arith) (f .kept));
+              (untouched-store (3 * n) (2 * n) (3 * n + r) (depthIn n l most (blockEntry l (2 * n) x)) work l (omega arith) (omega arith) (f .kept));
           few = omega arith;
           begun = λ p c. begun-next p c d long;
         })

@@ -18,7 +18,7 @@ use Rattle.lists.proofs.Tests.{on-test, same-test, clash, pick-in, pick-out}
 use Rattle.lists.proofs.Lists.{tally-same, range-mem}
 use Rattle.topology.proofs.Accepted.{Accepted}
 use Rattle.topology.proofs.Nodes.{nodes-few, node-is}
-use Rattle.topology.proofs.Fathers.{map-found}
+use Rattle.topology.proofs.Descent.{map-found}
 use Rattle.topology.proofs.Leaves.{bottom}
 use Rattle.topology.proofs.PatchFigures.{bottom-number}
 use Rattle.topology.proofs.LeafNodes.{leafNode, leaf-bottom, bottom-map, bottom-leaf, leaf-mapped, map-bottom, patch-leaf, patch-line, father-leaf, childless-leaf}

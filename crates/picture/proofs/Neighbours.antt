@@ -238,10 +238,11 @@ one-step w h x o q d e f =
     back : (a k l : ℕ) → 1 ≤ a + k → 1 ≤ a + l → a + k - 1 ≡ a + l - 1 → k ≡ l
     back a k l p q e = omega arith
 
--- no neighbour stands twice
+-- two offsets are not the same
 abbrev differ : Offset → Offset → Bool
 differ o q = not (same (q .column) (q .row) o)
 
+-- no neighbour stands twice
 pub neighbours-distinct : (a w h x : ℕ) → distinct (neighboursOf a w h x) ≡ true
 unfolding neighboursOf
 neighbours-distinct a w h x =

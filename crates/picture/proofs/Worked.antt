@@ -18,14 +18,13 @@ sameList [] (y ∷ ys) = false
 sameList (x ∷ xs) [] = false
 sameList (x ∷ xs) (y ∷ ys) = eqb x y && sameList xs ys
 
--- a picture worked by hand: its mark, and the pixels of its watershed
+-- a picture worked by hand, and the pixels of its watershed
 pub record Row : Type 0 where
-  pub mark : ℕ
   pub picture : Picture
   pub water : List ℕ
 
-abbrev row : ℕ → Picture → List ℕ → Row
-row m p xs = record { mark = m; picture = p; water = xs }
+abbrev row : Picture → List ℕ → Row
+row p xs = record { picture = p; water = xs }
 
 -- H3 and H10, whose trees are worked too
 abbrev pub h3 : Picture
@@ -34,19 +33,19 @@ h3 = pictureOf 4 5 1 (3 ∷ 1 ∷ 4 ∷ 0 ∷ 2 ∷ [])
 abbrev pub h10 : Picture
 h10 = pictureOf 4 3 2 (0 ∷ 5 ∷ 2 ∷ 3 ∷ 3 ∷ 3 ∷ [])
 
--- H1 to H10
+-- H1 to H10, in order
 abbrev pub table : List Row
 table =
-    row 1 (pictureOf 4 1 1 (9 ∷ [])) (9 ∷ []) ∷
-    row 2 (pictureOf 4 2 1 (0 ∷ 1 ∷ [])) (0 ∷ 0 ∷ []) ∷
-    row 3 h3 (1 ∷ 1 ∷ 4 ∷ 0 ∷ 0 ∷ []) ∷
-    row 4 (pictureOf 4 2 2 (0 ∷ 5 ∷ 5 ∷ 0 ∷ [])) (0 ∷ 5 ∷ 5 ∷ 0 ∷ []) ∷
-    row 5 (pictureOf 8 2 2 (0 ∷ 5 ∷ 5 ∷ 0 ∷ [])) (0 ∷ 0 ∷ 0 ∷ 0 ∷ []) ∷
-    row 6 (pictureOf 4 3 3 (7 ∷ 7 ∷ 7 ∷ 7 ∷ 7 ∷ 7 ∷ 7 ∷ 7 ∷ 7 ∷ [])) (7 ∷ 7 ∷ 7 ∷ 7 ∷ 7 ∷ 7 ∷ 7 ∷ 7 ∷ 7 ∷ []) ∷
-    row 7 (pictureOf 4 3 3 (0 ∷ 0 ∷ 0 ∷ 0 ∷ 5 ∷ 0 ∷ 0 ∷ 0 ∷ 0 ∷ [])) (0 ∷ 0 ∷ 0 ∷ 0 ∷ 0 ∷ 0 ∷ 0 ∷ 0 ∷ 0 ∷ []) ∷
-    row 8 (pictureOf 4 5 1 (0 ∷ 3 ∷ 3 ∷ 3 ∷ 1 ∷ [])) (0 ∷ 0 ∷ 0 ∷ 3 ∷ 1 ∷ []) ∷
-    row 9 (pictureOf 4 4 1 (0 ∷ 3 ∷ 3 ∷ 1 ∷ [])) (0 ∷ 0 ∷ 3 ∷ 1 ∷ []) ∷
-    row 10 h10 (0 ∷ 3 ∷ 2 ∷ 0 ∷ 0 ∷ 3 ∷ []) ∷
+    row (pictureOf 4 1 1 (9 ∷ [])) (9 ∷ []) ∷
+    row (pictureOf 4 2 1 (0 ∷ 1 ∷ [])) (0 ∷ 0 ∷ []) ∷
+    row h3 (1 ∷ 1 ∷ 4 ∷ 0 ∷ 0 ∷ []) ∷
+    row (pictureOf 4 2 2 (0 ∷ 5 ∷ 5 ∷ 0 ∷ [])) (0 ∷ 5 ∷ 5 ∷ 0 ∷ []) ∷
+    row (pictureOf 8 2 2 (0 ∷ 5 ∷ 5 ∷ 0 ∷ [])) (0 ∷ 0 ∷ 0 ∷ 0 ∷ []) ∷
+    row (pictureOf 4 3 3 (7 ∷ 7 ∷ 7 ∷ 7 ∷ 7 ∷ 7 ∷ 7 ∷ 7 ∷ 7 ∷ [])) (7 ∷ 7 ∷ 7 ∷ 7 ∷ 7 ∷ 7 ∷ 7 ∷ 7 ∷ 7 ∷ []) ∷
+    row (pictureOf 4 3 3 (0 ∷ 0 ∷ 0 ∷ 0 ∷ 5 ∷ 0 ∷ 0 ∷ 0 ∷ 0 ∷ [])) (0 ∷ 0 ∷ 0 ∷ 0 ∷ 0 ∷ 0 ∷ 0 ∷ 0 ∷ 0 ∷ []) ∷
+    row (pictureOf 4 5 1 (0 ∷ 3 ∷ 3 ∷ 3 ∷ 1 ∷ [])) (0 ∷ 0 ∷ 0 ∷ 3 ∷ 1 ∷ []) ∷
+    row (pictureOf 4 4 1 (0 ∷ 3 ∷ 3 ∷ 1 ∷ [])) (0 ∷ 0 ∷ 3 ∷ 1 ∷ []) ∷
+    row h10 (0 ∷ 3 ∷ 2 ∷ 0 ∷ 0 ∷ 3 ∷ []) ∷
     []
 
 -- the picture of a row is accepted, and its watershed is the row's
@@ -105,8 +104,8 @@ abbrev patchRow : Picture → List ℕ → ℕ → List (List ℕ) → PatchRow
 patchRow p xs l fs = record { picture = p; places = xs; line = l; figures = fs }
 
 -- the watersheds of H3, whose hold list is given, and of H10; a deep patch beside a shallow one; a picture of one patch
-abbrev pub patch-rows : List PatchRow
-patch-rows =
+abbrev pub patch-table : List PatchRow
+patch-table =
     patchRow (pictureOf 4 5 1 (1 ∷ 1 ∷ 4 ∷ 0 ∷ 0 ∷ [])) (1 ∷ 1 ∷ 0 ∷ 2 ∷ 2 ∷ []) 1
     ((1 ∷ 2 ∷ 1 ∷ 3 ∷ 5 ∷ 0 ∷ []) ∷ (2 ∷ 2 ∷ 0 ∷ 4 ∷ 35 ∷ 0 ∷ []) ∷ []) ∷
     patchRow (pictureOf 4 3 2 (0 ∷ 3 ∷ 2 ∷ 0 ∷ 0 ∷ 3 ∷ [])) (1 ∷ 0 ∷ 2 ∷ 1 ∷ 1 ∷ 0 ∷ []) 2
@@ -135,6 +134,6 @@ patchesHold r =
     (eqb (lineCount p) (r .line) && sameLists (map figuresOf (patches p)) (r .figures))
 
 -- each worked picture has the patches of its row
-pub worked-patches : all patchesHold patch-rows ≡ true
+pub worked-patches : all patchesHold patch-table ≡ true
 unfolding adjacent componentAt components isBranch nodesAt nodes fatherOf isLeaf patchNodes depthOf patchOf patches patchAt lineCount
 worked-patches = refl

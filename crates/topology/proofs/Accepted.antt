@@ -1,15 +1,16 @@
 -- What an accepted picture is, entry by entry.
-use mathlib.Core.Path.{_≡_, refl}
+use mathlib.Core.Path.{_≡_, refl, ap}
 use mathlib.Core.Bool.{true, _||_}
 use mathlib.Core.Logic.{_⊎_, inl, inr, ⊎-elim}
 use mathlib.Core.List.{List, [], _∷_}
 use Prim.Native.Nat.{ℕ, zero, suc, _≤_, _<_}
-use native.Mathlib.Nat.{mul-le-mul}
+use native.Mathlib.Nat.{mul-pos}
 use native.Mathlib.Omega.{arith}
 use lib.Dec.{eqb, ltb, leb}
 use lib.ListN.{length, getD}
 use borrow.Author.Tests.{eqb-true, leb-true, ltb-true, eq-eqb, le-leb, lt-ltb}
-use Rattle.picture.specs.Pictures.{Picture, places, withPixels, sideFits, allBytes, isPicture}
+use Rattle.picture.proofs.Sides.{within-some, within-most, is-within, area-most}
+use Rattle.picture.specs.Pictures.{Picture, places, valueAt, withPixels, sideFits, allBytes, isPicture}
 use Rattle.picture.specs.Geometry.{Placed}
 use Rattle.picture.specs.Kept.{nowhereAbove}
 use Rattle.lists.proofs.Tests.{and-left, and-right, and-both, or-cases, or-left, or-right, clash}
@@ -38,10 +39,10 @@ accepted-is p h =
       adjacency =
           ⊎-elim (λ e. inl (eqb-true (p .adjacency) 4 e)) (λ e. inr (eqb-true (p .adjacency) 8 e))
           (or-cases (eqb (p .adjacency) 4) (eqb (p .adjacency) 8) a);
-      some = leb-true 1 (p .width) (and-left (leb 1 (p .width)) (leb (p .width) 40) w);
-      wide = leb-true (p .width) 40 (and-right (leb 1 (p .width)) (leb (p .width) 40) w);
-      tall = leb-true 1 (p .height) (and-left (leb 1 (p .height)) (leb (p .height) 40) t);
-      high = leb-true (p .height) 40 (and-right (leb 1 (p .height)) (leb (p .height) 40) t);
+      some = within-some 40 (p .width) w;
+      wide = within-most 40 (p .width) w;
+      tall = within-some 40 (p .height) t;
+      high = within-most 40 (p .height) t;
       size = eqb-true (length (p .pixels)) (places p) (and-left (eqb (length (p .pixels)) (places p)) _ h₃);
       bytes = and-right (eqb (length (p .pixels)) (places p)) (allBytes (p .pixels)) h₃;
     }
@@ -55,15 +56,25 @@ is-accepted p a =
     (λ e. or-right (eqb (p .adjacency) 4) (eq-eqb (p .adjacency) 8 e))
     (a .adjacency))
     (and-both
-    (and-both (le-leb 1 (p .width) (a .some)) (le-leb (p .width) 40 (a .wide)))
+    (is-within 40 (p .width) (a .some) (a .wide))
     (and-both
-    (and-both (le-leb 1 (p .height) (a .tall)) (le-leb (p .height) 40 (a .high)))
+    (is-within 40 (p .height) (a .tall) (a .high))
     (and-both
     (eq-eqb (length (p .pixels)) (places p) (a .size))
     (a .bytes))))
 
+-- from 1 to 1600 places
+pub places-some : (p : Picture) → Accepted p → 1 ≤ places p
+places-some p a = mul-pos (a .some) (a .tall)
+
 pub places-bound : (p : Picture) → Accepted p → places p ≤ 1600
-places-bound p a = mul-le-mul (a .wide) (a .high)
+places-bound p a = area-most (p .width) (p .height) (a .wide) (a .high)
+
+pub picture-few : (p : Picture) → isPicture p ≡ true → places p ≤ 1600
+picture-few p h = places-bound p (accepted-is p h)
+
+pub pixels-few : (p : Picture) → isPicture p ≡ true → length (p .pixels) ≤ 1600
+pixels-few p h = let a = picture-few p h in let e = accepted-is p h .size in omega arith
 
 -- a place of it
 pub placed : (p : Picture) → Accepted p → (x : ℕ) → x < places p → Placed (p .width) (p .height) x
@@ -84,6 +95,13 @@ accepted-with p xs a e b =
 
 pub byte-at : (xs : List ℕ) → allBytes xs ≡ true → (i : ℕ) → getD xs i 0 ≤ 255
 byte-at xs h i = let q = ltb-true (getD xs i 0) 256 (all-at (λ b. ltb b 256) xs 0 refl h i) in omega arith
+
+-- the values of the pixels are bytes, and are known from the list of them
+pub value-byte : (p : Picture) → Accepted p → (x : ℕ) → valueAt p x ≤ 255
+value-byte p a x = byte-at (p .pixels) (a .bytes) x
+
+pub value-in : (p : Picture) (pixels : List ℕ) → p .pixels ≡ pixels → (x : ℕ) → valueAt p x ≡ getD pixels x 0
+value-in p pixels e x = ap (λ (l : List ℕ). getD l x 0) e
 
 pub at-byte : (xs : List ℕ) → ((i : ℕ) → getD xs i 0 ≤ 255) → allBytes xs ≡ true
 at-byte [] f = refl

@@ -1,15 +1,15 @@
 -- Adjacency of places as a relation; sections and joined places of a picture.
 use mathlib.Core.Path.{_≡_, _∙_}
 use mathlib.Core.Bool.{true}
-use Prim.Native.Nat.{ℕ, _<_}
+use Prim.Native.Nat.{ℕ, suc, _≤_, _<_}
 use native.Mathlib.Omega.{arith}
 use borrow.Author.Tests.{leb-true, le-leb}
 use Rattle.picture.proofs.Neighbours.{touch-sym, touch-self}
 use Rattle.picture.specs.Pictures.{Picture, places, valueAt, touch}
 use Rattle.picture.specs.Components.{inSection}
 use Rattle.lists.proofs.Tests.{clash}
-use Rattle.topology.proofs.Connected.{Conn, conn-sym}
-use Rattle.topology.proofs.Keeping.{Sec}
+use Rattle.topology.proofs.Connected.{Conn, conn-sym, conn-mono}
+use Rattle.topology.proofs.Keeping.{Sec, sec-mono}
 
 -- x and y are neighbours
 abbrev pub Adj : Picture → ℕ → ℕ → Type 0
@@ -32,6 +32,16 @@ adj-irreflexive p x h = clash h (touch-self p x)
 
 pub joined-sym : (p : Picture) (k : ℕ) {x y : ℕ} → Joined p k x y → Joined p k y x
 joined-sym p k c = conn-sym (adj-sym p) c
+
+-- at a greater height a place stays in the section, and joined places joined
+pub joined-mono : (p : Picture) {j k : ℕ} → j ≤ k → {x y : ℕ} → Joined p j x y → Joined p k x y
+joined-mono p h c = conn-mono (sec-mono h) c
+
+pub at-next : (p : Picture) {k x : ℕ} → At p k x → At p (suc k) x
+at-next p {x = x} s = sec-mono (omega arith) x s
+
+pub joined-next : (p : Picture) {k x y : ℕ} → Joined p k x y → Joined p (suc k) x y
+joined-next p c = joined-mono p (omega arith) c
 
 -- a place is in the section at its own height
 pub at-own : (p : Picture) (x : ℕ) → x < places p → At p (valueAt p x) x

@@ -1,8 +1,8 @@
 -- Branches: components that contain exactly one component of the height below. Keeping parts keeps them.
 use mathlib.Core.Path.{_≡_, refl, sym, ap, _∙_}
 use mathlib.Core.Bool.{Bool, true, false}
-use mathlib.Core.List.{List, [], _∷_, List·Memᴰ, List·Memᴰ·not-nil, List·Memᴰ·eq-of-singleton}
-use Prim.Native.Nat.{ℕ, zero, suc, _≤_}
+use mathlib.Core.List.{List, []}
+use Prim.Native.Nat.{ℕ, zero, suc}
 use native.Mathlib.Omega.{arith}
 use lib.Dec.{eqb}
 use lib.ListN.{length, getD}
@@ -13,14 +13,12 @@ use Rattle.picture.specs.Components.{componentAt, components}
 use Rattle.picture.specs.Trees.{below, isBranch}
 use Rattle.lists.proofs.Tests.{on-test, same-test, clash}
 use Rattle.lists.proofs.Lists.{any-mem, mem-any, mem-select, length-select}
+use Rattle.lists.proofs.Members.{only-member}
 use Rattle.topology.proofs.Connected.{start, step, conn-source, conn-target, conn-trans, conn-mono, conn-closed}
-use Rattle.topology.proofs.Keeping.{Keeps, sec-mono}
-use Rattle.topology.proofs.Adjacency.{Adj, At, Joined, joined-sym}
+use Rattle.topology.proofs.Keeping.{Keeps}
+use Rattle.topology.proofs.Adjacency.{Adj, At, Joined, joined-sym, at-next, joined-next}
 use Rattle.topology.proofs.Reached.{firstAt, component-same, mem-joined, in-joined, joined-in, joined-mem, first-joined}
 use Rattle.topology.proofs.Parts.{mem-components, tally-part, part-tally}
-
-pub joined-mono : (p : Picture) {j k : ℕ} → j ≤ k → {x y : ℕ} → Joined p j x y → Joined p k x y
-joined-mono p h c = conn-mono (sec-mono h) c
 
 -- the component of height j + 1 that holds x contains exactly one of height j
 pub record Branch (p : Picture) (j x : ℕ) : Type 0 where
@@ -37,11 +35,11 @@ module _ (p : Picture) (j x : ℕ) (s : At p (suc j) x) where
   unfolding firstAt
   below-joined y t h =
       conn-trans (in-joined p (suc j) x (firstAt p j y) s h)
-      (joined-mono p (omega arith) (joined-sym p j (first-joined p j y t)))
+      (joined-next p (joined-sym p j (first-joined p j y t)))
 
   pub joined-below : (y : ℕ) → At p j y → Joined p (suc j) x y → isIn (headOf (componentAt p j y)) (componentAt p (suc j) x) ≡ true
   unfolding firstAt
-  joined-below y t c = joined-in p (suc j) (conn-trans c (joined-mono p (omega arith) (first-joined p j y t)))
+  joined-below y t c = joined-in p (suc j) (conn-trans c (joined-next p (first-joined p j y t)))
 
   below-length : length (below p (suc j) (componentAt p (suc j) x)) ≡ tally within (components p j)
   unfolding within
@@ -78,14 +76,9 @@ module _ (p : Picture) (j x : ℕ) (s : At p (suc j) x) where
   pub branch-below : (b : Branch p j x) → getD (below p (suc j) (componentAt p (suc j) x)) 0 [] ≡ componentAt p j (b .low)
   unfolding isBranch within
   branch-below b =
-      only-member (below p (suc j) (componentAt p (suc j) x))
+      only-member [] (below p (suc j) (componentAt p (suc j) x))
       (eqb-true (length (below p (suc j) (componentAt p (suc j) x))) 1 (branch-complete b))
       (mem-select within (components p j) (mem-components p j (b .low) (b .place)) (joined-below (b .low) (b .place) (b .inside)))
-    where
-      only-member : {c : List ℕ} (l : List (List ℕ)) → length l ≡ 1 → List·Memᴰ c l → getD l 0 [] ≡ c
-      only-member [] e m = absurd (List·Memᴰ·not-nil m)
-      only-member (d ∷ []) e m = sym (List·Memᴰ·eq-of-singleton m)
-      only-member (d ∷ (g ∷ gs)) e m = absurd (omega arith)
 
 -- at height 0 there is no branch
 pub branch-zero : (p : Picture) (c : List ℕ) → isBranch p 0 c ≡ false
@@ -142,7 +135,7 @@ module _ (f : Picture) (xs : List ℕ) (keeps : (k : ℕ) → Keeps (places f) (
         only =
             λ y t c.
             let (z, sz, cz) = keeps j .reaches y t in
-            let back = keeps (suc j) .separates x z s (sec-mono (omega arith) z sz) (conn-trans c (joined-mono a (omega arith) cz)) in
+            let back = keeps (suc j) .separates x z s (at-next f sz) (conn-trans c (joined-next a cz)) in
             conn-trans (joined-kept (b .only z sz back)) (joined-sym a j cz);
       }
 
@@ -152,7 +145,7 @@ module _ (f : Picture) (xs : List ℕ) (keeps : (k : ℕ) → Keeps (places f) (
       record {
         low = z;
         place = sz;
-        inside = keeps (suc j) .separates x z s (sec-mono (omega arith) z sz) (conn-trans (b .inside) (joined-mono a (omega arith) cz));
+        inside = keeps (suc j) .separates x z s (at-next f sz) (conn-trans (b .inside) (joined-next a cz));
         only =
             λ y t c.
             keeps j .separates z y sz t

@@ -1,24 +1,23 @@
 -- The climb from two nodes to their nearest common ancestor, whose height decides at which heights two places are joined.
 use mathlib.Core.Path.{_≡_, sym, ap, subst, _∙_}
 use mathlib.Core.Logic.{⊎-elim, by-cases, _↔_}
-use Prim.Native.Nat.{ℕ, zero, suc, _+_, _-_, _≤_, _<_, max}
+use Prim.Native.Nat.{ℕ, zero, suc, _+_, _-_, _≤_, _<_}
 use native.Mathlib.Decide.{decLe, decLt}
 use native.Mathlib.Omega.{arith}
 use lib.ListN.{length}
 use Rattle.picture.specs.Pictures.{Picture, places, valueAt}
-use Rattle.picture.specs.Components.{componentAt, pass}
+use Rattle.picture.specs.Components.{componentAt}
 use Rattle.picture.specs.Trees.{Node, isBranch, nodes, nodeAt, numberOf, fatherOf, mapOf}
 use Rattle.lists.proofs.Tests.{clash}
-use Rattle.topology.proofs.Connected.{conn-source, conn-target, conn-trans}
+use Rattle.topology.proofs.Connected.{conn-source, conn-trans}
 use Rattle.topology.proofs.Keeping.{sec-mono}
-use Rattle.topology.proofs.Adjacency.{At, Joined, joined-sym}
+use Rattle.topology.proofs.Adjacency.{At, Joined, joined-sym, joined-mono, at-next, at-own}
 use Rattle.topology.proofs.Reached.{component-same}
-use Rattle.topology.proofs.Accepted.{Accepted, byte-at}
-use Rattle.topology.proofs.Branches.{joined-mono}
+use Rattle.topology.proofs.Accepted.{Accepted, value-byte}
 use Rattle.topology.proofs.Nodes.{node, node-is, node-equal, number-found, heights-rise}
-use Rattle.topology.proofs.Fathers.{NodeFrom, top, fork, father-is, father-found, number-small, map-found}
-use Rattle.topology.proofs.Descent.{under, map-under, under-same, under-fork, Under, under-is, under-down, under-up}
-use Rattle.topology.proofs.Grid.{grid-joined, pass-most, pass-byte, pass-joined}
+use Rattle.topology.proofs.Fathers.{NodeFrom, top, fork, father-is, father-found, number-small}
+use Rattle.topology.proofs.Descent.{under, map-under, map-found, under-same, under-fork, Under, under-is, under-down, under-up}
+use Rattle.topology.proofs.Grid.{picture-joined}
 
 -- c is a or an ancestor of a, by the fathers P of m nodes
 pub data Up (P : ℕ → ℕ) (m c : ℕ) : ℕ → Type 0 where
@@ -92,7 +91,7 @@ module _ (p : Picture) (ok : Accepted p) where
   under-root : (i l k : ℕ) → l + k ≡ 255 → father p i ≡ 65535 → (x : ℕ) → At p k x → under p k x ≡ i → under p 255 x ≡ i
   under-root i zero k e f x s h = ap (λ (j : ℕ). under p j x) (omega arith) ∙ h
   under-root i (suc l) k e f x s h =
-      let s′ = sec-mono (let g : k ≤ suc k = omega arith in g) x s in
+      let s′ = at-next p s in
       ⊎-elim
       (λ q. under-root i l (suc k) (omega arith) f x s′ (q ∙ h))
       (λ q.
@@ -109,9 +108,8 @@ module _ (p : Picture) (ok : Accepted p) where
       let k = nodeAt p i .height in
       let y = nodeAt p i .first in
       let l = n .low in
-      let all-in : (z : ℕ) → z < places p → valueAt p z ≤ 255 = λ z c. byte-at (p .pixels) (ok .bytes) z in
       sym
-      (under-same p (grid-joined p (ok .some) 255 all-in y (n .place .within)) ∙
+      (under-same p (picture-joined p ok y (n .place .within)) ∙
       under-root i (255 - k) k (omega arith) e y (n .place) (under-node i b))
 
   -- every node but the last has a father among the nodes, and the last is the one root
@@ -140,7 +138,7 @@ module _ (p : Picture) (ok : Accepted p) where
   under-climbs zero k x b s =
       subst (λ (j : ℕ). Up (father p) (length (nodes p)) (under p j x) (under p k x)) (omega arith) stay
   under-climbs (suc l) k x b s =
-      let s′ = sec-mono (let g : k ≤ suc k = omega arith in g) x s in
+      let s′ = at-next p s in
       let up : l + suc k ≡ suc l + k = omega arith in
       let r =
       subst (λ (j : ℕ). Up (father p) (length (nodes p)) (under p j x) (under p (suc k) x)) up
@@ -195,8 +193,8 @@ module _ (p : Picture) (ok : Accepted p) where
     own z b =
         record {
           height = valueAt p z;
-          low = byte-at (p .pixels) (ok .bytes) z;
-          place = record { within = b; low = omega arith };
+          low = value-byte p ok z;
+          place = at-own p z b;
           is = sym (map-under p z);
         }
 
@@ -245,7 +243,7 @@ module _ (p : Picture) (ok : Accepted p) where
             let up : (k - valueAt p z) + valueAt p z ≡ k = omega arith in
             subst (λ (j : ℕ). Up (father p) (length (nodes p)) (under p j z) (mapOf p z)) up
             (subst (Up (father p) (length (nodes p)) (under p ((k - valueAt p z) + valueAt p z) z)) (sym (map-under p z))
-            (under-climbs (k - valueAt p z) (valueAt p z) z (omega arith) (record { within = w .within; low = omega arith })))
+            (under-climbs (k - valueAt p z) (valueAt p z) z (omega arith) (at-own p z (w .within))))
 
         forward : Joined p k x y → nodeAt p r .height ≤ k
         forward c =
@@ -264,21 +262,3 @@ module _ (p : Picture) (ok : Accepted p) where
             conn-trans
             (reach-joined x r (up-reach x (own x bx) u) k b l s)
             (joined-sym p k (reach-joined y r (up-reach y (own y by) v) k b l t))
-
-    -- the pass is the largest of both values and the height of the nearest common ancestor
-    pub pass-meet : {r : ℕ} → Meet (father p) (mapOf p x) (mapOf p y) r → pass p x y ≡ max (max (valueAt p x) (valueAt p y)) (nodeAt p r .height)
-    pass-meet {r} n =
-        let c = pass-joined p ok x y bx by in
-        let a = conn-source c in
-        let b = conn-target c in
-        let la = a .low in
-        let lb = b .low in
-        let pb = pass-byte p ok x y bx by in
-        let up = meet-joined n (pass p x y) pb a b .0 c in
-        let h : ℕ = max (max (valueAt p x) (valueAt p y)) (nodeAt p r .height) in
-        let hb : h ≤ 255 = omega arith in
-        let d =
-        meet-joined n h hb (record { within = bx; low = omega arith }) (record { within = by; low = omega arith }) .1 (omega arith)
-        in
-        let low = pass-most p x y h hb d in
-        omega arith

@@ -1,69 +1,26 @@
 -- Demand 3: the watershed keeps every connected part, the tree with its fathers and every pass between minima,
 -- and no other picture nowhere above it does.
-use mathlib.Core.Path.{_≡_, refl, sym, ap, ap₂, subst, _∙_}
-use mathlib.Core.Bool.{Bool, true, false, _&&_}
+use mathlib.Core.Path.{_≡_, refl, sym, ap, subst, _∙_}
+use mathlib.Core.Bool.{true, false}
 use mathlib.Core.List.{List}
-use Prim.Native.Nat.{ℕ, zero, suc, _-_, _≤_, _<_}
+use Prim.Native.Nat.{ℕ, _-_, _≤_, _<_}
 use native.Mathlib.Omega.{arith}
 use lib.ListN.{length, getD, set, length-set}
 use lib.Seq.{ext-getD, getD-set-same}
-use Rattle.lists.specs.Lists.{range, isIn}
+use Rattle.lists.specs.Lists.{range}
 use Rattle.picture.specs.Pictures.{Picture, places, valueAt, withPixels, allBytes}
-use Rattle.picture.specs.Components.{inSection, componentAt, passFrom, pass}
 use Rattle.picture.specs.Watersheds.{lowerable, watershed}
-use Rattle.picture.specs.Patches.{patchAt}
 use Rattle.picture.specs.Kept.{nowhereAbove, keepsAt, keepsParts, Kept, Demand-3}
-use Rattle.lists.proofs.Tests.{and-left, and-right, and-both, same-test, test-false}
+use Rattle.lists.proofs.Tests.{test-false}
 use Rattle.lists.proofs.Lists.{all-fails, range-mem}
-use Rattle.topology.proofs.Connected.{conn-target}
-use Rattle.topology.proofs.Keeping.{Keeps, keeps-compose}
+use Rattle.topology.proofs.Keeping.{keeps-compose}
 use Rattle.topology.proofs.Least.{least-sections}
-use Rattle.topology.proofs.Adjacency.{Adj, At, adj-sym, section-at, at-section}
-use Rattle.topology.proofs.Reached.{in-joined, joined-in}
+use Rattle.topology.proofs.Adjacency.{Adj, adj-sym}
 use Rattle.topology.proofs.Bridge.{lowerable-above, lowerable-lowers, lowers-lowerable, keeps-parts, parts-keeps}
-use Rattle.topology.proofs.Accepted.{Accepted, accepted-is, is-accepted, accepted-with, byte-at, at-byte, above-at, at-above}
+use Rattle.topology.proofs.Accepted.{Accepted, accepted-is, is-accepted, accepted-with, byte-at, value-byte, at-byte, above-at, at-above}
 use Rattle.topology.proofs.Water.{Watered, lower-under, lower-keeps, watershed-shape, watershed-watered}
-use Rattle.topology.proofs.Branches.{joined-kept}
-use Rattle.topology.proofs.Minima.{patch-minimum, minimum-kept}
+use Rattle.topology.proofs.Passes.{passes-kept}
 use Rattle.topology.proofs.Partners.{partner-found, partner-of, fathers-partners, roots-partners, roots-joined}
-
--- passes in two pictures whose components hold both places at the same heights
-pass-same :
-    (f a : Picture) (x y : ℕ) →
-    ((k : ℕ) → (inSection f k x && isIn y (componentAt f k x)) ≡ (inSection a k x && isIn y (componentAt a k x))) →
-    (l k : ℕ) → passFrom l k f x y ≡ passFrom l k a x y
-pass-same f a x y h zero k = refl
-pass-same f a x y h (suc l) k =
-    ap₂ (λ (t : Bool) (r : ℕ). elim t [ true ↦ k | false ↦ r ]) (h k) (pass-same f a x y h l (suc k))
-
--- the pass between two pixels of minima is kept with the parts
-passes-kept :
-    (f : Picture) (xs : List ℕ) → ((k : ℕ) → Keeps (places f) (Adj f) (valueAt f) (valueAt (withPixels f xs)) k) →
-    (x y : ℕ) → x < places f → y < places f → 1 ≤ patchAt f x → 1 ≤ patchAt f y → pass f x y ≡ pass (withPixels f xs) x y
-unfolding pass
-passes-kept f xs keeps x y bx by px py = pass-same f a x y test 256 0
-  where
-    a : Picture
-    a = withPixels f xs
-
-    kept : (z : ℕ) → 1 ≤ patchAt f z → valueAt a z ≡ valueAt f z
-    kept z h = let (k, m) = patch-minimum f z h in minimum-kept f xs keeps k z m
-
-    test : (k : ℕ) → (inSection f k x && isIn y (componentAt f k x)) ≡ (inSection a k x && isIn y (componentAt a k x))
-    test k =
-        same-test (inSection f k x && isIn y (componentAt f k x)) (inSection a k x && isIn y (componentAt a k x))
-        (λ h.
-        let s = section-at f k x bx (and-left (inSection f k x) (isIn y (componentAt f k x)) h) in
-        let c = in-joined f k x y s (and-right (inSection f k x) (isIn y (componentAt f k x)) h) in
-        and-both (at-section a k x (keeps k .subset x s))
-        (joined-in a k (joined-kept f xs keeps c)))
-        (λ h.
-        let s = section-at a k x bx (and-left (inSection a k x) (isIn y (componentAt a k x)) h) in
-        let c = in-joined a k x y s (and-right (inSection a k x) (isIn y (componentAt a k x)) h) in
-        let sx : At f k x = record { within = bx; low = let e = kept x px in let l = s .low in omega arith } in
-        let sy : At f k y = record { within = by; low = let e = kept y py in let l = conn-target c .low in omega arith } in
-        and-both (at-section f k x sx)
-        (joined-in f k (keeps k .separates x y sx sy c)))
 
 -- what demand 3 says, of a picture in the same frame that lowering can make and in which it ends
 watered-kept : (f : Picture) (ys : List ℕ) → Accepted f → Watered f (f .pixels) ys → Kept f (withPixels f ys)
@@ -86,7 +43,7 @@ watered-kept f ys ok w =
     a = withPixels f ys
 
     byte : (i : ℕ) → getD ys i 0 ≤ 255
-    byte i = let b = byte-at (f .pixels) (ok .bytes) i in let u = w .under i in omega arith
+    byte i = let b = value-byte f ok i in let u = w .under i in omega arith
 
     size : length ys ≡ places f
     size = w .size ∙ ok .size
@@ -116,6 +73,7 @@ watered-kept f ys ok w =
         let below = s .low in
         omega arith)
 
+-- demand 3 holds: the watershed of an accepted picture has every property that `Kept` names
 pub demand-3 : Demand-3
 demand-3 f h =
     let ok = accepted-is f h in

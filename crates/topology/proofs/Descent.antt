@@ -1,4 +1,4 @@
--- The node that a component goes down to, as its height rises: the same through branches, its father at a fork.
+-- The node that a component goes down to, as its height rises: the same through branches, its father at a fork. The map.
 use mathlib.Core.Path.{_≡_, refl, sym, ap, subst, _∙_}
 use mathlib.Core.Bool.{true, false}
 use mathlib.Core.Logic.{_⊎_, inl, inr, by-cases}
@@ -6,15 +6,16 @@ use Prim.Native.Nat.{ℕ, zero, suc, _≤_, _<_}
 use native.Mathlib.Decide.{ℕ-discrete, decLe}
 use native.Mathlib.Omega.{arith}
 use lib.ListN.{length}
-use Rattle.picture.specs.Pictures.{Picture, valueAt}
+use Rattle.picture.specs.Pictures.{Picture, places, valueAt}
 use Rattle.picture.specs.Components.{componentAt}
 use Rattle.picture.specs.Trees.{Node, isBranch, nodes, nodeAt, numberOf, fatherOf, downFrom, mapOf}
 use Rattle.lists.proofs.Tests.{on-test, on-elim, clash}
 use Rattle.topology.proofs.Connected.{start, conn-trans}
 use Rattle.topology.proofs.Keeping.{sec-mono}
-use Rattle.topology.proofs.Adjacency.{At, Joined, joined-sym}
+use Rattle.topology.proofs.Adjacency.{At, Joined, joined-sym, joined-next, at-next, at-own}
 use Rattle.topology.proofs.Reached.{component-same, first-joined}
-use Rattle.topology.proofs.Branches.{Branch, joined-mono, branch-zero, branch-sound, branch-complete, branch-below}
+use Rattle.topology.proofs.Accepted.{Accepted, places-some, value-byte}
+use Rattle.topology.proofs.Branches.{Branch, branch-zero, branch-sound, branch-complete, branch-below}
 use Rattle.topology.proofs.Nodes.{number-found}
 use Rattle.topology.proofs.Fathers.{NodeFrom, top, fork, father-is}
 
@@ -74,7 +75,7 @@ module _ (p : Picture) where
       (λ e.
       let i = branch-sound p k x s e in
       let u = under-is k (i .low) (omega arith) (i .place) in
-      let c = conn-trans (i .inside) (joined-mono p (omega arith) (u .joined)) in
+      let c = conn-trans (i .inside) (joined-next p (u .joined)) in
       let l = u .low in
       subst (Under (suc k) x) (sym (under-branch k x s i))
       (record {
@@ -90,6 +91,16 @@ module _ (p : Picture) where
             (λ q. u .between j a (omega arith));
       }))
       (λ e. subst (Under (suc k) x) (sym (under-fork (suc k) x e)) (fork-under (suc k) x b s e))
+
+  -- the map of a pixel is the node that its component goes down to: only branches lie between
+  pub map-is : Accepted p → (x : ℕ) → x < places p → Under (valueAt p x) x (mapOf p x)
+  map-is ok x b = subst (Under (valueAt p x) x) (sym (map-under x)) (under-is (valueAt p x) x (value-byte p ok x) (at-own p x b))
+
+  pub map-found : Accepted p → (x : ℕ) → x < places p → mapOf p x < length (nodes p)
+  map-found ok x b = map-is ok x b .number
+
+  pub nodes-some : Accepted p → 1 ≤ length (nodes p)
+  nodes-some ok = let m = map-found ok 0 (places-some p ok) in omega arith
 
   -- the same node, the same component
   pub under-joined : (k x y : ℕ) → k ≤ 255 → At p k x → At p k y → under p k x ≡ under p k y → Joined p k x y
@@ -115,22 +126,16 @@ module _ (p : Picture) where
       let same = under-branch k x s i ∙ under-same (i .only x sk (start s)) in
       under-down k j x (omega arith) sk (subst (λ (m : ℕ). nodeAt p m .height ≤ j) same h) (omega arith) t ∙ sym same)
 
-  -- one height up: the same node or its father
-  pub under-up :
-      (k x : ℕ) → suc k ≤ 255 → At p k x →
-      (under p (suc k) x ≡ under p k x) ⊎ (fatherOf p (nodeAt p (under p k x)) ≡ under p (suc k) x)
-  under-up k x b s =
+  -- one height up, in a component that is no branch: its father
+  pub under-father :
+      (k x : ℕ) → suc k ≤ 255 → At p k x → isBranch p (suc k) (componentAt p (suc k) x) ≡ false →
+      fatherOf p (nodeAt p (under p k x)) ≡ under p (suc k) x
+  under-father k x b s e =
       let u = under-is k x (omega arith) s in
-      let s′ = sec-mono (let g : k ≤ suc k = omega arith in g) x s in
-      let y = nodeAt p (under p k x) .first in
-      let c = joined-mono p (let g : k ≤ suc k = omega arith in g) (u .joined) in
-      on-test (isBranch p (suc k) (componentAt p (suc k) x))
-      (λ e. let i = branch-sound p k x s′ e in inl (under-branch k x s′ i ∙ under-same (i .only x s (start s′))))
-      (λ e.
-      inr
-      (up (u .low) (u .between) (ap (isBranch p (suc k)) (sym (component-same p (suc k) c)) ∙ e)
+      let same = component-same p (suc k) (joined-next p (u .joined)) in
+      up (u .low) (u .between) (ap (isBranch p (suc k)) (sym same) ∙ e)
       (father-is p (nodeAt p (under p k x)) (let l = u .low in omega arith)) ∙
-      (ap (numberOf p (suc k)) (sym (component-same p (suc k) c)) ∙ sym (under-fork (suc k) x e))))
+      (ap (numberOf p (suc k)) (sym same) ∙ sym (under-fork (suc k) x e))
     where
       up :
           {y h r : ℕ} → h ≤ k → ((j : ℕ) → h < j → j ≤ k → isBranch p j (componentAt p j y) ≡ true) →
@@ -143,3 +148,13 @@ module _ (p : Picture) where
           by-cases (decLe i k)
           (λ v. absurd (clash (f i c v) n))
           (λ v. absurd (clash (g (suc k) (omega arith) (omega arith)) e)))
+
+  -- in any component: the same node or its father
+  pub under-up :
+      (k x : ℕ) → suc k ≤ 255 → At p k x →
+      (under p (suc k) x ≡ under p k x) ⊎ (fatherOf p (nodeAt p (under p k x)) ≡ under p (suc k) x)
+  under-up k x b s =
+      let s′ = at-next p s in
+      on-test (isBranch p (suc k) (componentAt p (suc k) x))
+      (λ e. let i = branch-sound p k x s′ e in inl (under-branch k x s′ i ∙ under-same (i .only x s (start s′))))
+      (λ e. inr (under-father k x b s e))

@@ -1,20 +1,17 @@
--- Fathers and the map: which node they are, and that only a root's father is missing.
-use mathlib.Core.Path.{_≡_, refl, sym, subst}
+-- Fathers: which node they are, and that only a root's father is missing.
+use mathlib.Core.Path.{_≡_, refl}
 use mathlib.Core.Bool.{true, false}
-use mathlib.Core.Logic.{_⊎_, inl, inr, by-cases}
-use mathlib.Core.List.{List}
+use mathlib.Core.Logic.{_⊎_, inl, inr}
 use Prim.Native.Nat.{ℕ, zero, suc, _+_, _-_, _≤_, _<_}
-use native.Mathlib.Decide.{ℕ-discrete}
 use native.Mathlib.Omega.{arith}
 use lib.ListN.{length}
-use Rattle.picture.specs.Pictures.{Picture, places, valueAt}
+use Rattle.picture.specs.Pictures.{Picture}
 use Rattle.picture.specs.Components.{componentAt}
-use Rattle.picture.specs.Trees.{Node, isBranch, nodes, numberOf, aboveFrom, fatherOf, downFrom, mapOf}
+use Rattle.picture.specs.Trees.{Node, isBranch, nodes, numberOf, aboveFrom, fatherOf}
 use Rattle.lists.proofs.Tests.{on-elim}
+use Rattle.lists.proofs.Indices.{from-next}
 use Rattle.topology.proofs.Keeping.{sec-mono}
-use Rattle.topology.proofs.Adjacency.{At}
-use Rattle.topology.proofs.Accepted.{Accepted, byte-at, places-bound}
-use Rattle.topology.proofs.Branches.{branch-zero, branch-sound, branch-below}
+use Rattle.topology.proofs.Accepted.{Accepted, places-bound}
 use Rattle.topology.proofs.Nodes.{IsNode, number-found, nodes-few}
 
 -- r is the number of the least node from height k on that contains x, or 65535 where each component is a branch
@@ -24,10 +21,6 @@ pub data NodeFrom (p : Picture) (x k r : ℕ) : Type 0 where
       (h : ℕ) → k ≤ h → h ≤ 255 → isBranch p h (componentAt p h x) ≡ false →
       ((j : ℕ) → k ≤ j → j < h → isBranch p j (componentAt p j x) ≡ true) →
       r ≡ numberOf p h (componentAt p h x) → NodeFrom p x k r
-
-from-next : (P : ℕ → Type 0) (k h : ℕ) → k ≤ h → P k → (suc k ≤ h → P h) → P h
-from-next P k h a e f =
-    by-cases (ℕ-discrete k h) (λ i. subst P i e) (λ d. f (omega arith))
 
 module _ (p : Picture) (x : ℕ) where
   -- one branch more below
@@ -65,21 +58,9 @@ module _ (p : Picture) where
       found (fork h a b e f q) =
           let g = number-found p h (n .first) b (sec-mono (omega arith) (n .first) (i .place)) e .0 in inl (omega arith)
 
-  down-found : (k x : ℕ) → k ≤ 255 → At p k x → downFrom k p (componentAt p k x) < length (nodes p)
-  down-found zero x b s = number-found p 0 x b s (branch-zero p (componentAt p 0 x)) .0
-  down-found (suc k) x b s =
-      on-elim (λ (m : ℕ). m < length (nodes p)) (isBranch p (suc k) (componentAt p (suc k) x))
-      (λ e.
-      let i = branch-sound p k x s e in
-      subst (λ (c : List ℕ). downFrom k p c < length (nodes p)) (sym (branch-below p k x s i))
-      (down-found k (i .low) (omega arith) (i .place)))
-      (λ e. number-found p (suc k) x b s e .0)
-
-  -- every place is mapped to a node
-  pub map-found : Accepted p → (x : ℕ) → x < places p → mapOf p x < length (nodes p)
-  unfolding mapOf
-  map-found a x b = down-found (valueAt p x) x (byte-at (p .pixels) (a .bytes) x) (record { within = b; low = omega arith })
+  pub nodes-most : Accepted p → length (nodes p) ≤ 1600
+  nodes-most a = let c = nodes-few p in let d = places-bound p a in omega arith
 
   -- 65535 is no node's number
   pub number-small : Accepted p → (i : ℕ) → i < length (nodes p) → i < 65535
-  number-small a i b = let c = nodes-few p in let d = places-bound p a in omega arith
+  number-small a i b = let c = nodes-most a in omega arith

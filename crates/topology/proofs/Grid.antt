@@ -1,23 +1,18 @@
--- The whole grid is one component, so a pass is a height that a picture can have.
+-- The whole grid is one component.
 use mathlib.Core.Path.{_≡_, sym, ap, subst, _∙_}
-use mathlib.Core.Bool.{Bool, true, _&&_}
-use mathlib.Core.Logic.{by-cases}
+use mathlib.Core.Bool.{Bool, true}
 use Prim.Native.Nat.{ℕ, zero, suc, _+_, _*_, _/_, _%_, _≤_, _<_}
 use native.Mathlib.Nat.{div-add-mod', mod-lt}
-use native.Mathlib.Decide.{ℕ-discrete}
 use native.Mathlib.Omega.{arith}
 use lib.Arith.{digits-div, digits-mod}
 use lib.Dec.{eqb}
 use borrow.Author.Tests.{eq-eqb, le-leb}
-use Rattle.lists.specs.Lists.{isIn}
 use Rattle.picture.specs.Pictures.{Picture, places, valueAt, distance, adjacent}
-use Rattle.picture.specs.Components.{inSection, componentAt, passFrom, pass}
 use Rattle.picture.proofs.Neighbours.{distance-is, distance-same}
-use Rattle.lists.proofs.Tests.{and-left, and-right, and-both, on-pick, on-elim, clash}
-use Rattle.topology.proofs.Connected.{start, step, conn-trans, conn-source}
-use Rattle.topology.proofs.Adjacency.{Adj, At, Joined, adj-sym, joined-sym, section-at, at-section}
-use Rattle.topology.proofs.Reached.{in-joined, joined-in}
-use Rattle.topology.proofs.Accepted.{Accepted, byte-at}
+use Rattle.lists.proofs.Tests.{and-both, on-pick}
+use Rattle.topology.proofs.Connected.{start, step}
+use Rattle.topology.proofs.Adjacency.{Adj, At, Joined, adj-sym}
+use Rattle.topology.proofs.Accepted.{Accepted, value-byte}
 
 distance-next : (a b : ℕ) → a ≡ suc b → distance a b ≡ 1
 distance-next a b h = distance-is a b ∙ omega arith
@@ -91,50 +86,6 @@ module _ (p : Picture) (wide : 1 ≤ p .width) where
         subst (λ (y : ℕ). Joined p k 0 y) e
         (row-joined (x / w) (x % w) b (omega arith) (rows-joined (x / w) (omega arith)))
 
--- the pass is at most a height at which both places are joined
-pass-below : (p : Picture) (x y h l k : ℕ) → (inSection p h x && isIn y (componentAt p h x)) ≡ true → k ≤ h → h < k + l → passFrom l k p x y ≤ h
-pass-below p x y h zero k t a b = absurd (omega arith)
-pass-below p x y h (suc l) k t a b =
-    on-elim (λ (m : ℕ). m ≤ h) (inSection p k x && isIn y (componentAt p k x))
-    (λ e. a)
-    (λ e.
-    pass-below p x y h l (suc k) t
-    (by-cases (ℕ-discrete k h)
-    (λ q. absurd (clash (subst (λ (m : ℕ). (inSection p m x && isIn y (componentAt p m x)) ≡ true) (sym q) t) e))
-    (λ d. omega arith))
-    (omega arith))
-
-pub pass-most : (p : Picture) (x y h : ℕ) → h ≤ 255 → Joined p h x y → pass p x y ≤ h
-unfolding pass
-pass-most p x y h b c =
-    pass-below p x y h 256 0
-    (and-both (at-section p h x (conn-source c)) (joined-in p h c))
-    (omega arith)
-    (omega arith)
-
--- the pass between two places of a picture is at most 255
-pub pass-byte : (p : Picture) → Accepted p → (x y : ℕ) → x < places p → y < places p → pass p x y ≤ 255
-pass-byte p a x y bx by =
-    let all-in : (z : ℕ) → z < places p → valueAt p z ≤ 255 = λ z b. byte-at (p .pixels) (a .bytes) z in
-    pass-most p x y 255 (omega arith)
-    (conn-trans
-    (joined-sym p 255 (grid-joined p (a .some) 255 all-in x bx))
-    (grid-joined p (a .some) 255 all-in y by))
-
--- at the pass both places are joined
-pass-from-joined : (p : Picture) (x y : ℕ) → x < places p → (l k : ℕ) → passFrom l k p x y < k + l → Joined p (passFrom l k p x y) x y
-pass-from-joined p x y b zero k h = absurd (omega arith)
-pass-from-joined p x y b (suc l) k h =
-    on-elim (λ (m : ℕ). m < k + suc l → Joined p m x y) (inSection p k x && isIn y (componentAt p k x))
-    (λ e g.
-    in-joined p k x y
-    (section-at p k x b (and-left (inSection p k x) (isIn y (componentAt p k x)) e))
-    (and-right (inSection p k x) (isIn y (componentAt p k x)) e))
-    (λ e g. pass-from-joined p x y b l (suc k) (omega arith))
-    h
-
-pub pass-joined : (p : Picture) → Accepted p → (x y : ℕ) → x < places p → y < places p → Joined p (pass p x y) x y
-unfolding pass
-pass-joined p a x y bx by =
-    let b = pass-byte p a x y bx by in
-    pass-from-joined p x y bx 256 0 (omega arith)
+-- all places are joined at 255
+pub picture-joined : (p : Picture) → Accepted p → (x : ℕ) → x < places p → Joined p 255 0 x
+picture-joined p a = grid-joined p (a .some) 255 (λ y b. value-byte p a y)

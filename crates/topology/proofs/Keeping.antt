@@ -1,5 +1,5 @@
 -- Sections of value functions, what it is to keep their connected parts, and what lowering one vertex keeps.
-use mathlib.Core.Path.{_≡_, refl, sym, subst}
+use mathlib.Core.Path.{_≡_, refl, sym, ap, subst}
 use mathlib.Core.Logic.{_⊎_, inl, inr, _↔_, _≢_, by-cases}
 use Prim.Native.Nat.{ℕ, suc, _≤_, _<_}
 use native.Mathlib.Decide.{ℕ-discrete, decLe}
@@ -38,6 +38,25 @@ put-fallen v x s = record { at = put-same v x s x refl; other = put-other v x s 
 pub sec-mono : {n : ℕ} {v : ℕ → ℕ} {j k : ℕ} → j ≤ k → (y : ℕ) → Sec n v j y → Sec n v k y
 sec-mono h y s = record { within = s .within; low = omega (arith, s .low) }
 
+-- sections of values that differ at x alone agree at a height where x is in both or in neither
+pub same-sections :
+    {n : ℕ} {v w : ℕ → ℕ} {x s : ℕ} → Fallen v w x s → (j : ℕ) →
+    (v x ≤ j → s ≤ j) → (s ≤ j → v x ≤ j) → (y : ℕ) → Sec n v j y ↔ Sec n w j y
+same-sections {v = v} {w} {x} e j f g y =
+    by-cases (ℕ-discrete y x)
+    (λ q.
+    let a = e .at in
+    let b = ap v q in
+    let c = ap w q in (
+      λ t. let l = t .low in record { within = t .within; low = let h = f (omega arith) in omega arith },
+      λ t. let l = t .low in record { within = t .within; low = let h = g (omega arith) in omega arith },
+    ))
+    (λ q.
+    let a = e .other y q in (
+      λ t. record { within = t .within; low = omega (arith, t .low) },
+      λ t. record { within = t .within; low = omega (arith, t .low) },
+    ))
+
 pub sec-dec : (n : ℕ) (v : ℕ → ℕ) (k y : ℕ) → y < n → (Sec n v k y) ⊎ (Sec n v k y → ⊥)
 sec-dec n v k y h = by-cases (decLe (v y) k) (λ l. inl (record { within = h; low = l })) (λ l. inr (λ s. l (s .low)))
 
@@ -69,6 +88,7 @@ module _ (n : ℕ) (R : ℕ → ℕ → Type 0) where
   module _ (symmetric : (y z : ℕ) → R y z → R z y) where
     -- one more vertex x whose old neighbours are joined: a path through it between old vertices can be led round it
     module _ (v w : ℕ → ℕ) (x k : ℕ) (l : Lowers n R v x k) (e : Fallen v w x k) where
+      -- z is joined to y by old vertices, or it is x and a neighbour of it is
       data Old (y : ℕ) : ℕ → Type 0 where
         away : {z : ℕ} → Conn R (Sec n v k) y z → Old y z
         upon : {z u : ℕ} → z ≡ x → Conn R (Sec n v k) y u → R u x → Old y z
@@ -121,24 +141,9 @@ module _ (n : ℕ) (R : ℕ → ℕ → Type 0) where
             separates = λ y z sy sz c. led-round y z (old-path y z sy c) sz;
           }
 
-      other-height : (j : ℕ) → j ≢ k → (y : ℕ) → Sec n v j y ↔ Sec n w j y
-      other-height j h y =
-          by-cases (ℕ-discrete y x)
-          (λ g.
-          let p : v y ≡ suc k = subst (λ (m : ℕ). v m ≡ suc k) (sym g) (l .value) in
-          let q : w y ≡ k = subst (λ (m : ℕ). w m ≡ k) (sym g) (e .at) in (
-            λ s. record { within = s .within; low = omega (arith, s .low) },
-            λ s. record { within = s .within; low = omega (arith, s .low) },
-          ))
-          (λ g.
-          let q = e .other y g in (
-            λ s. record { within = s .within; low = omega (arith, s .low) },
-            λ s. record { within = s .within; low = omega (arith, s .low) },
-          ))
-
       -- lowering such a vertex by one keeps the parts of every height
       pub lowering-keeps : (j : ℕ) → Keeps n R v w j
       lowering-keeps j =
           by-cases (ℕ-discrete j k)
           (λ h. subst (λ (m : ℕ). Keeps n R v w m) (sym h) lowering-at)
-          (λ h. keeps-same (other-height j h))
+          (λ h. let q = l .value in keeps-same (same-sections e j (λ a. omega arith) (λ a. omega arith)))

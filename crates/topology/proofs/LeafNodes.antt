@@ -1,25 +1,30 @@
 -- The leaves among the nodes: which node begins at a place, and the patch of a place by its node.
-use mathlib.Core.Path.{_≡_, sym, ap, subst, _∙_}
+use mathlib.Core.Path.{_≡_, refl, sym, ap, subst, _∙_}
 use mathlib.Core.Bool.{Bool, true, false}
-use mathlib.Core.Logic.{_≢_}
-use Prim.Native.Nat.{ℕ, suc, _-_, _<_}
+use mathlib.Core.Logic.{_≢_, by-cases}
+use Prim.Native.Nat.{ℕ, zero, suc, _-_, _≤_, _<_}
+use native.Mathlib.Decide.{decLe}
 use native.Mathlib.Omega.{arith}
 use lib.ListN.{length}
 use borrow.Author.Tests.{eq-eqb, ne-eqb}
-use Rattle.lists.specs.Lists.{pick, tally, range, highest}
+use Rattle.lists.specs.Lists.{pick, highest}
 use Rattle.picture.specs.Pictures.{Picture, places, valueAt}
-use Rattle.picture.specs.Trees.{Node, nodes, nodeAt, fatherOf, mapOf}
+use Rattle.picture.specs.Trees.{Node, nodes, nodeAt, fatherOf, mapOf, isLeaf}
 use Rattle.picture.specs.Patches.{depthOf, patchAt}
-use Rattle.lists.proofs.Tests.{on-test, test-false, clash}
-use Rattle.topology.proofs.Connected.{start}
-use Rattle.topology.proofs.Adjacency.{At}
+use Rattle.lists.proofs.Tests.{test-false, clash}
+use Rattle.topology.proofs.Connected.{conn-target}
+use Rattle.topology.proofs.Keeping.{sec-mono}
+use Rattle.lists.proofs.Indices.{index-mem}
+use Rattle.topology.proofs.Adjacency.{At, Joined, joined-sym, at-own}
 use Rattle.topology.proofs.Accepted.{Accepted}
 use Rattle.topology.proofs.Reached.{firstAt, first-joined}
-use Rattle.topology.proofs.Nodes.{node, node-is, node-equal}
-use Rattle.topology.proofs.Fathers.{map-found}
+use Rattle.topology.proofs.Nodes.{node, IsNode, node-is, node-equal, number-found}
+use Rattle.topology.proofs.Fathers.{NodeFrom, top, fork, father-is, number-small}
+use Rattle.topology.proofs.Descent.{under, under-is, map-is, map-found}
 use Rattle.topology.proofs.Climb.{father}
-use Rattle.topology.proofs.Leaves.{leafAt, bottom, leaf, leaf-sound, leaf-same, bottom-is, is-bottom}
-use Rattle.topology.proofs.PatchNumbers.{patch-in, patch-out, father-no-leaf, no-leaf-father}
+use Rattle.topology.proofs.Tree.{son-of}
+use Rattle.topology.proofs.Leaves.{leafAt, bottom, leaf, leaf-sound, leaf-complete, leaf-same, bottom-is, leaf-node}
+use Rattle.topology.proofs.PatchNumbers.{patch-same, patch-out}
 use Rattle.topology.proofs.PatchFigures.{map-leaf, leaf-map}
 
 -- the node of a number is a leaf
@@ -29,16 +34,8 @@ leafNode p m = leafAt p (nodeAt p m .height) (nodeAt p m .first)
 module _ (p : Picture) (ok : Accepted p) where
   -- a leaf begins at a minimum's first place, and that place is mapped to it
   pub leaf-bottom : (m : ℕ) → m < length (nodes p) → leafNode p m ≡ true → (nodeAt p m ≡ leaf p (nodeAt p m .first)) × (bottom p (nodeAt p m .first) ≡ true)
-  unfolding leafNode
-  leaf-bottom m b l =
-      let i = node-is p m b in
-      let k = nodeAt p m .height in
-      let y = nodeAt p m .first in
-      let v = leaf-sound p k y (i .place) l y (start (i .place)) in (
-        ap (λ (j : ℕ). node j y) (sym v),
-        subst (λ (j : ℕ). At p j y → firstAt p j y ≡ y → leafAt p j y ≡ true → bottom p y ≡ true) v (is-bottom p y)
-            (i .place) (i .first) l,
-      )
+  unfolding leafNode leafAt isLeaf
+  leaf-bottom m b l = leaf-node p (index-mem (node 0 0) (nodes p) m b) l
 
   -- the place where a minimum begins is mapped to its leaf
   pub bottom-map : (x : ℕ) → x < places p → bottom p x ≡ true → nodeAt p (mapOf p x) ≡ leaf p x
@@ -68,16 +65,8 @@ module _ (p : Picture) (ok : Accepted p) where
       patchAt p x ≡ patchAt p (nodeAt p (mapOf p x) .first)
   unfolding leafNode
   patch-leaf x b e l =
-      let m = mapOf p x in
-      let bm = map-found p ok x b in
-      let y = nodeAt p m .first in
-      let yb = node-is p m bm .place .within in
-      let lx = leaf-map p ok x b e (subst (λ (j : ℕ). leafAt p j y ≡ true) e l) in
-      let (a, h) = leaf-bottom m bm l in
-      let (s, fy, ly) = bottom-is p y yb h in
-      let f = ap (λ (n : Node). n .first) (map-leaf p ok x b lx) in
-      patch-in p ok x b lx ∙
-      (ap (λ (z : ℕ). tally (bottom p) (range 0 (suc z))) (sym f ∙ sym fy) ∙ sym (patch-in p ok y yb ly))
+      patch-same p ok (valueAt p x) (map-is p ok x b .joined)
+      (leaf-map p ok x b e (subst (λ (k : ℕ). leafAt p k (nodeAt p (mapOf p x) .first) ≡ true) e l))
 
   pub patch-line :
       (x : ℕ) → x < places p → (nodeAt p (mapOf p x) .height ≡ valueAt p x → leafNode p (mapOf p x) ≡ false) → patchAt p x ≡ 0
@@ -88,7 +77,7 @@ module _ (p : Picture) (ok : Accepted p) where
       (λ l.
       let e = map-leaf p ok x b l in
       let v = ap (λ (n : Node). n .height) e in
-      let s : At p (valueAt p x) x = record { within = b; low = omega arith } in
+      let s = at-own p x b in
       clash
       (subst (λ (n : Node). leafAt p (n .height) (n .first) ≡ true) (sym e)
       (sym (leaf-first x s) ∙ l))
@@ -100,12 +89,39 @@ module _ (p : Picture) (ok : Accepted p) where
   -- a node is a leaf exactly if it is the father of no node
   pub father-leaf : (i j : ℕ) → i < length (nodes p) → j < length (nodes p) → father p j ≡ i → leafNode p i ≡ false
   unfolding leafNode
-  father-leaf i j bi bj e = father-no-leaf p ok i j bi bj e
+  father-leaf i j bi bj e = low (father-is p (nodeAt p j) (nj .low)) e
+    where
+      nj : IsNode p (nodeAt p j)
+      nj = node-is p j bj
+
+      low : {r : ℕ} → NodeFrom p (nodeAt p j .first) (suc (nodeAt p j .height)) r → r ≡ i → leafAt p (nodeAt p i .height) (nodeAt p i .first) ≡ false
+      low {r} (top q f) g = absurd (let w = number-small p ok i bi in omega arith)
+      low {r} (fork h a b n f q) g =
+          let y = nodeAt p j .first in
+          let up : nodeAt p j .height ≤ h = omega arith in
+          let s = sec-mono up y (nj .place) in
+          let m = ap (nodeAt p) (sym g ∙ q) ∙ number-found p h y b s n .1 in
+          let l = nj .place .low in
+          subst (λ (k : Node). leafAt p (k .height) (k .first) ≡ false) (sym m)
+          (test-false (leafAt p h (firstAt p h y))
+          (λ w.
+          let c = first-joined p h y s in
+          let v = leaf-sound p h (firstAt p h y) (conn-target c) w y (joined-sym p h c) in
+          omega arith))
 
   pub childless-leaf : (i : ℕ) → i < length (nodes p) → ((j : ℕ) → j < length (nodes p) → father p j ≢ i) → leafNode p i ≡ true
   unfolding leafNode
-  childless-leaf i b f =
-      on-test (leafNode p i) (λ e. e) (λ e. let (j, c, g) = no-leaf-father p ok i b e in absurd (f j c g))
+  childless-leaf i b f = leaf-complete p (nodeAt p i .height) (nodeAt p i .first) (node-is p i b .place) (level (nodeAt p i .height) refl)
+    where
+      level : (k : ℕ) → nodeAt p i .height ≡ k → (z : ℕ) → Joined p k (nodeAt p i .first) z → valueAt p z ≡ k
+      level zero e z c = let w = conn-target c .low in omega arith
+      level (suc j) e z c =
+          by-cases (decLe (valueAt p z) j)
+          (λ h.
+          let s : At p j z = record { within = conn-target c .within; low = h } in
+          let low : j ≤ 255 = let w = node-is p i b .low in omega arith in
+          absurd (f (under p j z) (under-is p j z low s .number) (son-of p ok i j z b e s c)))
+          (λ h. let w = conn-target c .low in omega arith)
 
 -- the depth of a node, by its father
 module _ (p : Picture) (n : Node) where

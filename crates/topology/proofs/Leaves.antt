@@ -2,29 +2,30 @@
 use mathlib.Core.Path.{_≡_, refl, sym, ap, ap₂, subst, _∙_}
 use mathlib.Core.Bool.{Bool, true, false, _&&_}
 use mathlib.Core.Logic.{⊎-elim, _≢_}
-use mathlib.Core.List.{List, [], _∷_, map, List·Memᴰ, List·Memᴰ·head, List·Memᴰ·tail, List·Memᴰ·cases-cons, Memᴰ·map, Memᴰ·of-map}
-use Prim.Native.Nat.{ℕ, zero, suc, _≤_, _<_}
+use mathlib.Core.List.{List, [], _∷_, map, List·Memᴰ, List·Memᴰ·head, List·Memᴰ·tail, Memᴰ·map, Memᴰ·of-map}
+use Prim.Native.Nat.{ℕ, zero, suc, _<_}
 use native.Mathlib.Omega.{arith}
-use lib.Dec.{eqb, ltb}
+use lib.Dec.{eqb}
 use lib.ListN.{length}
-use borrow.Author.Tests.{eqb-true, eq-eqb, ltb-true, ltb-false}
+use borrow.Author.Tests.{eqb-true, eq-eqb}
 use Rattle.lists.specs.Lists.{select, range, isIn, headOf}
 use Rattle.picture.specs.Pictures.{Picture, places, valueAt}
 use Rattle.picture.specs.Components.{componentAt, components}
 use Rattle.picture.specs.Trees.{Node, below, isBranch, nodes, isLeaf}
-use Rattle.picture.specs.Patches.{insertByFirst, byFirst, patchNodes}
-use Rattle.lists.proofs.Tests.{and-left, and-right, and-both, on-test, on-elim, same-test, test-false}
-use Rattle.lists.proofs.Lists.{select-in, select-out, select-mem, mem-select, length-select, tally-none, in-mem, mem-in, range-mem, mem-range}
-use Rattle.lists.proofs.Rising.{Rising, none, more, rising-select, rising-equal}
+use Rattle.picture.specs.Patches.{byFirst, patchNodes}
+use Rattle.lists.proofs.Tests.{and-left, and-right, and-both, on-test, test-false}
+use Rattle.lists.proofs.Lists.{select-in, select-out, select-mem, mem-select, length-select, tally-none}
+use Rattle.lists.proofs.Rising.{rising-is-select}
 use Rattle.topology.proofs.Connected.{start, conn-target}
 use Rattle.topology.proofs.Adjacency.{At, Joined}
-use Rattle.topology.proofs.Accepted.{Accepted, byte-at}
+use Rattle.topology.proofs.Accepted.{Accepted, value-byte}
 use Rattle.topology.proofs.Reached.{firstAt, component-same, first-joined, first-first}
 use Rattle.topology.proofs.Parts.{isFirst, first-is, is-first, components-mem}
 use Rattle.topology.proofs.Branches.{below-joined}
-use Rattle.lists.proofs.Numbers.{mem-index}
+use Rattle.lists.proofs.Indices.{mem-index}
 use Rattle.topology.proofs.Nodes.{node, nodes-mem, mem-nodes, Sorted, end, next, nodes-sorted, sorted-later}
-use Rattle.topology.proofs.Minima.{by-first-mem, leaf-flat}
+use Rattle.topology.proofs.ByFirst.{Apart, alone, beside, firsts, by-first-mem, by-first-rising, mem-by-first}
+use Rattle.topology.proofs.Minima.{leaf-flat}
 
 -- the component of height k with x contains none of the height below
 unfoldable pub leafAt : Picture → ℕ → ℕ → Bool
@@ -82,31 +83,26 @@ module _ (p : Picture) where
       let (s, e) = first-is p (valueAt p x) x b (and-left (isFirst p (valueAt p x) x) (leafAt p (valueAt p x) x) h) in
       (s, e, and-right (isFirst p (valueAt p x) x) (leafAt p (valueAt p x) x) h)
 
-  pub is-bottom : (x : ℕ) → At p (valueAt p x) x → firstAt p (valueAt p x) x ≡ x → leafAt p (valueAt p x) x ≡ true → bottom p x ≡ true
+  pub is-bottom : (k x : ℕ) → At p k x → firstAt p k x ≡ x → leafAt p k x ≡ true → bottom p x ≡ true
   unfolding bottom
-  is-bottom x s e l = and-both (is-first p (valueAt p x) x s e) l
+  is-bottom k x s e l =
+      subst (λ (j : ℕ). isFirst p j x && leafAt p j x ≡ true) (sym (leaf-sound k x s l x (start s))) (and-both (is-first p k x s e) l)
 
   -- the first place of the minimum of a pixel
-  pub first-bottom : (x : ℕ) → (s : At p (valueAt p x) x) → leafAt p (valueAt p x) x ≡ true → (bottom p (firstAt p (valueAt p x) x) ≡ true) × (valueAt p (firstAt p (valueAt p x) x) ≡ valueAt p x)
-  first-bottom x s l =
-      let k = valueAt p x in
-      let z = firstAt p k x in
-      let c = first-joined p k x s in
-      let v = leaf-sound k x s l z c in (
-        subst (λ (j : ℕ). At p j z → firstAt p j z ≡ z → leafAt p j z ≡ true → bottom p z ≡ true) v (is-bottom z)
-            (conn-target c) (first-first p k x s) (sym (leaf-same c) ∙ l),
-        v,
+  pub first-bottom : (k x : ℕ) → At p k x → leafAt p k x ≡ true → (bottom p (firstAt p k x) ≡ true) × (valueAt p (firstAt p k x) ≡ k)
+  first-bottom k x s l =
+      let c = first-joined p k x s in (
+        is-bottom k (firstAt p k x) (conn-target c) (first-first p k x s) (sym (leaf-same c) ∙ l),
+        leaf-sound k x s l (firstAt p k x) c,
       )
 
   -- a leaf of the tree is known by its first place
-  leaf-node : {n : Node} → List·Memᴰ n (nodes p) → isLeaf p n ≡ true → (n ≡ leaf p (n .first)) × (bottom p (n .first) ≡ true)
+  pub leaf-node : {n : Node} → List·Memᴰ n (nodes p) → isLeaf p n ≡ true → (n ≡ leaf p (n .first)) × (bottom p (n .first) ≡ true)
   unfolding isLeaf leafAt
   leaf-node {n} m l =
-      let i = nodes-mem p m in
-      let v = leaf-sound (n .height) (n .first) (i .place) l (n .first) (start (i .place)) in (
-        ap (λ (k : ℕ). node k (n .first)) (sym v),
-        subst (λ (j : ℕ). At p j (n .first) → firstAt p j (n .first) ≡ n .first → leafAt p j (n .first) ≡ true → bottom p (n .first) ≡ true) v
-            (is-bottom (n .first)) (i .place) (i .first) l,
+      let i = nodes-mem p m in (
+        ap (λ (k : ℕ). node k (n .first)) (sym (leaf-sound (n .height) (n .first) (i .place) l (n .first) (start (i .place)))),
+        is-bottom (n .height) (n .first) (i .place) (i .first) l,
       )
 
   bottom-node : Accepted p → (x : ℕ) → x < places p → bottom p x ≡ true → List·Memᴰ (leaf p x) (nodes p) × (isLeaf p (leaf p x) ≡ true)
@@ -114,56 +110,9 @@ module _ (p : Picture) where
   bottom-node ok x b h =
       let (s, e, l) = bottom-is x b h in (
         subst (λ (y : ℕ). List·Memᴰ (node (valueAt p x) y) (nodes p)) e
-            (mem-nodes p (valueAt p x) x (byte-at (p .pixels) (ok .bytes) x) s (leaf-no-branch (valueAt p x) x l)),
+            (mem-nodes p (valueAt p x) x (value-byte p ok x) s (leaf-no-branch (valueAt p x) x l)),
         l,
       )
-
--- nodes with different first places
-data Apart : List Node → Type 0 where
-  alone : Apart []
-  beside : {n : Node} {ns : List Node} → ((m : Node) → List·Memᴰ m ns → m .first ≢ n .first) → Apart ns → Apart (n ∷ ns)
-
-abbrev firsts : List Node → List ℕ
-firsts ns = map (λ n. n .first) ns
-
-insert-rising :
-    {a : ℕ} (n : Node) (ns : List Node) → Rising a (firsts ns) → a ≤ n .first →
-    ((m : Node) → List·Memᴰ m ns → m .first ≢ n .first) → Rising a (firsts (insertByFirst n ns))
-insert-rising n [] r h f = more h none
-insert-rising {a} n (m ∷ ms) (more g r) h f =
-    on-elim (λ (l : List Node). Rising a (firsts l)) (ltb (n .first) (m .first))
-    (λ e. more h (more (ltb-true (n .first) (m .first) e) r))
-    (λ e.
-    let d = f m (List·Memᴰ·head refl) in
-    let b = ltb-false (n .first) (m .first) e in
-    more g (insert-rising n ms r (omega arith) (λ k i. f k (List·Memᴰ·tail i))))
-
-by-first-rising : {ns : List Node} → Apart ns → Rising 0 (firsts (byFirst ns))
-by-first-rising alone = none
-by-first-rising (beside {n} {ns} f a) =
-    insert-rising n (byFirst ns) (by-first-rising a) (omega arith) (λ m i. f m (by-first-mem ns i))
-
-insert-head : (n : Node) (ns : List Node) → List·Memᴰ n (insertByFirst n ns)
-insert-head n [] = List·Memᴰ·head refl
-insert-head n (m ∷ ms) =
-    on-elim (λ (l : List Node). List·Memᴰ n l) (ltb (n .first) (m .first))
-    (λ e. List·Memᴰ·head refl)
-    (λ e. List·Memᴰ·tail (insert-head n ms))
-
-insert-tail : {k : Node} (n : Node) (ns : List Node) → List·Memᴰ k ns → List·Memᴰ k (insertByFirst n ns)
-insert-tail n [] i = List·Memᴰ·tail i
-insert-tail {k} n (m ∷ ms) i =
-    on-elim (λ (l : List Node). List·Memᴰ k l) (ltb (n .first) (m .first))
-    (λ e. List·Memᴰ·tail i)
-    (λ e. ⊎-elim (λ q. List·Memᴰ·head q) (λ j. List·Memᴰ·tail (insert-tail n ms j)) (List·Memᴰ·cases-cons i))
-
-mem-by-first : {k : Node} (ns : List Node) → List·Memᴰ k ns → List·Memᴰ k (byFirst ns)
-mem-by-first [] i = i
-mem-by-first {k} (n ∷ ns) i =
-    ⊎-elim
-    (λ q. subst (λ (m : Node). List·Memᴰ m (insertByFirst n (byFirst ns))) (sym q) (insert-head n (byFirst ns)))
-    (λ j. insert-tail n (byFirst ns) (mem-by-first ns j))
-    (List·Memᴰ·cases-cons i)
 
 -- two leaves of the sorted nodes have different first places
 leaves-apart :
@@ -192,7 +141,7 @@ pub patch-nodes-are : (p : Picture) → Accepted p → patchNodes p ≡ map (lea
 unfolding patchNodes
 patch-nodes-are p ok =
     known (byFirst leaves) (λ n i. by-first-mem leaves i) ∙
-    ap (map (leaf p)) (rising-equal (by-first-rising apart) (rising-select (bottom p) 0 (places p)) agree)
+    ap (map (leaf p)) (rising-is-select (bottom p) (places p) (by-first-rising apart) begins begun)
   where
     leaves : List Node
     leaves = select (isLeaf p) (nodes p)
@@ -206,21 +155,14 @@ patch-nodes-are p ok =
         let (j, l) = select-mem (isLeaf p) (nodes p) (f n (List·Memᴰ·head refl)) in
         ap₂ (λ (m : Node) (ms : List Node). m ∷ ms) (leaf-node p j l .0) (known ns (λ m i. f m (List·Memᴰ·tail i)))
 
-    agree : (y : ℕ) → isIn y (firsts (byFirst leaves)) ≡ isIn y (select (bottom p) (range 0 (places p)))
-    agree y =
-        same-test (isIn y (firsts (byFirst leaves))) (isIn y (select (bottom p) (range 0 (places p))))
-        (λ h.
-        let (n, i, e) = Memᴰ·of-map (λ m. m .first) (byFirst leaves) (in-mem y (firsts (byFirst leaves)) h) in
+    begins : (y : ℕ) → List·Memᴰ y (firsts (byFirst leaves)) → (y < places p) × (bottom p y ≡ true)
+    begins y h =
+        let (n, i, e) = Memᴰ·of-map (λ m. m .first) (byFirst leaves) h in
         let (j, l) = select-mem (isLeaf p) (nodes p) (by-first-mem leaves i) in
         let b = nodes-mem p j .place .within in
-        let q = leaf-node p j l .1 in
-        mem-in y (select (bottom p) (range 0 (places p)))
-        (mem-select (bottom p) (range 0 (places p))
-        (mem-range 0 (places p) (omega arith) (omega arith))
-        (subst (λ (z : ℕ). bottom p z ≡ true) e q)))
-        (λ h.
-        let (i, b) = select-mem (bottom p) (range 0 (places p)) (in-mem y (select (bottom p) (range 0 (places p))) h) in
-        let r = range-mem 0 (places p) i in
-        let (j, l) = bottom-node p ok y (omega arith) b in
-        mem-in y (firsts (byFirst leaves))
-        (Memᴰ·map (λ m. m .first) (mem-by-first leaves (mem-select (isLeaf p) (nodes p) j l))))
+        (omega arith, subst (λ (z : ℕ). bottom p z ≡ true) e (leaf-node p j l .1))
+
+    begun : (y : ℕ) → y < places p → bottom p y ≡ true → List·Memᴰ y (firsts (byFirst leaves))
+    begun y b h =
+        let (j, l) = bottom-node p ok y b h in
+        Memᴰ·map (λ m. m .first) (mem-by-first leaves (mem-select (isLeaf p) (nodes p) j l))

@@ -7,20 +7,20 @@ use Prim.Native.Nat.{ℕ, zero, suc, _+_, _≤_, _<_}
 use native.Mathlib.Omega.{arith}
 use lib.Dec.{eqb}
 use lib.ListN.{length, getD}
-use borrow.Author.Tests.{eqb-true, eq-eqb, not-true}
+use borrow.Author.Tests.{eqb-true, eqb-false, eq-eqb, not-true}
 use Rattle.lists.specs.Lists.{select, range, headOf}
 use Rattle.picture.specs.Pictures.{Picture, places, valueAt}
 use Rattle.picture.specs.Components.{componentAt}
 use Rattle.picture.specs.Trees.{Node, isBranch, nodesAt, nodesFrom, nodes, nodeAt, componentOf, numberFrom, numberOf}
 use Rattle.lists.proofs.Tests.{and-left, and-right, and-both, on-test, on-elim, not-of-false, clash}
-use Rattle.lists.proofs.Lists.{select-map, select-select, select-mem, mem-select, range-mem, mem-range}
-use Rattle.lists.proofs.Rising.{Rising, none, more, rising-select}
+use Rattle.lists.proofs.Lists.{select-map, select-select}
+use Rattle.lists.proofs.Rising.{Rising, none, more, rising-select, select-below, below-select}
 use Rattle.topology.proofs.Connected.{conn-target}
 use Rattle.topology.proofs.Adjacency.{At}
-use Rattle.topology.proofs.Reached.{firstAt, component-same, first-joined, first-same, first-at, first-first}
-use Rattle.topology.proofs.Parts.{isFirst, first-is, is-first, components-are}
+use Rattle.topology.proofs.Reached.{firstAt, component-same, first-joined, first-same, first-at}
+use Rattle.topology.proofs.Parts.{isFirst, first-is, first-true, components-are}
 use Rattle.topology.proofs.Branches.{own-pixel}
-use Rattle.lists.proofs.Numbers.{mem-index, index-mem, map-same, pigeonhole}
+use Rattle.lists.proofs.Indices.{mem-index, index-mem, map-same, pigeonhole}
 
 -- the node of a height and a first place
 abbrev pub node : ℕ → ℕ → Node
@@ -47,9 +47,8 @@ module _ (p : Picture) where
       (ap (map (λ x. named (componentAt p k x))) (select-select (isFirst p k) (λ x. free (componentAt p k x)) (range 0 (places p))) ∙
       map-same (λ x. named (componentAt p k x)) (node k) (select (isNode p k) (range 0 (places p)))
       (λ x m.
-      let (i, h) = select-mem (isNode p k) (range 0 (places p)) m in
-      let b = range-mem 0 (places p) i in
-      ap (node k) (first-is p k x (omega arith) (and-left (isFirst p k x) (free (componentAt p k x)) h) .1)))))
+      let (b, h) = select-below (isNode p k) (places p) m in
+      ap (node k) (first-is p k x b (and-left (isFirst p k x) (free (componentAt p k x)) h) .1)))))
     where
       named : List ℕ → Node
       named c = node k (headOf c)
@@ -64,9 +63,8 @@ module _ (p : Picture) where
       Memᴰ·of-map (node k) (select (isNode p k) (range 0 (places p)))
       (subst (λ (l : List Node). List·Memᴰ n l) (nodes-at k) m)
       in
-      let (j, h) = select-mem (isNode p k) (range 0 (places p)) i in
-      let c = range-mem 0 (places p) j in
-      let (s, q) = first-is p k y (omega arith) (and-left (isFirst p k y) (not (isBranch p k (componentAt p k y))) h) in
+      let (c, h) = select-below (isNode p k) (places p) i in
+      let (s, q) = first-is p k y c (and-left (isFirst p k y) (not (isBranch p k (componentAt p k y))) h) in
       subst (IsNode p) e
       (record {
         low = b;
@@ -81,10 +79,9 @@ module _ (p : Picture) where
       let z = firstAt p k y in
       subst (λ (l : List Node). List·Memᴰ (node k z) l) (sym (nodes-at k))
       (Memᴰ·map (node k)
-      (mem-select (isNode p k) (range 0 (places p))
-      (mem-range 0 (places p) (omega arith) (omega (arith, first-at p k y s .within)))
+      (below-select (isNode p k) (places p) (first-at p k y s .within)
       (and-both
-      (is-first p k z (first-at p k y s) (first-first p k y s))
+      (first-true p k y s)
       (not-of-false (isBranch p k (componentAt p k z))
       (ap (isBranch p k) (sym (component-same p k (first-joined p k y s))) ∙ h)))))
 
@@ -102,7 +99,7 @@ module _ (p : Picture) where
       Memᴰ·append-left (nodesFrom l (suc k) p)
       (subst (λ (j : ℕ). List·Memᴰ (node h (firstAt p h y)) (nodesAt p j)) (sym (eqb-true k h q)) (at-mem h y s e)))
       (λ q.
-      let d : ¬ (k ≡ h) = λ w. clash (eq-eqb k h w) q in
+      let d = eqb-false k h q in
       Memᴰ·append-right (nodesAt p k) (from-mem l (suc k) h y (omega arith) (omega arith) s e))
 
   pub nodes-mem : {n : Node} → List·Memᴰ n (nodes p) → IsNode p n

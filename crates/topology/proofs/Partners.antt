@@ -17,12 +17,12 @@ use Rattle.picture.specs.Kept.{partners}
 use Rattle.lists.proofs.Tests.{and-left, and-right, and-both, clash}
 use Rattle.topology.proofs.Connected.{start, conn-target, conn-trans}
 use Rattle.topology.proofs.Keeping.{Keeps, sec-mono}
-use Rattle.topology.proofs.Adjacency.{Adj, At, Joined, joined-sym}
+use Rattle.topology.proofs.Adjacency.{Adj, At, Joined, joined-sym, joined-mono}
 use Rattle.topology.proofs.Reached.{firstAt, first-joined, first-same}
 use Rattle.topology.proofs.Bridge.{within-joined, joined-within}
 use Rattle.topology.proofs.Accepted.{Accepted}
-use Rattle.topology.proofs.Branches.{joined-mono, joined-kept, branch-same}
-use Rattle.lists.proofs.Numbers.{one-index, index-one}
+use Rattle.topology.proofs.Branches.{joined-kept, branch-same}
+use Rattle.lists.proofs.Indices.{one-index, index-one}
 use Rattle.topology.proofs.Nodes.{node, IsNode, node-is, node-equal, number-found}
 use Rattle.topology.proofs.Climb.{root-is}
 use Rattle.topology.proofs.Fathers.{NodeFrom, top, fork, father-is, number-small}

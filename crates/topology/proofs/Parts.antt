@@ -1,18 +1,18 @@
 -- The components of a height are those of the first places, rising.
 use mathlib.Core.Path.{_≡_, refl, sym, ap, subst, _∙_}
 use mathlib.Core.Bool.{Bool, true, false, _&&_, not}
-use mathlib.Core.Logic.{⊎-elim, _↔_}
+use mathlib.Core.Logic.{⊎-elim, _↔_, _≢_}
 use mathlib.Core.List.{List, [], _∷_, _++_, map, List·Memᴰ, Memᴰ·map, Memᴰ·of-map, append-nil, append-assoc}
 use Prim.Native.Nat.{ℕ, zero, suc, _+_, _≤_, _<_}
 use native.Mathlib.Omega.{arith}
 use lib.Dec.{eqb}
-use borrow.Author.Tests.{eqb-true, eq-eqb}
+use borrow.Author.Tests.{eqb-true, eqb-false, eq-eqb}
 use Rattle.lists.specs.Lists.{any, all, tally, select, range, isIn}
 use Rattle.picture.specs.Pictures.{Picture, places}
 use Rattle.picture.specs.Components.{inSection, componentAt, componentsFrom, components}
 use Rattle.lists.proofs.Tests.{and-left, and-right, and-both, or-left, or-right, or-cases, not-of-false, on-test, on-elim, clash, test-false, not-both}
-use Rattle.lists.proofs.Lists.{select-in, select-out, select-mem, mem-select, range-mem, mem-range, all-mem, mem-all, tally-map, tally-select, any-append}
-use Rattle.lists.proofs.Rising.{one-tally, tally-one}
+use Rattle.lists.proofs.Lists.{select-in, select-out, all-mem, mem-all, tally-map, tally-select, any-append}
+use Rattle.lists.proofs.Rising.{select-below, below-select, one-tally, tally-one}
 use Rattle.topology.proofs.Connected.{start}
 use Rattle.topology.proofs.Adjacency.{At, Joined, section-at, at-section}
 use Rattle.topology.proofs.Reached.{firstAt, component-same, in-joined, joined-in, first-joined, first-least, first-same, first-first, first-at, same-first}
@@ -33,6 +33,13 @@ module _ (p : Picture) (k : ℕ) where
   unfolding isFirst
   is-first x s e =
       and-both (at-section p k x s) (eq-eqb (firstAt p k x) x e)
+
+  pub first-true : (y : ℕ) → At p k y → isFirst p k (firstAt p k y) ≡ true
+  first-true y s = is-first (firstAt p k y) (first-at p k y s) (first-first p k y s)
+
+  -- a place that is no first place is the first place of none
+  pub not-first : (x y : ℕ) → At p k y → isFirst p k x ≡ false → firstAt p k y ≢ x
+  not-first x y s h e = clash (subst (λ (z : ℕ). isFirst p k z ≡ true) e (first-true y s)) h
 
   -- the components cs hold the places whose first place is below x
   Covered : ℕ → List (List ℕ) → Type 0
@@ -80,19 +87,14 @@ module _ (p : Picture) (k : ℕ) where
               (or-left false
               (joined-in p k (same-first p k x y sx s (e ∙ sym (eqb-true (firstAt p k y) x i))))))
               (λ i.
-              let d : ¬ (firstAt p k y ≡ x) = λ q. clash (eq-eqb (firstAt p k y) x q) i in
+              let d = eqb-false (firstAt p k y) x i in
               or-left (any (isIn y) (componentAt p k x ∷ [])) (c y s .1 (omega arith))),
         )
 
     covered-out : isFirst p k x ≡ false → Covered (suc x) cs
     unfolding Covered
     covered-out h y s =
-        let d : ¬ (firstAt p k y ≡ x) =
-        λ e.
-        clash
-        (is-first x (subst (λ (z : ℕ). At p k z) e (first-at p k y s)) (ap (firstAt p k) (sym e) ∙ (first-first p k y s ∙ e)))
-        h
-        in
+        let d = not-first x y s h in
         (λ g. let q = c y s .0 g in omega arith, λ g. c y s .1 (omega arith))
 
   collected :
@@ -139,9 +141,7 @@ module _ (p : Picture) (k : ℕ) where
       (subst (λ (c : List ℕ). List·Memᴰ c (map (componentAt p k) (select (isFirst p k) (range 0 (places p)))))
       (sym (component-same p k (first-joined p k x s)))
       (Memᴰ·map (componentAt p k)
-      (mem-select (isFirst p k) (range 0 (places p))
-      (mem-range 0 (places p) (omega arith) (omega (arith, first-at p k x s .within)))
-      (is-first p k (firstAt p k x) (first-at p k x s) (first-first p k x s)))))
+      (below-select (isFirst p k) (places p) (first-at p k x s .within) (first-true p k x s))))
 
   pub components-mem : {c : List ℕ} → List·Memᴰ c (components p k) → (x : ℕ) × At p k x × (componentAt p k x ≡ c)
   components-mem {c} m =
@@ -149,9 +149,8 @@ module _ (p : Picture) (k : ℕ) where
       Memᴰ·of-map (componentAt p k) (select (isFirst p k) (range 0 (places p)))
       (subst (λ (l : List (List ℕ)). List·Memᴰ c l) (components-are p k) m)
       in
-      let (j, h) = select-mem (isFirst p k) (range 0 (places p)) i in
-      let b = range-mem 0 (places p) j in
-      (x, first-is p k x (omega arith) h .0, e)
+      let (b, h) = select-below (isFirst p k) (places p) i in
+      (x, first-is p k x b h .0, e)
 
   module _ (t : List ℕ → Bool) where
     pub all-parts : all t (components p k) ≡ true → (y : ℕ) → At p k y → t (componentAt p k y) ≡ true
@@ -183,7 +182,7 @@ module _ (p : Picture) (k : ℕ) where
               let q =
               o .only (firstAt p k y) (omega arith) (omega (arith, first-at p k y sy .within))
               (and-both
-              (is-first p k (firstAt p k y) (first-at p k y sy) (first-first p k y sy))
+              (first-true p k y sy)
               (subst (λ (c : List ℕ). t c ≡ true) (component-same p k (first-joined p k y sy)) g))
               in
               same-first p k (o .at) y s sy (e ∙ sym q);
@@ -199,7 +198,7 @@ module _ (p : Picture) (k : ℕ) where
           to = omega (arith, first-at p k (o .at) (o .place) .within);
           passes =
               and-both
-              (is-first p k (firstAt p k (o .at)) (first-at p k (o .at) (o .place)) (first-first p k (o .at) (o .place)))
+              (first-true p k (o .at) (o .place))
               (subst (λ (c : List ℕ). t c ≡ true) (component-same p k (first-joined p k (o .at) (o .place))) (o .passes));
           only =
               λ y a b g.

@@ -1,29 +1,29 @@
 -- The figures of a patch: its pixels by their patch number, its record by its number, its node by the map.
 use mathlib.Core.Path.{_≡_, refl, sym, ap, ap₂, subst, _∙_}
-use mathlib.Core.Bool.{Bool, true}
-use mathlib.Core.List.{List, [], _∷_, map}
-use Prim.Native.Nat.{ℕ, zero, suc, _+_, _-_, _<_}
+use mathlib.Core.Bool.{true}
+use mathlib.Core.List.{List, [], _∷_, List·Memᴰ}
+use Prim.Native.Nat.{ℕ, zero, suc, _+_, _<_}
 use native.Mathlib.Omega.{arith}
 use lib.Dec.{eqb}
-use lib.ListN.{length, getD}
+use lib.ListN.{length, getD, length-map}
 use borrow.Author.Tests.{eqb-true, eq-eqb}
-use Rattle.lists.specs.Lists.{tally, select, range, isIn}
+use Rattle.lists.specs.Lists.{tally, select, range}
 use Rattle.picture.specs.Pictures.{Picture, places, valueAt}
 use Rattle.picture.specs.Components.{componentAt}
 use Rattle.picture.specs.Trees.{Node, nodeAt, componentOf, mapOf}
 use Rattle.picture.specs.Patches.{patchNodes, Patch, patchOf, patchesFrom, patches, patchAt}
-use Rattle.lists.proofs.Tests.{on-test, same-test}
-use Rattle.lists.proofs.Lists.{select-mem, mem-select, in-mem, mem-in, range-mem, mem-range}
-use Rattle.lists.proofs.Rising.{rising-select, rising-equal}
+use Rattle.lists.proofs.Tests.{on-test}
+use Rattle.lists.proofs.Lists.{getD-map}
+use Rattle.lists.proofs.Rising.{rising-is-select}
 use Rattle.topology.proofs.Connected.{conn-target}
-use Rattle.topology.proofs.Adjacency.{At, Joined, joined-sym, at-own}
-use Rattle.topology.proofs.Accepted.{Accepted, byte-at}
-use Rattle.topology.proofs.Reached.{firstAt, component-rising, in-joined, joined-in, first-joined, first-same, first-at}
+use Rattle.topology.proofs.Adjacency.{At, joined-sym, at-own}
+use Rattle.topology.proofs.Accepted.{Accepted, value-byte}
+use Rattle.topology.proofs.Reached.{firstAt, component-rising, mem-joined, joined-mem, first-joined, first-at}
 use Rattle.topology.proofs.Nodes.{node, number-found}
-use Rattle.topology.proofs.Descent.{map-under, under-fork, under-is}
+use Rattle.topology.proofs.Descent.{map-under, map-is, under-fork}
 use Rattle.lists.proofs.Positions.{tally-next-in, select-index, tally-inject}
-use Rattle.topology.proofs.Leaves.{leafAt, bottom, leaf, leaf-sound, leaf-same, leaf-no-branch, bottom-is, first-bottom, patch-nodes-are}
-use Rattle.topology.proofs.PatchNumbers.{patch-count, patch-in, patch-out}
+use Rattle.topology.proofs.Leaves.{leafAt, bottom, leaf, leaf-same, leaf-no-branch, bottom-is, first-bottom, patch-nodes-are}
+use Rattle.topology.proofs.PatchNumbers.{patch-count, patch-in, patch-same, patch-out}
 
 module _ (p : Picture) (ok : Accepted p) where
   -- the number of the patch that begins at z
@@ -42,28 +42,11 @@ module _ (p : Picture) (ok : Accepted p) where
   -- the pixels of the patch that begins at z are those with its number
   pub patch-members : (z : ℕ) → z < places p → bottom p z ≡ true → componentOf p (leaf p z) ≡ select (λ x. eqb (patchAt p x) (patchAt p z)) (range 0 (places p))
   patch-members z b h =
-      rising-equal (component-rising p k z s) (rising-select numbered 0 (places p))
-      (λ x.
-      same-test (isIn x (componentAt p k z)) (isIn x (select numbered (range 0 (places p))))
-      (λ i.
-      let c = in-joined p k z x s i in
-      let xb = conn-target c .within in
-      let v = leaf-sound p k z s l x c in
-      let lx = subst (λ (j : ℕ). leafAt p j x ≡ true) (sym v) (sym (leaf-same p c) ∙ l) in
-      mem-in x (select numbered (range 0 (places p)))
-      (mem-select numbered (range 0 (places p))
-      (mem-range 0 (places p) (omega arith) (omega arith))
-      (eq-eqb (patchAt p x) (patchAt p z)
-      (patch-in p ok x xb lx ∙
-      (ap (λ (m : ℕ). tally (bottom p) (range 0 (suc m)))
-      (ap (λ (j : ℕ). firstAt p j x) v ∙ sym (first-same p k c)) ∙
-      sym (patch-in p ok z b l))))))
-      (λ i.
-      let (j, q) = select-mem numbered (range 0 (places p)) (in-mem x (select numbered (range 0 (places p))) i) in
-      let r = range-mem 0 (places p) j in
-      let xb : x < places p = omega arith in
-      let e = eqb-true (patchAt p x) (patchAt p z) q in
-      back x xb e (bottom-number z b h)))
+      rising-is-select (λ x. eqb (patchAt p x) (patchAt p z)) (places p) (component-rising p k z s)
+      (λ x i.
+      let c = mem-joined p k z x s i in
+      (conn-target c .within, eq-eqb (patchAt p x) (patchAt p z) (sym (patch-same p ok k c l))))
+      (λ x xb q. back x xb (eqb-true (patchAt p x) (patchAt p z) q) (bottom-number z b h))
     where
       k : ℕ
       k = valueAt p z
@@ -71,32 +54,22 @@ module _ (p : Picture) (ok : Accepted p) where
       s : At p k z
       s = bottom-is p z b h .0
 
-      first : firstAt p k z ≡ z
-      first = bottom-is p z b h .1
-
       l : leafAt p k z ≡ true
       l = bottom-is p z b h .2
 
-      numbered : ℕ → Bool
-      numbered x = eqb (patchAt p x) (patchAt p z)
-
-      back : (x : ℕ) → x < places p → patchAt p x ≡ patchAt p z → patchAt p z ≡ suc (tally (bottom p) (range 0 z)) → isIn x (componentAt p k z) ≡ true
+      back : (x : ℕ) → x < places p → patchAt p x ≡ patchAt p z → patchAt p z ≡ suc (tally (bottom p) (range 0 z)) → List·Memᴰ x (componentAt p k z)
       back x xb e n =
           on-test (leafAt p (valueAt p x) x)
           (λ lx.
           let sx = at-own p x xb in
           let y = firstAt p (valueAt p x) x in
-          let (hy, v) = first-bottom p x sx lx in
+          let (hy, v) = first-bottom p (valueAt p x) x sx lx in
           let yb = first-at p (valueAt p x) x sx .within in
-          let (sy, ey, ly) = bottom-is p y yb hy in
-          let w : patchAt p y ≡ patchAt p z =
-          patch-in p ok y yb ly ∙
-          (ap (λ (m : ℕ). tally (bottom p) (range 0 (suc m))) ey ∙ (sym (patch-in p ok x xb lx) ∙ e))
-          in
+          let w = sym (patch-same p ok (valueAt p x) (first-joined p (valueAt p x) x sx) lx) ∙ e in
           let q = bottom-equal y z yb b hy h w in
           let c = joined-sym p (valueAt p x) (first-joined p (valueAt p x) x sx) in
-          subst (λ (u : ℕ). isIn x (componentAt p (valueAt p u) u) ≡ true) q
-          (subst (λ (j : ℕ). isIn x (componentAt p j y) ≡ true) (sym v) (joined-in p (valueAt p x) c)))
+          subst (λ (u : ℕ). List·Memᴰ x (componentAt p (valueAt p u) u)) q
+          (subst (λ (j : ℕ). List·Memᴰ x (componentAt p j y)) (sym v) (joined-mem p (valueAt p x) c)))
           (λ lx. absurd (let o = patch-out p ok x xb lx in omega arith))
 
   -- the records in order
@@ -119,29 +92,17 @@ module _ (p : Picture) (ok : Accepted p) where
   pub patch-record : (z : ℕ) (d : Patch) → z < places p → bottom p z ≡ true → getD (patches p) (tally (bottom p) (range 0 z)) d ≡ patchOf p (patchAt p z) (leaf p z)
   unfolding patches
   patch-record z d b h =
-      let q : z - 0 ≡ z = omega arith in
-      let (l, e) = select-index (bottom p) 0 0 (places p) z (omega arith) (omega arith) h in
-      let e′ = sym (ap (λ (m : ℕ). getD chosen (tally (bottom p) (range 0 m)) 0) q) ∙ e in
-      let l′ = subst (λ (m : ℕ). tally (bottom p) (range 0 m) < length chosen) q l in
+      let (l, e) = select-index (bottom p) 0 (places p) z b h in
       let i = tally (bottom p) (range 0 z) in
-      let size = ap length (patch-nodes-are p ok) ∙ long chosen in
+      let size = ap length (patch-nodes-are p ok) ∙ length-map chosen (leaf p) in
       patches-at 1 d (patchNodes p) i (omega arith) ∙
       ap₂ (λ (m : ℕ) (n : Node). patchOf p m n)
       (let w = bottom-number z b h in omega arith)
       (ap (λ (ns : List Node). getD ns i (node 0 0)) (patch-nodes-are p ok) ∙
-      (entry chosen i l′ ∙ ap (leaf p) e′))
+      (getD-map (leaf p) 0 (node 0 0) chosen i l ∙ ap (leaf p) e))
     where
       chosen : List ℕ
       chosen = select (bottom p) (range 0 (places p))
-
-      long : (l : List ℕ) → length (map (leaf p) l) ≡ length l
-      long [] = refl
-      long (x ∷ xs) = ap suc (long xs)
-
-      entry : (l : List ℕ) (i : ℕ) → i < length l → getD (map (leaf p) l) i (node 0 0) ≡ leaf p (getD l i 0)
-      entry [] i c = absurd (omega arith)
-      entry (x ∷ xs) zero c = refl
-      entry (x ∷ xs) (suc i) c = entry xs i (omega arith)
 
   -- a pixel is in a minimum exactly if its node is a leaf of its own value
   pub map-leaf : (x : ℕ) → x < places p → leafAt p (valueAt p x) x ≡ true → nodeAt p (mapOf p x) ≡ node (valueAt p x) (firstAt p (valueAt p x) x)
@@ -149,10 +110,8 @@ module _ (p : Picture) (ok : Accepted p) where
       let s = at-own p x b in
       let e = leaf-no-branch p (valueAt p x) x l in
       ap (nodeAt p) (map-under p x ∙ under-fork p (valueAt p x) x e) ∙
-      number-found p (valueAt p x) x (byte-at (p .pixels) (ok .bytes) x) s e .1
+      number-found p (valueAt p x) x (value-byte p ok x) s e .1
 
   pub leaf-map : (x : ℕ) → x < places p → nodeAt p (mapOf p x) .height ≡ valueAt p x → leafAt p (valueAt p x) (nodeAt p (mapOf p x) .first) ≡ true → leafAt p (valueAt p x) x ≡ true
   leaf-map x b e l =
-      let u = under-is p (valueAt p x) x (byte-at (p .pixels) (ok .bytes) x) (at-own p x b) in
-      let c = subst (λ (i : ℕ). Joined p (valueAt p x) x (nodeAt p i .first)) (sym (map-under p x)) (u .joined) in
-      leaf-same p c ∙ l
+      leaf-same p (map-is p ok x b .joined) ∙ l

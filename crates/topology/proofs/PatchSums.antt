@@ -1,9 +1,9 @@
 -- The figures of the patches as sums over the places by their patch numbers, and the first place of each patch by its number.
-use mathlib.Core.Path.{_≡_, refl, sym, ap, subst, _∙_}
+use mathlib.Core.Path.{_≡_, sym, ap, subst, _∙_}
 use mathlib.Core.Bool.{true}
 use mathlib.Core.Logic.{by-cases}
-use mathlib.Core.List.{List, [], _∷_, map}
-use Prim.Native.Nat.{ℕ, suc, _+_, _-_, _*_, _≤_, _<_}
+use mathlib.Core.List.{List, map}
+use Prim.Native.Nat.{ℕ, suc, _≤_, _<_}
 use native.Mathlib.Decide.{ℕ-discrete}
 use native.Mathlib.Omega.{arith}
 use lib.Dec.{eqb}
@@ -12,57 +12,19 @@ use Rattle.lists.specs.Lists.{pick, tally, range, total}
 use Rattle.picture.specs.Pictures.{Picture, places, valueAt, column, row}
 use Rattle.picture.specs.Trees.{nodeAt, componentOf, mapOf}
 use Rattle.picture.specs.Patches.{Patch, patchOf, patches, patchAt, depthOf}
-use Rattle.lists.proofs.Tests.{on-test, on-pick, pick-in, pick-out}
+use Rattle.lists.proofs.Tests.{on-test}
 use Rattle.lists.proofs.Lists.{range-mem}
 use Rattle.topology.proofs.Connected.{start}
-use Rattle.topology.proofs.Adjacency.{At}
+use Rattle.topology.proofs.Adjacency.{at-own}
 use Rattle.topology.proofs.Accepted.{Accepted}
 use Rattle.topology.proofs.Reached.{firstAt, first-least, first-at}
-use Rattle.lists.proofs.Numbers.{map-same}
+use Rattle.lists.proofs.Indices.{map-same}
 use Rattle.topology.proofs.Leaves.{leafAt, bottom, leaf, is-bottom}
-use Rattle.lists.proofs.Positions.{tally-range, tally-bound, tally-reach}
-use Rattle.lists.proofs.Sums.{total-select, total-next, total-most}
+use Rattle.lists.proofs.Positions.{tally-below, tally-bound, tally-reach}
+use Rattle.lists.proofs.Sums.{total-select, length-total, sumAt}
 use Rattle.topology.proofs.PatchNumbers.{patch-in, patch-out}
 use Rattle.topology.proofs.PatchFigures.{bottom-number, patch-members, patches-count, patch-record}
 use Rattle.topology.proofs.LeafNodes.{bottom-map}
-
--- the sum of g over the first m places with the number c
-unfoldable pub sumAt : (ℕ → ℕ) → List ℕ → ℕ → ℕ → ℕ
-sumAt g numbers c m = total (map (λ x. pick (eqb (getD numbers x 0) c) (g x) 0) (range 0 m))
-
-module _ (g : ℕ → ℕ) (numbers : List ℕ) (c : ℕ) where
-  pub sum-none : sumAt g numbers c 0 ≡ 0
-  unfolding sumAt
-  sum-none = refl
-
-  pub sum-in : (m : ℕ) → getD numbers m 0 ≡ c → sumAt g numbers c (suc m) ≡ sumAt g numbers c m + g m
-  unfolding sumAt
-  sum-in m e =
-      let z : 0 + m ≡ m = omega arith in
-      total-next term 0 m ∙
-      ap (λ (v : ℕ). total (map term (range 0 m)) + v)
-      (ap term z ∙ pick-in (getD numbers m 0) c (g m) 0 e)
-    where
-      term : ℕ → ℕ
-      term x = pick (eqb (getD numbers x 0) c) (g x) 0
-
-  pub sum-out : (m : ℕ) → ¬ (getD numbers m 0 ≡ c) → sumAt g numbers c (suc m) ≡ sumAt g numbers c m
-  unfolding sumAt
-  sum-out m d =
-      let z : 0 + m ≡ m = omega arith in
-      let q = ap term z ∙ pick-out (getD numbers m 0) c (g m) 0 d in
-      let r = total-next term 0 m in
-      omega arith
-    where
-      term : ℕ → ℕ
-      term x = pick (eqb (getD numbers x 0) c) (g x) 0
-
-  pub sum-most : (d m : ℕ) → ((x : ℕ) → x < m → g x ≤ d) → sumAt g numbers c m ≤ d * m
-  unfolding sumAt
-  sum-most d m h =
-      total-most (λ x. pick (eqb (getD numbers x 0) c) (g x) 0) d 0 m
-      (λ x b.
-      on-pick (λ (v : ℕ). v ≤ d) (eqb (getD numbers x 0) c) (λ e. h x (omega arith)) (λ e. omega arith))
 
 module _ (p : Picture) (ok : Accepted p) where
   -- the first place of the patch with a number
@@ -76,15 +38,13 @@ module _ (p : Picture) (ok : Accepted p) where
       (λ l.
       let k = valueAt p x in
       let z = firstAt p k x in
-      let s : At p k x = record { within = b; low = omega arith } in
+      let s = at-own p x b in
       let least = first-least p k (start s) in
       by-cases (ℕ-discrete z x)
-      (λ q. is-bottom p x s q l)
+      (λ q. is-bottom p k x s q l)
       (λ q.
       let n = patch-in p ok x b l in
-      let d : suc z + (x - suc z) ≡ x = omega arith in
-      let t = tally-range (bottom p) 0 (suc z) (x - suc z) in
-      let u = ap (λ (m : ℕ). tally (bottom p) (range 0 m)) d in
+      let t = tally-below (bottom p) (suc z) x (omega arith) in
       absurd (omega arith)))
       (λ l. absurd (let o = patch-out p ok x b l in omega arith))
 
@@ -100,7 +60,7 @@ module _ (p : Picture) (ok : Accepted p) where
       on-test (leafAt p (valueAt p x) x)
       (λ l.
       let k = valueAt p x in
-      let s : At p k x = record { within = b; low = omega arith } in
+      let s = at-own p x b in
       let z = firstAt p k x in
       let w = first-at p k x s .within in
       let t = tally-bound (bottom p) (suc z) in
@@ -138,13 +98,9 @@ module _ (p : Picture) (ok : Accepted p) where
           let r = range-mem 0 (places p) m in
           ap (λ (v : ℕ). pick (eqb v (patchAt p z)) (g x) 0) (sym (same x (omega arith))))))
 
-      counts : (l : List ℕ) → length l ≡ total (map (λ x. 1) l)
-      counts [] = refl
-      counts (x ∷ xs) = let r = counts xs in omega arith
-
       size-at : getD (patches p) (tally (bottom p) (range 0 z)) d .size ≡ sumAt (λ x. 1) numbers (patchAt p z) (places p)
       unfolding patchOf
-      size-at = ap (λ (q : Patch). q .size) record-at ∙ (counts (componentOf p (leaf p z)) ∙ members-sum (λ x. 1))
+      size-at = ap (λ (q : Patch). q .size) record-at ∙ (length-total (componentOf p (leaf p z)) ∙ members-sum (λ x. 1))
 
       columns-at : getD (patches p) (tally (bottom p) (range 0 z)) d .columns ≡ sumAt (column p) numbers (patchAt p z) (places p)
       unfolding patchOf

@@ -1,33 +1,27 @@
--- A picture and its watershed have equally many patches, and partners are leaves together, of one height.
+-- A picture and its watershed have equally many patches.
 use mathlib.Core.Path.{_≡_, refl, sym, ap, subst, _∙_}
 use mathlib.Core.Bool.{true}
-use mathlib.Core.Logic.{by-cases}
 use mathlib.Core.List.{List}
-use Prim.Native.Nat.{ℕ, zero, suc, _≤_, _<_}
-use native.Mathlib.Decide.{decLt}
+use Prim.Native.Nat.{ℕ, _<_}
 use native.Mathlib.Omega.{arith}
 use lib.ListN.{length}
 use Rattle.lists.specs.Lists.{tally, range}
 use Rattle.picture.specs.Pictures.{Picture, places, valueAt, withPixels, isPicture}
-use Rattle.picture.specs.Trees.{nodes, nodeAt}
 use Rattle.picture.specs.Watersheds.{watershed}
 use Rattle.picture.specs.Patches.{patches}
-use Rattle.picture.specs.Kept.{partners}
-use Rattle.lists.proofs.Tests.{same-test}
-use Rattle.topology.proofs.Connected.{start, conn-target, conn-trans}
-use Rattle.topology.proofs.Keeping.{Keeps, sec-mono}
+use Rattle.topology.proofs.Connected.{conn-target, conn-trans}
+use Rattle.topology.proofs.Keeping.{Keeps}
 use Rattle.topology.proofs.Adjacency.{Adj, At, Joined, joined-sym}
 use Rattle.topology.proofs.Reached.{firstAt, first-joined, first-same, first-at}
 use Rattle.topology.proofs.Accepted.{Accepted, accepted-is}
 use Rattle.topology.proofs.Water.{watershed-shape, watershed-watered}
-use Rattle.topology.proofs.Branches.{joined-mono, joined-kept}
-use Rattle.lists.proofs.Numbers.{pigeonhole}
-use Rattle.topology.proofs.Nodes.{node-is}
-use Rattle.lists.proofs.Positions.{tally-rises, tally-inject, tally-reach}
+use Rattle.topology.proofs.Branches.{joined-kept}
+use Rattle.lists.proofs.Indices.{pigeonhole}
+use Rattle.topology.proofs.Minima.{flat-kept}
+use Rattle.lists.proofs.Positions.{tally-rises, tally-inject}
 use Rattle.topology.proofs.Leaves.{leafAt, bottom, leaf-sound, leaf-complete, leaf-same, bottom-is, first-bottom}
 use Rattle.topology.proofs.PatchFigures.{patches-count}
-use Rattle.topology.proofs.LeafNodes.{leafNode}
-use Rattle.topology.proofs.Partners.{partners-joined}
+use Rattle.topology.proofs.PatchSums.{patch-begins}
 use Rattle.topology.proofs.Demand.{demand-3}
 
 module _ (f : Picture) (xs : List ℕ) (keeps : (k : ℕ) → Keeps (places f) (Adj f) (valueAt f) (valueAt (withPixels f xs)) k) where
@@ -35,19 +29,7 @@ module _ (f : Picture) (xs : List ℕ) (keeps : (k : ℕ) → Keeps (places f) (
   a = withPixels f xs
 
   leaf-forth : (k x : ℕ) → At f k x → leafAt f k x ≡ true → leafAt a k x ≡ true
-  leaf-forth k x s l = leaf-complete a k x (keeps k .subset x s) (λ u c. level k refl u c)
-    where
-      level : (j : ℕ) → j ≡ k → (u : ℕ) → Joined a k x u → valueAt a u ≡ k
-      level zero e u c = let b = conn-target c .low in omega arith
-      level (suc j) e u c =
-          let b = conn-target c .low in
-          by-cases (decLt (valueAt a u) k)
-          (λ h.
-          let (z, sz, d) = keeps j .reaches u (record { within = conn-target c .within; low = omega arith }) in
-          let up : j ≤ k = omega arith in
-          let g = keeps k .separates x z s (sec-mono up z sz) (conn-trans c (joined-mono a up d)) in
-          absurd (let q = leaf-sound f k x s l z g in let r = sz .low in omega arith))
-          (λ h. omega arith)
+  leaf-forth k x s l = leaf-complete a k x (keeps k .subset x s) (flat-kept f xs keeps k x s (leaf-sound f k x s l))
 
   leaf-back : (k x : ℕ) → At f k x → leafAt a k x ≡ true → leafAt f k x ≡ true
   leaf-back k x s l =
@@ -57,22 +39,6 @@ module _ (f : Picture) (xs : List ℕ) (keeps : (k : ℕ) → Keeps (places f) (
       let b = conn-target c .low in
       let q = keeps (valueAt f u) .subset u (record { within = conn-target c .within; low = omega arith }) .low in
       omega arith)
-
-  -- components that are joined in a are leaves together
-  pub leaf-kept : (k x y : ℕ) → At f k x → Joined a k x y → leafAt f k x ≡ leafAt a k y
-  leaf-kept k x y s c = same-test (leafAt f k x) (leafAt a k x) (leaf-forth k x s) (leaf-back k x s) ∙ leaf-same a c
-
-  -- partners have one height and are leaves together
-  pub leaf-partners :
-      (i j : ℕ) → i < length (nodes f) → j < length (nodes a) → partners f a (nodeAt f i) (nodeAt a j) ≡ true →
-      (nodeAt f i .height ≡ nodeAt a j .height) × (leafNode f i ≡ leafNode a j)
-  unfolding leafNode
-  leaf-partners i j bi bj h =
-      let s = node-is f i bi .place in
-      let (e, c) = partners-joined f xs keeps (nodeAt f i) (nodeAt a j) s (node-is a j bj .place) h in (
-        e,
-        leaf-kept (nodeAt f i .height) (nodeAt f i .first) (nodeAt a j .first) s c ∙ ap (λ (k : ℕ). leafAt a k (nodeAt a j .first)) e,
-      )
 
   -- the patches number i of f and j of a begin at places of one height that are joined in a
   data Partner (i j : ℕ) : Type 0 where
@@ -84,22 +50,16 @@ module _ (f : Picture) (xs : List ℕ) (keeps : (k : ℕ) → Keeps (places f) (
   begins : (p : Picture) (x k : ℕ) → x < places p → bottom p x ≡ true → valueAt p x ≡ k → At p k x × (firstAt p k x ≡ x) × (leafAt p k x ≡ true)
   begins p x k b h v = subst (λ (l : ℕ). At p l x × (firstAt p l x ≡ x) × (leafAt p l x ≡ true)) v (bottom-is p x b h)
 
-  first-begins : (p : Picture) (x k : ℕ) → At p k x → leafAt p k x ≡ true → (bottom p (firstAt p k x) ≡ true) × (valueAt p (firstAt p k x) ≡ k)
-  first-begins p x k s l =
-      let v = leaf-sound p k x s l x (start s) in
-      subst (λ (j : ℕ). At p j x → leafAt p j x ≡ true → (bottom p (firstAt p j x) ≡ true) × (valueAt p (firstAt p j x) ≡ j)) v
-      (first-bottom p x) s l
-
   -- each patch of f has a partner
   forth : Accepted f → (i : ℕ) → i < length (patches f) → (j : ℕ) × (j < tally (bottom a) (range 0 (places f))) × Partner i j
   forth ok i h =
-      let (z, b, q, r) = tally-reach (bottom f) (places f) i (subst (λ (m : ℕ). i < m) (patches-count f ok) h) in
+      let (z, b, q, r) = patch-begins f ok i h in
       let k = valueAt f z in
       let (s, e, l) = bottom-is f z b q in
       let t = keeps k .subset z s in
       let w = firstAt a k z in
       let wb = first-at a k z t .within in
-      let (g, v) = first-begins a z k t (leaf-forth k z s l) in (
+      let (g, v) = first-bottom a k z t (leaf-forth k z s l) in (
         tally (bottom a) (range 0 w),
         tally-rises (bottom a) w (places f) wb g,
         partner z w k b wb q g r refl refl v (first-joined a k z t),
@@ -108,7 +68,7 @@ module _ (f : Picture) (xs : List ℕ) (keeps : (k : ℕ) → Keeps (places f) (
   -- and is the partner of one
   back : Accepted f → Accepted a → (j : ℕ) → j < length (patches a) → (i : ℕ) × (i < tally (bottom f) (range 0 (places f))) × Partner i j
   back ok good j h =
-      let (w, b, q, r) = tally-reach (bottom a) (places f) j (subst (λ (m : ℕ). j < m) (patches-count a good) h) in
+      let (w, b, q, r) = patch-begins a good j h in
       let k = valueAt a w in
       let (s, e, l) = bottom-is a w b q in
       let (u, su, c) = keeps k .reaches w s in
@@ -116,7 +76,7 @@ module _ (f : Picture) (xs : List ℕ) (keeps : (k : ℕ) → Keeps (places f) (
       let z = firstAt f k u in
       let d = first-joined f k u su in
       let zb = conn-target d .within in
-      let (g, v) = first-begins f u k su lu in (
+      let (g, v) = first-bottom f k u su lu in (
         tally (bottom f) (range 0 z),
         tally-rises (bottom f) z (places f) zb g,
         partner z w k zb b g q refl r v refl (joined-sym a k (conn-trans c (joined-kept f xs keeps d))),
@@ -165,18 +125,3 @@ patches-kept f h =
     let good = accepted-is (watershed f) (demand-3 f h .accepted) in
     as-many f (watershed f .pixels) (watershed-watered f (ok .size) .keeps) ok (subst Accepted shape good) ∙
     ap (λ (p : Picture). length (patches p)) (sym shape)
-
--- a node and its partner in the watershed are leaves together, of one height
-pub watershed-leaves :
-    (f : Picture) → isPicture f ≡ true → (i j : ℕ) → i < length (nodes f) → j < length (nodes (watershed f)) →
-    partners f (watershed f) (nodeAt f i) (nodeAt (watershed f) j) ≡ true →
-    (nodeAt f i .height ≡ nodeAt (watershed f) j .height) × (leafNode f i ≡ leafNode (watershed f) j)
-watershed-leaves f h i j bi =
-    let ok = accepted-is f h in
-    let shape = watershed-shape f (ok .size) in
-    subst Says (sym shape) (leaf-partners f (watershed f .pixels) (watershed-watered f (ok .size) .keeps) i j bi)
-  where
-    Says : Picture → Type 0
-    Says p =
-        j < length (nodes p) → partners f p (nodeAt f i) (nodeAt p j) ≡ true →
-        (nodeAt f i .height ≡ nodeAt p j .height) × (leafNode f i ≡ leafNode p j)

@@ -7,14 +7,14 @@ use Prim.Native.Nat.{ℕ, zero, suc, _+_, _≤_, _<_}
 use native.Mathlib.Omega.{arith}
 use lib.Dec.{eqb}
 use lib.ListN.{length}
-use borrow.Author.Tests.{eqb-true, eq-eqb}
+use borrow.Author.Tests.{eqb-true, eqb-false}
 use Rattle.lists.specs.Lists.{tally, select, range, isIn, headOf}
 use Rattle.picture.specs.Pictures.{Picture, places, touch}
 use Rattle.picture.specs.Components.{inSection, touchesSome, grown, spread, componentAt}
-use Rattle.lists.proofs.Tests.{and-left, and-right, and-both, or-left, or-right, or-cases, on-elim, same-test, clash}
-use Rattle.lists.proofs.Lists.{any-mem, mem-any, select-mem, mem-select, length-select, tally-stronger, tally-equal, in-mem, mem-in, range-mem, mem-range}
+use Rattle.lists.proofs.Tests.{and-left, and-right, and-both, or-left, or-right, or-cases, on-elim, same-test}
+use Rattle.lists.proofs.Lists.{any-mem, mem-any, length-select, tally-stronger, tally-equal, in-mem, mem-in, mem-range}
 use Rattle.lists.proofs.Positions.{tally-bound}
-use Rattle.lists.proofs.Rising.{Rising, none, more, rising-select, rising-equal, head-in}
+use Rattle.lists.proofs.Rising.{Rising, none, more, rising-select, rising-equal, select-below, below-select, rising-is-select, head-in}
 use Rattle.topology.proofs.Connected.{start, step, conn-source, conn-target, conn-trans, conn-closed}
 use Rattle.topology.proofs.Adjacency.{Adj, At, Joined, adj-sym, joined-sym, section-at, at-section}
 
@@ -32,20 +32,8 @@ module _ (p : Picture) (k : ℕ) where
   module _ (c : List ℕ) (r : Rising 0 c) (low : (y : ℕ) → List·Memᴰ y c → At p k y) where
     -- a rising list of places is what a range selects by membership
     as-select : c ≡ select (λ y. isIn y c) (range 0 (places p))
-    as-select = rising-equal r (rising-select (λ y. isIn y c) 0 (places p)) agree
-      where
-        agree : (y : ℕ) → isIn y c ≡ isIn y (select (λ z. isIn z c) (range 0 (places p)))
-        agree y =
-            same-test (isIn y c) (isIn y (select (λ z. isIn z c) (range 0 (places p))))
-            (λ h.
-            mem-in y (select (λ z. isIn z c) (range 0 (places p)))
-            (mem-select (λ z. isIn z c) (range 0 (places p))
-            (mem-range 0 (places p) (omega arith) (omega (arith, low y (in-mem y c h) .within)))
-            h))
-            (λ h.
-            select-mem (λ z. isIn z c) (range 0 (places p))
-            (in-mem y (select (λ z. isIn z c) (range 0 (places p))) h)
-            .1)
+    as-select =
+        rising-is-select (λ y. isIn y c) (places p) r (λ y m. (low y m .within, mem-in y c m)) (λ y b h. in-mem y c h)
 
     length-tally : length c ≡ tally (λ y. isIn y c) (range 0 (places p))
     length-tally = ap length as-select ∙ length-select (λ y. isIn y c) (range 0 (places p))
@@ -90,14 +78,13 @@ module _ (p : Picture) (k : ℕ) where
     grown-sound : (c : List ℕ) → ((y : ℕ) → List·Memᴰ y c → Joined p k x y) → (y : ℕ) → List·Memᴰ y (grown p k c) → Joined p k x y
     unfolding grows
     grown-sound c f y m =
-        let (i, g) = select-mem (grows c) (range 0 (places p)) m in
+        let (b, g) = select-below (grows c) (places p) m in
         ⊎-elim
         (λ h. f y (in-mem y c h))
         (λ h.
         let (z, mz, t) = any-mem (touch p y) c (and-right (inSection p k y) (touchesSome p y c) h) in
-        let b = range-mem 0 (places p) i in
         step (f z mz) (adj-sym p y z t)
-        (section-at p k y (omega arith) (and-left (inSection p k y) (touchesSome p y c) h)))
+        (section-at p k y b (and-left (inSection p k y) (touchesSome p y c) h)))
         (or-cases (isIn y c) (inSection p k y && touchesSome p y c) g)
 
     spread-reached :
@@ -117,10 +104,9 @@ module _ (p : Picture) (k : ℕ) where
         })
         (λ e.
         let more = grown-more c r (λ y i. conn-target (f y i)) in
-        let other : ¬ (length (grown p k c) ≡ length c) = λ q. clash (eq-eqb (length (grown p k c)) (length c) q) e in
+        let other = eqb-false (length (grown p k c)) (length c) e in
         spread-reached l (grown p k c) (rising-select (grows c) 0 (places p)) (grown-sound c f)
-        (mem-select (grows c) (range 0 (places p))
-        (mem-range 0 (places p) (omega arith) (omega (arith, conn-source (f x m) .within)))
+        (below-select (grows c) (places p) (conn-source (f x m) .within)
         (stays c r (λ y i. conn-target (f y i)) x (mem-in x c m)))
         (omega arith))
 

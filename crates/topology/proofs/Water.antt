@@ -14,7 +14,7 @@ use Rattle.lists.specs.Lists.{pick, range, total}
 use Rattle.picture.specs.Pictures.{Picture, places, valueAt, withPixels}
 use Rattle.picture.specs.Watersheds.{lowerable, bestFrom, best, lowered, waterFrom, watershed}
 use Rattle.lists.proofs.Tests.{and-left, and-right, and-both, or-cases, or-right, on-test, on-pick, on-elim, clash}
-use Rattle.lists.proofs.Numbers.{below-suc}
+use Rattle.lists.proofs.Indices.{below-suc}
 use Rattle.lists.proofs.Sums.{total-lowered}
 use Rattle.topology.proofs.Keeping.{Keeps, Lowers, Fallen, keeps-refl, keeps-compose, lowering-keeps}
 use Rattle.topology.proofs.Adjacency.{Adj, adj-sym}

@@ -16,7 +16,7 @@ use Rattle.topology.proofs.Descent.{under, map-under}
 use Rattle.tree_laws.proofs.Levels.{Level, Upto}
 use Rattle.tree_laws.proofs.Counts.{soFar, so-few}
 use Rattle.lists.specs.Blocks.{UntouchedOutside}
-use Rattle.lists.proofs.Blocks.{kept-refl, kept-set}
+use Rattle.lists.proofs.Blocks.{untouched-refl, untouched-set}
 use Rattle.tree_laws.proofs.Forests.{Forest, Found, Parents, forest-parents}
 use Rattle.tree_laws.proofs.Absorbing.{Classes}
 use Rattle.tree_laws.proofs.Chains.{fathersIn, mapIn, NextOfValue, After, Threads, upto-skip, classes-skip}
@@ -181,7 +181,7 @@ module _ (p : Picture) (k d x q : ℕ) (l w m v : List ℕ) (s : MapFrom p k d x
       (getD-set-same w (2 * places p + x) (getD m (t .r) 0 - 2048) 0 room ∙ says-x)
 
   block : UntouchedOutside (2 * places p) (places p) w v
-  block = subst (UntouchedOutside (2 * places p) (places p) w) (sym work) (kept-set (2 * places p) (places p) x (getD m (t .r) 0 - 2048) w w b (kept-refl (2 * places p) (places p) w))
+  block = subst (UntouchedOutside (2 * places p) (places p) w) (sym work) (untouched-set (2 * places p) (places p) x (getD m (t .r) 0 - 2048) w w b (untouched-refl (2 * places p) (places p) w))
 
   mapped-other : (y : ℕ) → y ≢ x → mapIn p v y ≡ mapIn p w y
   mapped-other y e =

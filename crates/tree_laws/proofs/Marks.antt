@@ -9,7 +9,7 @@ use lib.ListN.{length, getD, set}
 use lib.Seq.{getD-set-same, getD-set-other}
 use Rattle.tree_laws.proofs.Levels.{Merged, left, right, both}
 use Rattle.lists.specs.Blocks.{UntouchedOutside}
-use Rattle.lists.proofs.Blocks.{kept-refl, kept-set, kept-trans}
+use Rattle.lists.proofs.Blocks.{untouched-refl, untouched-set, untouched-trans}
 use Rattle.tree_laws.proofs.Forests.{Hung}
 
 -- a state: 65534, 65535, or the name of a node below n
@@ -40,14 +40,14 @@ pub record LinkedIn (x q r : ℕ) (l m w v : List ℕ) (lo : ℕ) : Type 0 where
 
 pub mark-none : (n s x : ℕ) (w : List ℕ) → 65534 ≤ s → Marked n s x w w
 mark-none n s x w h =
-    record { block = kept-refl n n w; hit = λ i b e g. absurd (omega arith); miss = λ i d. refl }
+    record { block = untouched-refl n n w; hit = λ i b e g. absurd (omega arith); miss = λ i d. refl }
 
 pub mark-some : (n s x t : ℕ) (w : List ℕ) → t ≡ s - 2048 → Names n s → s < 65534 → 2 * n ≤ length w → Marked n s x w (set w (n + t) x)
 mark-some n s x t w e h b room =
     let r = h .root in
     let q = h .node b in
     record {
-      block = kept-set n n t x w w (omega arith) (kept-refl n n w);
+      block = untouched-set n n t x w w (omega arith) (untouched-refl n n w);
       hit =
           λ i c g k.
           let at : n + i ≡ n + t = omega arith in
@@ -57,18 +57,18 @@ mark-some n s x t w e h b room =
 
 pub merge-left : (n x a b : ℕ) (w : List ℕ) → Names n b → a ≡ 65535 → MergedIn n x a b b w w
 merge-left n x a b w h e =
-    record { block = kept-refl n n w; root = h .root; merged = λ g. left e refl (λ i c. refl) }
+    record { block = untouched-refl n n w; root = h .root; merged = λ g. left e refl (λ i c. refl) }
 
 pub merge-right : (n x a b : ℕ) (w : List ℕ) → Names n a → b ≡ 65535 → MergedIn n x a b a w w
 merge-right n x a b w h e =
-    record { block = kept-refl n n w; root = h .root; merged = λ g. right e refl (λ i c. refl) }
+    record { block = untouched-refl n n w; root = h .root; merged = λ g. right e refl (λ i c. refl) }
 
 pub merge-both :
     (n x a b : ℕ) (w u v : List ℕ) → Names n a → Names n b → a ≢ 65535 → b ≢ 65535 → Marked n a x w u → Marked n b x u v →
     MergedIn n x a b 65534 w v
 merge-both n x a b w u v ha hb da db p q =
     record {
-      block = kept-trans n n w u v (p .block) (q .block);
+      block = untouched-trans n n w u v (p .block) (q .block);
       root = omega arith;
       merged =
           λ few.

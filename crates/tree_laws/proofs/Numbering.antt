@@ -16,11 +16,10 @@ use Rattle.lists.proofs.Lists.{select-mem, mem-select, length-select, tally-str
 use Rattle.lists.proofs.Rising.{rising-select, rising-equal, rising-map}
 use borrow.Author.Tests.{not-true}
 use Rattle.topology.proofs.Connected.{start, conn-target}
-use Rattle.topology.proofs.Adjacency.{At, Joined, joined-sym}
+use Rattle.topology.proofs.Adjacency.{At, Joined, joined-sym, joined-mono}
 use Rattle.topology.proofs.Reached.{firstAt, first-joined, first-least, first-at}
 use Rattle.topology.proofs.Parts.{isFirst, first-is, is-first}
 use Rattle.topology.proofs.Accepted.{Accepted, places-bound}
-use Rattle.topology.proofs.Branches.{joined-mono}
 use Rattle.topology.proofs.Nodes.{node, isNode, nodes-at, node-equal, number-found, nodes-few}
 use Rattle.topology.proofs.Descent.{under, under-same, under-fork}
 use Rattle.tree_laws.proofs.Counts.{soFar, so-few, so-next, so-at}

@@ -11,7 +11,7 @@ use Rattle.picture.specs.Geometry.{neighboursIn, Placed}
 use Rattle.topology.proofs.Accepted.{Accepted, placed}
 use Rattle.tree_laws.proofs.Levels.{Upto}
 use Rattle.lists.specs.Blocks.{UntouchedOutside}
-use Rattle.lists.proofs.Blocks.{kept-refl, kept-trans}
+use Rattle.lists.proofs.Blocks.{untouched-refl, untouched-trans}
 use Rattle.tree_laws.proofs.Forests.{Found, Parents, forest-parents}
 use Rattle.tree_laws.proofs.Absorbing.{Classes, Near, near-start, near-end}
 use Rattle.tree_laws.proofs.Chains.{fathersIn, mapIn, NextOfValue, Threads, classes-skip, EdgeReady, EdgeDone}
@@ -59,7 +59,7 @@ module _ (p : Picture) (k x : ℕ) where
         room = a .room;
         most = omega arith;
         near = near-start p (a .ok) k x r l m (fathersIn p w) (a .classes) b (a .is b) f;
-        block = kept-refl (places p) (places p) w;
+        block = untouched-refl (places p) (places p) w;
       }
 
   pub edge-ready : (i r y : ℕ) (l w v : List ℕ) → Joining p k x i r l w v → i < length (neighboursIn p x) → y ≡ getD (neighboursIn p x) i 0 → EdgeReady (p .pixels) k x r y l v
@@ -86,7 +86,7 @@ module _ (p : Picture) (k x : ℕ) where
         near =
             subst (λ (j : ℕ). Near p k x j q m (fathersIn p u)) (sym (add-one i))
             (d .near p i (a .ok) refl (record { listed = b; is = e }) (a .near));
-        block = kept-trans (places p) (places p) w v u (a .block) block;
+        block = untouched-trans (places p) (places p) w v u (a .block) block;
       }
 
   pub joining-end :

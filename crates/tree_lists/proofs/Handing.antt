@@ -10,7 +10,8 @@ use Rattle.topology.proofs.Nodes.{nodes-few, node-is}
 use Rattle.topology.proofs.TreeLists.{length-heights, length-fathers, length-firsts, length-map-of, heights-at, fathers-at, firsts-at, map-at}
 use Rattle.lists.specs.Lists.{over}
 use Rattle.lists.proofs.Cuts.{over-same}
-use Rattle.lists.proofs.Copies.{Copied, copy-end}
+use Rattle.lists.proofs.Blocks.{overwritten-front}
+use Rattle.lists.proofs.Copies.{Copied}
 use Rattle.lists.specs.Blocks.{blockEntry}
 use Rattle.tree.specs.Built.{Built}
 use Rattle.tree_lists.specs.Lists.{Bytes, Handed}
@@ -40,19 +41,19 @@ module _ (p : Picture) (r : ℕ) (work after cells left : List ℕ) (built : Bui
 
     pub heights-handed : Copied after 0 r old new → new ≡ over (treeOf p .heights) old
     heights-handed c =
-        copy-end after 0 old new r (treeOf p .heights) (length-heights p ∙ sym (built .count)) enough
+        overwritten-front _ old new r (treeOf p .heights) (length-heights p ∙ sym (built .count)) enough
         (λ i h. built .tree .heights i (below i h) ∙ sym (heights-at p i (below i h)))
         c
 
     pub fathers-handed : (n : ℕ) → n ≡ places p → Copied after n r old new → new ≡ over (treeOf p .fathers) old
     fathers-handed n e c =
-        copy-end after n old new r (treeOf p .fathers) (length-fathers p ∙ sym (built .count)) enough
+        overwritten-front _ old new r (treeOf p .fathers) (length-fathers p ∙ sym (built .count)) enough
         (λ i h. ap (λ (k : ℕ). blockEntry after k i) e ∙ (built .tree .fathers i (below i h) ∙ sym (fathers-at p i (below i h))))
         c
 
     pub firsts-handed : (n : ℕ) → n ≡ places p → Copied after (3 * n) r old new → new ≡ over (treeOf p .firsts) old
     firsts-handed n e c =
-        copy-end after (3 * n) old new r (treeOf p .firsts) (length-firsts p ∙ sym (built .count)) enough
+        overwritten-front _ old new r (treeOf p .firsts) (length-firsts p ∙ sym (built .count)) enough
         (λ i h. ap (λ (k : ℕ). blockEntry after (3 * k) i) e ∙ (built .tree .firsts i (below i h) ∙ sym (firsts-at p i (below i h))))
         c
 
@@ -61,7 +62,7 @@ module _ (p : Picture) (r : ℕ) (work after cells left : List ℕ) (built : Bui
       (n : ℕ) (new : List ℕ) → n ≡ places p → places p ≤ length cells → Copied after (2 * n) n left new → new ≡ over (treeOf p .map) cells
   map-handed n new e room c =
       let s = built .size in
-      copy-end after (2 * n) left new n (treeOf p .map) (length-map-of p ∙ sym e) (omega (arith, s, e, room))
+      overwritten-front _ left new n (treeOf p .map) (length-map-of p ∙ sym e) (omega (arith, s, e, room))
       (λ x h. let b : x < places p = omega (arith, e, h) in ap (λ (k : ℕ). blockEntry after (2 * k) x) e ∙ (built .tree .map x b ∙ sym (map-at p x b)))
       c ∙
       over-same (places p) (treeOf p .map) (length-map-of p) left cells (built .rest)

@@ -10,7 +10,7 @@ use native.Mathlib.Decide.{decLt}
 use native.Mathlib.Omega.{arith}
 use lib.ListN.{length, getD}
 use Rattle.lists.specs.Blocks.{Filled}
-use Rattle.lists.proofs.Blocks.{filled-entry}
+use Rattle.lists.proofs.Blocks.{overwritten-entry}
 use Rattle.picture.specs.Pictures.{Picture, places, isPicture}
 use Rattle.lists.proofs.Tests.{clash}
 use Rattle.topology.proofs.Accepted.{accepted-is, byte-at, places-bound}
@@ -32,7 +32,7 @@ module _ (p : Picture) (count : ℕ) (hs fs ss m : List ℕ) where
   pub verified-start : (n : ℕ) (o l : List ℕ) → isPicture p ≡ true → length o ≡ places p → Filled 0 n 65535 o l → n ≡ places p → Verified p 0 0 count l hs fs ss m
   verified-start n o l ok size f e =
       let same = f .kept .size in
-      let none = filled-entry f in
+      let none = overwritten-entry f in
       record {
         checking =
             record {

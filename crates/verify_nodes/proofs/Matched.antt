@@ -16,8 +16,7 @@ use Rattle.picture.specs.Trees.{Node, nodes, nodeAt, numberOf, mapOf}
 use Rattle.topology.proofs.Adjacency.{At}
 use Rattle.topology.proofs.Accepted.{places-bound}
 use Rattle.topology.proofs.Nodes.{node, number-found, nodes-few, heights-rise}
-use Rattle.topology.proofs.Descent.{under, map-under}
-use Rattle.topology.proofs.Fathers.{map-found}
+use Rattle.topology.proofs.Descent.{under, map-under, map-found}
 use Rattle.tree_laws.proofs.Levels.{Level}
 use Rattle.tree_laws.proofs.Counts.{soFar}
 use Rattle.tree_laws.proofs.Numbering.{Member, RootsListed, Numbered, root-first, free-fork, number-new, count-next, next-level, named-all, edges-next}

@@ -15,7 +15,7 @@ use Rattle.lists.proofs.Tests.{and-both, not-of-false}
 use Rattle.lists.proofs.Lists.{mem-select, mem-range, getD-map}
 use Rattle.lists.proofs.Rising.{rising-select}
 use Rattle.topology.proofs.Parts.{is-first}
-use Rattle.lists.proofs.Numbers.{mem-index, rising-at}
+use Rattle.lists.proofs.Indices.{mem-index, rising-at}
 use Rattle.topology.proofs.Nodes.{node, isNode, nodes-at, node-is, node-equal}
 use Rattle.tree_laws.proofs.Counts.{soFar, so-next, so-few, so-at}
 

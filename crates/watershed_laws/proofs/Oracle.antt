@@ -6,36 +6,7 @@ use native.Mathlib.Decide.{ℕ-discrete, decLe, decLt}
 use native.Mathlib.Omega.{arith}
 use Rattle.topology.proofs.Connected.{Conn, start, conn-trans, conn-sym, conn-edge, conn-mono}
 use Rattle.lists.proofs.Updates.{put}
-use Rattle.topology.proofs.Keeping.{Sec, Keeps, Lowers, Fallen, put-fallen, keeps-compose, keeps-same, lowering-keeps}
-
--- sections of values that differ at x alone agree at a height where x is in both or in neither
-same-sections :
-    {n : ℕ} {v w : ℕ → ℕ} {x s : ℕ} → Fallen v w x s → (j : ℕ) →
-    (v x ≤ j → s ≤ j) → (s ≤ j → v x ≤ j) → (y : ℕ) → Sec n v j y ↔ Sec n w j y
-same-sections {n} {v} {w} {x} {s} e j f g y =
-    by-cases (ℕ-discrete y x)
-    (λ q.
-    let a = e .at in (
-      λ t.
-          record {
-            within = t .within;
-            low =
-                subst (λ (z : ℕ). w z ≤ j) (sym q)
-                (let h = f (subst (λ (z : ℕ). v z ≤ j) q (t .low)) in omega arith);
-          },
-      λ t.
-          record {
-            within = t .within;
-            low =
-                subst (λ (z : ℕ). v z ≤ j) (sym q)
-                (g (let h = subst (λ (z : ℕ). w z ≤ j) q (t .low) in omega arith));
-          },
-    ))
-    (λ q.
-    let a = e .other y q in (
-      λ t. record { within = t .within; low = omega (arith, t .low) },
-      λ t. record { within = t .within; low = omega (arith, t .low) },
-    ))
+use Rattle.topology.proofs.Keeping.{Sec, Keeps, Lowers, Fallen, put-fallen, same-sections, keeps-compose, keeps-same, lowering-keeps}
 
 -- x can fall to s: from height s up to its own its neighbours in the section are joined to one of least value
 pub record Drops (n : ℕ) (R : ℕ → ℕ → Type 0) (v : ℕ → ℕ) (x low s : ℕ) : Type 0 where

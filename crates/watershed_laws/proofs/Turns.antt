@@ -14,7 +14,7 @@ use Rattle.picture.specs.Trees.{nodes, nodeAt, fatherOf, mapOf}
 use Rattle.picture.specs.Watersheds.{lowerable, watershed}
 use Rattle.topology.proofs.Accepted.{Accepted, places-bound}
 use Rattle.topology.proofs.Nodes.{nodes-few}
-use Rattle.topology.proofs.Fathers.{map-found}
+use Rattle.topology.proofs.Descent.{map-found}
 use Rattle.topology.proofs.Climb.{father-of, father-greater}
 use Rattle.topology.proofs.Water.{Leads, less, ties}
 use Rattle.watershed_laws.proofs.TreeOracle.{tree-oracle}

@@ -6,11 +6,12 @@ use native.Mathlib.Omega.{arith}
 use lib.ListN.{length}
 use Rattle.picture.specs.Pictures.{Picture, pictureOf}
 use Rattle.topology.proofs.Accepted.{Accepted, accepted-is}
+use Rattle.topology.proofs.PatchBounds.{line-few}
 use Rattle.patches.specs.Figures.{PatchMap}
 use Rattle.lists.specs.Writing.{Written}
 use Rattle.lists.proofs.Writings.{written-then, written-length}
 use Rattle.answers.proofs.Calls.{lent-length}
-use Rattle.hold_list.proofs.Figured.{line-few, count-most, figured-lists, list-is}
+use Rattle.hold_list.proofs.Figured.{count-most, figured-lists, list-is}
 use borrow.Author.Needs.{needs}
 use Rattle.hold_list.proofs.put_list.Statement.{statement}
 use Rattle.hold_list.proofs.put_list.Tie as tie

@@ -9,7 +9,7 @@ use Rattle.p5.proofs.Answers.{answer-within}
 use Rattle.lists.specs.Writing.{Written}
 use Rattle.hold_lines.specs.Lines.{refusedLine}
 use Rattle.hold_list.specs.HoldText.{pictureIn, holdList}
-use Rattle.hold_list.proofs.Figured.{from}
+use Rattle.lists.proofs.Cuts.{from}
 use Rattle.hold_list.proofs.Texts.{text-long, text-refused, text-list, file-picture, read-picture}
 use borrow.Author.Needs.{needs}
 use Rattle.hold_list.proofs.put_text.Statement.{statement}

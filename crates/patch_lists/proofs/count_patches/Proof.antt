@@ -1,8 +1,8 @@
 -- `patch_lists::count_patches` meets its contract: the local array has a cell for each pixel.
 use mathlib.Core.Path.{sym, _∙_}
 use Rattle.picture.specs.Pictures.{Picture, pictureOf}
-use Rattle.topology.proofs.Accepted.{accepted-is}
-use Rattle.patch_lists.proofs.PatchLists.{pixels-few, cells-lent}
+use Rattle.topology.proofs.Accepted.{accepted-is, pixels-few}
+use Rattle.patch_lists.proofs.PatchLists.{cells-lent}
 use borrow.Author.Needs.{needs}
 use Rattle.patch_lists.proofs.count_patches.Statement.{statement}
 use Rattle.patch_lists.proofs.count_patches.Tie as tie

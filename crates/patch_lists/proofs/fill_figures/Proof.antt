@@ -5,8 +5,8 @@ use native.Mathlib.Omega.{arith}
 use lib.ListN.{length}
 use Rattle.picture.specs.Pictures.{Picture, pictureOf}
 use Rattle.answers.proofs.Calls.{lent-length}
-use Rattle.topology.proofs.Accepted.{accepted-is}
-use Rattle.patch_lists.proofs.PatchLists.{pixels-few, cells-lent, figured}
+use Rattle.topology.proofs.Accepted.{accepted-is, pixels-few}
+use Rattle.patch_lists.proofs.PatchLists.{cells-lent, figured}
 use borrow.Author.Needs.{needs}
 use Rattle.patch_lists.proofs.fill_figures.Statement.{statement}
 use Rattle.patch_lists.proofs.fill_figures.Tie as tie

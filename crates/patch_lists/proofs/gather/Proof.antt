@@ -3,10 +3,12 @@ use mathlib.Core.Path.{_≡_, sym, _∙_}
 use native.Mathlib.Omega.{arith}
 use lib.ListN.{length}
 use Rattle.picture.specs.Pictures.{Picture, pictureOf}
+use Rattle.topology.proofs.Accepted.{accepted-is}
+use Rattle.topology.proofs.PatchBounds.{patches-few}
 use Rattle.patch_lists.specs.PatchLists.{listFault}
 use Rattle.faults.proofs.Faults.{admitted}
 use Rattle.faults.specs.Faults.{Admitted}
-use Rattle.patch_lists.proofs.PatchLists.{list-enough, patches-few, gathered-refused, gathered-accepted}
+use Rattle.patch_lists.proofs.PatchLists.{list-enough, gathered-refused, gathered-accepted}
 use borrow.Author.Needs.{needs}
 use Rattle.patch_lists.proofs.gather.Statement.{statement}
 use Rattle.patch_lists.proofs.gather.Tie as tie
@@ -47,7 +49,7 @@ cast-accepted : tie.Need-cast-accepted
 cast-accepted c =
     let e = c .before .before .before .before in
     let s = origin e in
-    record { fits = omega (arith, c .before .before .fill-figures .ensures .count, patches-few (pictured s) (allowed e .picture)) }
+    record { fits = omega (arith, c .before .before .fill-figures .ensures .count, patches-few (pictured s) (accepted-is (pictured s) (allowed e .picture))) }
 
 accepted-requires : tie.Need-accepted-requires
 accepted-requires c κs = search needs

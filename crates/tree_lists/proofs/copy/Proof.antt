@@ -3,7 +3,8 @@ use mathlib.Core.Path.{refl}
 use Prim.Native.Nat.{_-_, _≤_}
 use native.Mathlib.Omega.{arith}
 use borrow.Author.Needs.{needs}
-use Rattle.lists.proofs.Copies.{Copied, copy-whole, copy-start, copy-turn}
+use Rattle.lists.proofs.Blocks.{overwritten-start, overwritten-next, overwritten-end}
+use Rattle.lists.proofs.Copies.{Copied}
 use Rattle.tree_lists.proofs.copy.Statement.{statement}
 use Rattle.tree_lists.proofs.copy.Tie as tie
 
@@ -14,7 +15,7 @@ abbrev μ-loop : tie.MeasureT-loop
 μ-loop from b to₀ m i₀ to i = m - i
 
 loop-holds : tie.Need-loop-holds Inv-loop μ-loop
-loop-holds c = (search needs, copy-start _ _ _)
+loop-holds c = (search needs, overwritten-start _ _ _)
 
 add-to : tie.Need-add-to Inv-loop μ-loop
 add-to c = search needs
@@ -38,13 +39,13 @@ loop-less : tie.Need-loop-less Inv-loop μ-loop
 loop-less c = search needs
 
 loop-again : tie.Need-loop-again Inv-loop μ-loop
-loop-again c = (search needs, copy-turn _ _ _ _ _ _ refl (c .before .before .loop .inv .1) (search needs))
+loop-again c = (search needs, overwritten-next _ _ _ _ _ (search needs) refl (c .before .before .loop .inv .1))
 
 same-length : tie.Need-same-length Inv-loop μ-loop
 same-length c = search needs
 
 returns : tie.Need-returns Inv-loop μ-loop
-returns c = copy-whole (omega arith) (c .before .loop .inv .1)
+returns c = overwritten-end (omega arith) (c .before .loop .inv .1)
 
 pub copy-spec : {M : Type 1} → statement M
 copy-spec =

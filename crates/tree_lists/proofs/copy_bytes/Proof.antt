@@ -4,7 +4,8 @@ use Prim.Native.Nat.{ℕ, _+_, _-_, _≤_}
 use native.Mathlib.Omega.{arith}
 use lib.ListN.{getD}
 use borrow.Author.Needs.{needs}
-use Rattle.lists.proofs.Copies.{Copied, copy-whole, copy-start, copy-turn}
+use Rattle.lists.proofs.Blocks.{overwritten-start, overwritten-next, overwritten-end}
+use Rattle.lists.proofs.Copies.{Copied}
 use Rattle.tree_lists.proofs.copy_bytes.Statement.{statement}
 use Rattle.tree_lists.proofs.copy_bytes.Tie as tie
 
@@ -15,7 +16,7 @@ abbrev μ-loop : tie.MeasureT-loop
 μ-loop from to₀ m i₀ to i = m - i
 
 loop-holds : tie.Need-loop-holds Inv-loop μ-loop
-loop-holds c = (search needs, copy-start _ _ _)
+loop-holds c = (search needs, overwritten-start _ _ _)
 
 mul-to : tie.Need-mul-to Inv-loop μ-loop
 mul-to c = search needs
@@ -41,13 +42,13 @@ loop-again c =
     let i = c .before .before .loop .i in
     let from = c .before .before .before .args .from .now in
     let e : getD from i 0 ≡ getD from (0 + i) 0 = ap (λ (j : ℕ). getD from j 0) {y = 0 + i} (omega arith) in
-    (search needs, copy-turn from 0 _ _ i _ e (c .before .before .loop .inv .1) (search needs))
+    (search needs, overwritten-next _ i _ _ _ (search needs) e (c .before .before .loop .inv .1))
 
 same-length : tie.Need-same-length Inv-loop μ-loop
 same-length c = search needs
 
 returns : tie.Need-returns Inv-loop μ-loop
-returns c = copy-whole (omega arith) (c .before .loop .inv .1)
+returns c = overwritten-end (omega arith) (c .before .loop .inv .1)
 
 pub copy-bytes-spec : {M : Type 1} → statement M
 copy-bytes-spec =

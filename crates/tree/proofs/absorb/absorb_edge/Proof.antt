@@ -1,6 +1,6 @@
 -- `tree::absorb::absorb_edge` meets its contract.
 use Rattle.tree_laws.proofs.Chains.{comes-is, edge-bounds, edge-parents, join-ready, done-skip, done-same, done-linked}
-use Rattle.lists.proofs.Blocks.{kept-refl}
+use Rattle.lists.proofs.Blocks.{untouched-refl}
 use borrow.Author.Tests.{not-true, not-false}
 use native.Mathlib.Omega.{arith}
 use borrow.Author.Needs.{needs}
@@ -12,7 +12,7 @@ comes-before-requires c κs = edge-bounds _ _ _ _ _ _ _ (c .before .before .befo
 
 returns : tie.Need-returns
 returns c = let t = c .before .comes-before in
-    done-skip _ _ _ _ _ _ _ (comes-is (not-true (t .result) (c .if1 .taken)) (t .ensures)) (kept-refl _ _ _)
+    done-skip _ _ _ _ _ _ _ (comes-is (not-true (t .result) (c .if1 .taken)) (t .ensures)) (untouched-refl _ _ _)
 
 find-requires : tie.Need-find-requires
 find-requires c κs = (edge-parents _ _ _ _ _ _ _ (c .before .before .before .before .before .before .pre), edge-bounds _ _ _ _ _ _ _ (c .before .before .before .before .before .before .pre) .1)
@@ -22,7 +22,7 @@ same-length c = search needs
 
 returns-2 : tie.Need-returns-2
 returns-2 c = let t = c .before .before .before .before .before .before .comes-before in
-    done-same _ _ _ _ _ _ _ (comes-is (not-false (t .result) (c .before .before .before .before .before .if1 .left)) (t .ensures)) _ _ (c .before .before .before .find .ensures) (c .if2 .taken) (kept-refl _ _ _)
+    done-same _ _ _ _ _ _ _ (comes-is (not-false (t .result) (c .before .before .before .before .before .if1 .left)) (t .ensures)) _ _ (c .before .before .before .find .ensures) (c .if2 .taken) (untouched-refl _ _ _)
 
 join-requires : tie.Need-join-requires
 join-requires c κs = let t = c .before .before .before .before .before .before .before .before .comes-before in

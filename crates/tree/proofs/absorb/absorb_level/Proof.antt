@@ -2,7 +2,7 @@
 use Rattle.picture.specs.Pictures.{pictureOf}
 use Rattle.tree_laws.proofs.Walks.{WalkReady, ready-end}
 use Rattle.lists.specs.Blocks.{UntouchedOutside}
-use Rattle.lists.proofs.Blocks.{kept-refl, kept-trans}
+use Rattle.lists.proofs.Blocks.{untouched-refl, untouched-trans}
 use mathlib.Core.Path.{sym, _∙_}
 use native.Mathlib.Omega.{arith}
 use Prim.Native.Nat.{_-_, _*_}
@@ -17,7 +17,7 @@ abbrev μ-loop : tie.MeasureT-loop
 μ-loop a w h pixels work₀ cells₀ k head x₀ work cells x = w * h - x
 
 loop-holds : tie.Need-loop-holds Inv-loop μ-loop
-loop-holds c = (c .before .before .before .pre, kept-refl _ _ _)
+loop-holds c = (c .before .before .before .pre, untouched-refl _ _ _)
 
 absorb-requires : tie.Need-absorb-requires Inv-loop μ-loop
 absorb-requires c κs = (c .before .before .before .loop .inv .0, c .before .before .loop-test .taken)
@@ -27,7 +27,7 @@ loop-less c = let i = c .before .before .before .before .before .before .before 
     omega (arith, i .classes .size, c .before .before .before .before .before .before .before .loop-test .taken, c .before .before .before .before .absorb .ensures .more)
 
 loop-again : tie.Need-loop-again Inv-loop μ-loop
-loop-again c = (c .before .before .before .before .absorb .ensures .ready, kept-trans _ _ _ _ _ (c .before .before .before .before .before .before .before .before .loop .inv .1) (c .before .before .before .before .absorb .ensures .block))
+loop-again c = (c .before .before .before .before .absorb .ensures .ready, untouched-trans _ _ _ _ _ (c .before .before .before .before .before .before .before .before .loop .inv .1) (c .before .before .before .before .absorb .ensures .block))
 
 same-length : tie.Need-same-length Inv-loop μ-loop
 same-length c = search needs

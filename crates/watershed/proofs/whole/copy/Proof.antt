@@ -3,7 +3,8 @@ use mathlib.Core.Path.{_≡_, ap}
 use Prim.Native.Nat.{ℕ, _+_, _-_, _≤_}
 use native.Mathlib.Omega.{arith}
 use lib.ListN.{length, getD}
-use Rattle.lists.proofs.Copies.{Copied, copy-start, copy-turn, copy-all}
+use Rattle.lists.proofs.Blocks.{overwritten-start, overwritten-next}
+use Rattle.lists.proofs.Copies.{Copied, copy-all}
 use borrow.Author.Needs.{needs}
 use Rattle.watershed.proofs.whole.copy.Statement.{statement}
 use Rattle.watershed.proofs.whole.copy.Tie as tie
@@ -15,7 +16,7 @@ abbrev μ-loop : tie.MeasureT-loop
 μ-loop from to₀ i₀ to i = length from - i
 
 loop-holds : tie.Need-loop-holds Inv-loop μ-loop
-loop-holds c = (copy-start _ _ _, search needs)
+loop-holds c = (overwritten-start _ _ _, search needs)
 
 shared-slice-read-to : tie.Need-shared-slice-read-to Inv-loop μ-loop
 shared-slice-read-to c = search needs
@@ -34,7 +35,7 @@ loop-again c =
     let l = c .before .before .loop in
     let from = c .before .before .before .args .from .now in
     let e : getD from (l .i) 0 ≡ getD from (0 + l .i) 0 = ap (λ (j : ℕ). getD from j 0) {y = 0 + l .i} (omega arith) in
-    (copy-turn from 0 _ _ (l .i) _ e (l .inv .0) (search needs), search needs)
+    (overwritten-next _ (l .i) _ _ _ (search needs) e (l .inv .0), search needs)
 
 same-length : tie.Need-same-length Inv-loop μ-loop
 same-length c = search needs

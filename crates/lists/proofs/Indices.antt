@@ -16,6 +16,10 @@ use Rattle.lists.proofs.Rising.{Rising, none, more, rising-from}
 pub below-suc : (x : ℕ) (P : ℕ → Type 0) → ((y : ℕ) → y < x → P y) → P x → (y : ℕ) → y < suc x → P y
 below-suc x P f g y h = by-cases (ℕ-discrete y x) (λ e. subst P (sym e) g) (λ d. f y (omega arith))
 
+-- what holds of k, and of h if h is greater
+pub from-next : (P : ℕ → Type 0) (k h : ℕ) → k ≤ h → P k → (suc k ≤ h → P h) → P h
+from-next P k h a e f = by-cases (ℕ-discrete k h) (λ i. subst P i e) (λ d. f (omega arith))
+
 pub mem-index : {A : Type 0} (d : A) {x : A} {l : List A} → List·Memᴰ x l → (i : ℕ) × (i < length l) × (getD l i d ≡ x)
 mem-index d (List·Memᴰ·head e) = (0, omega arith, sym e)
 mem-index d (List·Memᴰ·tail m) = let (i, b, e) = mem-index d m in (suc i, omega arith, e)
