@@ -16,33 +16,19 @@ use Rattle.topology.proofs.Accepted.{Accepted, byte-at, places-bound}
 use Rattle.topology.proofs.Nodes.{nodes-few}
 use Rattle.tree_laws.proofs.Beneath.{Low, beneath, beneath-number}
 use Rattle.lists.proofs.Updates.{put}
-use Rattle.tree_laws.proofs.Levels.{relink, relink-moved, relink-kept, relink-same, State, nothing, single, several, Level, Upto, Edges, edges-lower, Merged, merged-exchange, met, met-number, linked}
-use Rattle.tree_laws.proofs.Counts.{soFar}
+use Rattle.tree_laws.proofs.Levels.{relink, relink-moved, relink-kept, relink-same, State, nothing, single, several, Upto, upto-before, edges-lower, Merged, merged-exchange, met, met-number, linked}
 use Rattle.tree_laws.proofs.Forests.{Forest, Found, root-cell, Ordered, ordered-less, in-order, forest-link}
 use Rattle.tree_laws.proofs.Marks.{Names}
-
--- the cells hold the classes at height k, with the neighbours up to x joined
-pub record Classes (p : Picture) (k x : ℕ) (l : List ℕ) (fa : ℕ → ℕ) : Type 0 where
-  pub root : ℕ → ℕ
-  pub st : ℕ → ℕ
-  pub size : length l ≡ places p
-  pub forest : Forest l root st
-  pub level : Level p k (soFar p k) root st fa
-  pub edges : Edges p k x root
+use Rattle.tree_laws.proofs.Classes.{Classes, classes-cells, classes-found}
 
 -- x, with the root r, is joined to the first j of its neighbours
 pub record Near (p : Picture) (k x j r : ℕ) (l : List ℕ) (fa : ℕ → ℕ) : Type 0 where
-  pub root : ℕ → ℕ
-  pub st : ℕ → ℕ
-  pub size : length l ≡ places p
+  pub classes : Classes p k x l fa
   pub low : k ≤ 255
-  pub forest : Forest l root st
-  pub level : Level p k (soFar p k) root st fa
-  pub edges : Edges p k x root
   pub within : x < places p
   pub value : valueAt p x ≡ k
-  pub is : root x ≡ r
-  pub seen : (i : ℕ) → i < j → Upto p k x (getD (neighboursIn p x) i 0) → root (getD (neighboursIn p x) i 0) ≡ root x
+  pub is : classes .root x ≡ r
+  pub seen : (i : ℕ) → i < j → Upto p k x (getD (neighboursIn p x) i 0) → classes .root (getD (neighboursIn p x) i 0) ≡ classes .root x
 
 -- y is the neighbour j of x
 pub record Edge (p : Picture) (x j y : ℕ) : Type 0 where
@@ -73,13 +59,8 @@ module _ (p : Picture) (ok : Accepted p) (k x : ℕ) where
   pub near-start : (r : ℕ) (l m : List ℕ) (fa : ℕ → ℕ) → Classes p k x l fa → x < places p → valueAt p x ≡ k → Found l x r m → Near p k x 0 r m fa
   near-start r l m fa c b v f =
       record {
-        root = c .root;
-        st = c .st;
-        size = f .size ∙ c .size;
+        classes = classes-found p k x l fa c f;
         low = let h = byte-at (p .pixels) (ok .bytes) x in omega arith;
-        forest = f .keeps (c .root) (c .st) (c .forest);
-        level = c .level;
-        edges = c .edges;
         within = b;
         value = v;
         is = f .is (c .root) (c .st) (c .forest);
@@ -89,12 +70,13 @@ module _ (p : Picture) (ok : Accepted p) (k x : ℕ) where
   -- all neighbours: the edges of x are done
   pub near-end : (r : ℕ) (l : List ℕ) (fa : ℕ → ℕ) → Near p k x (length (neighboursIn p x)) r l fa → Classes p k (suc x) l fa
   near-end r l fa n =
+      let c = n .classes in
       record {
-        root = n .root;
-        st = n .st;
-        size = n .size;
-        forest = n .forest;
-        level = n .level;
+        root = c .root;
+        st = c .st;
+        size = c .size;
+        forest = c .forest;
+        level = c .level;
         edges =
             record {
               same =
@@ -102,26 +84,25 @@ module _ (p : Picture) (ok : Accepted p) (k x : ℕ) where
                   by-cases (ℕ-discrete y x)
                   (λ e.
                   by-cases (ℕ-discrete z x)
-                  (λ g. ap (n .root) (e ∙ sym g))
-                  (λ g. ap (n .root) e ∙ sym (done z (before z g b) (subst (λ (u : ℕ). Adj p u z) e t))))
+                  (λ g. ap (c .root) (e ∙ sym g))
+                  (λ g. ap (c .root) e ∙ sym (done z (upto-before p k x z g b) (subst (λ (u : ℕ). Adj p u z) e t))))
                   (λ d.
                   by-cases (ℕ-discrete z x)
-                  (λ g. done y (before y d a) (adj-sym p y x (subst (λ (u : ℕ). Adj p y u) g t)) ∙ ap (n .root) (sym g))
-                  (λ g. n .edges .same y z (before y d a) (before z g b) t));
+                  (λ g. done y (upto-before p k x y d a) (adj-sym p y x (subst (λ (u : ℕ). Adj p y u) g t)) ∙ ap (c .root) (sym g))
+                  (λ g. c .edges .same y z (upto-before p k x y d a) (upto-before p k x z g b) t));
             };
       }
     where
-      before : (y : ℕ) → y ≢ x → Upto p k (suc x) y → Upto p k x y
-      before y d u =
-          record { within = u .within; passed = ⊎-elim (λ h. inl h) (λ h. let g = h .1 in inr (h .0, omega arith)) (u .passed) }
-
-      done : (y : ℕ) → Upto p k x y → Adj p x y → n .root y ≡ n .root x
+      done : (y : ℕ) → Upto p k x y → Adj p x y → n .classes .root y ≡ n .classes .root x
       done y u t =
           let (i, b, e) = neighbour-index p x y (ok .some) (u .within) t in
-          ap (n .root) (sym e) ∙ n .seen i b (subst (Upto p k x) (sym e) u)
+          ap (n .classes .root) (sym e) ∙ n .seen i b (subst (Upto p k x) (sym e) u)
 
   module _ (j r : ℕ) (l : List ℕ) (fa : ℕ → ℕ) (n : Near p k x j r l fa) where
-    seen-next : (new : ℕ → ℕ) → ((y z : ℕ) → n .root y ≡ n .root z → new y ≡ new z) → (y : ℕ) → Edge p x j y → (Upto p k x y → new y ≡ new x) →
+    abbrev cs : Classes p k x l fa
+    cs = n .classes
+
+    seen-next : (new : ℕ → ℕ) → ((y z : ℕ) → cs .root y ≡ cs .root z → new y ≡ new z) → (y : ℕ) → Edge p x j y → (Upto p k x y → new y ≡ new x) →
         (i : ℕ) → i < suc j → Upto p k x (getD (neighboursIn p x) i 0) → new (getD (neighboursIn p x) i 0) ≡ new x
     seen-next new same y e f i b u =
         by-cases (ℕ-discrete i j)
@@ -131,40 +112,35 @@ module _ (p : Picture) (ok : Accepted p) (k x : ℕ) where
         (λ d. same (getD (neighboursIn p x) i 0) x (n .seen i (omega arith) u))
 
     -- the next neighbour is still to come or has the same root
-    near-next : (m : List ℕ) → length m ≡ length l → Forest m (n .root) (n .st) → (y : ℕ) → Edge p x j y → (Upto p k x y → n .root y ≡ n .root x) → Near p k x (suc j) r m fa
+    near-next : (m : List ℕ) → length m ≡ length l → Forest m (cs .root) (cs .st) → (y : ℕ) → Edge p x j y → (Upto p k x y → cs .root y ≡ cs .root x) → Near p k x (suc j) r m fa
     near-next m size forest y e f =
         record {
-          root = n .root;
-          st = n .st;
-          size = size ∙ n .size;
+          classes = classes-cells p k x l fa cs m size forest;
           low = n .low;
-          forest = forest;
-          level = n .level;
-          edges = n .edges;
           within = n .within;
           value = n .value;
           is = n .is;
-          seen = seen-next (n .root) (λ a b q. q) y e f;
+          seen = seen-next (cs .root) (λ a b q. q) y e f;
         }
 
     pub near-skip : (y : ℕ) → Edge p x j y → (Upto p k x y → ⊥) → Near p k x (suc j) r l fa
-    near-skip y e d = near-next l refl (n .forest) y e (λ u. absurd (d u))
+    near-skip y e d = near-next l refl (cs .forest) y e (λ u. absurd (d u))
 
     -- a root's cell is a state
-    near-names : (m : List ℕ) → length m ≡ length l → Forest m (n .root) (n .st) → (y : ℕ) → At p k y → n .root y ≡ y → Names (length m) (getD m y 0)
+    near-names : (m : List ℕ) → length m ≡ length l → Forest m (cs .root) (cs .st) → (y : ℕ) → At p k y → cs .root y ≡ y → Names (length m) (getD m y 0)
     near-names m size forest y s e =
-        let b : y < length m = let a = s .within in let g = n .size in omega arith in
+        let b : y < length m = let a = s .within in let g = cs .size in omega arith in
         let h = root-cell forest y b e in
         let t = forest .state y b h in
-        record { root = h; node = λ q. by (n .level .state y s e) t q }
+        record { root = h; node = λ q. by (cs .level .state y s e) t q }
       where
-        by : State p k (n .root) y (n .st y) → getD m y 0 ≡ n .st y → getD m y 0 < 65534 → getD m y 0 < 2048 + length m
+        by : State p k (cs .root) y (cs .st y) → getD m y 0 ≡ cs .st y → getD m y 0 < 65534 → getD m y 0 < 2048 + length m
         by (nothing a f) t q = absurd (omega arith)
         by (several z w a c d f g h) t q = absurd (omega arith)
         by (single z c d a f) t q =
             let g = beneath-number p k z (let h = n .low in omega arith) c in
             let h = nodes-few p in
-            let i = n .size in
+            let i = cs .size in
             omega arith
 
     at-x : At p k x
@@ -175,23 +151,23 @@ module _ (p : Picture) (ok : Accepted p) (k x : ℕ) where
       at-y = record { within = u .within; low = ⊎-elim (λ h. omega arith) (λ h. let g = h .0 in omega arith) (u .passed) }
 
       module _ {m : List ℕ} {q : ℕ} (f : Found l y q m) where
-        root-of-y : n .root y ≡ q
-        root-of-y = f .is (n .root) (n .st) (n .forest)
+        root-of-y : cs .root y ≡ q
+        root-of-y = f .is (cs .root) (cs .st) (cs .forest)
 
-        forest : Forest m (n .root) (n .st)
-        forest = f .keeps (n .root) (n .st) (n .forest)
+        forest : Forest m (cs .root) (cs .st)
+        forest = f .keeps (cs .root) (cs .st) (cs .forest)
 
-        root-q : n .root q ≡ q
-        root-q = subst (λ (a : ℕ). n .root a ≡ a) root-of-y (n .level .fixed y (u .within))
+        root-q : cs .root q ≡ q
+        root-q = subst (λ (a : ℕ). cs .root a ≡ a) root-of-y (cs .level .fixed y (u .within))
 
-        root-r : n .root r ≡ r
-        root-r = subst (λ (a : ℕ). n .root a ≡ a) (n .is) (n .level .fixed x (n .within))
+        root-r : cs .root r ≡ r
+        root-r = subst (λ (a : ℕ). cs .root a ≡ a) (n .is) (cs .level .fixed x (n .within))
 
         joined-q : Joined p k x q
-        joined-q = subst (Joined p k x) root-of-y (conn-trans (conn-edge at-x t at-y) (n .level .own y at-y))
+        joined-q = subst (Joined p k x) root-of-y (conn-trans (conn-edge at-x t at-y) (cs .level .own y at-y))
 
         joined-r : Joined p k x r
-        joined-r = subst (Joined p k x) (n .is) (n .level .own x at-x)
+        joined-r = subst (Joined p k x) (n .is) (cs .level .own x at-x)
 
         pub near-same : Edge p x j y → q ≡ r → Near p k x (suc j) r m fa
         near-same e g = near-next m (f .size) forest y e (λ h. root-of-y ∙ (g ∙ sym (n .is)))
@@ -199,7 +175,7 @@ module _ (p : Picture) (ok : Accepted p) (k x : ℕ) where
         pub near-linkable : Linkable x q r m
         near-linkable =
             let size = f .size in
-            let same = n .size in
+            let same = cs .size in
             let most = places-bound p ok in
             let within = n .within in
             let in-q = conn-target joined-q .within in
@@ -218,8 +194,8 @@ module _ (p : Picture) (ok : Accepted p) (k x : ℕ) where
           less : lo < hi
           less = ordered-less o
 
-          roots : (n .root lo ≡ lo) × (n .root hi ≡ hi)
-          roots = in-order (λ a b. (n .root a ≡ a) × (n .root b ≡ b)) (λ a b h. (h .1, h .0)) o (root-q, root-r)
+          roots : (cs .root lo ≡ lo) × (cs .root hi ≡ hi)
+          roots = in-order (λ a b. (cs .root a ≡ a) × (cs .root b ≡ b)) (λ a b h. (h .1, h .0)) o (root-q, root-r)
 
           ends : Joined p k x lo × Joined p k x hi
           ends = in-order (λ a b. Joined p k x a × Joined p k x b) (λ a b h. (h .1, h .0)) o (joined-q, joined-r)
@@ -228,28 +204,28 @@ module _ (p : Picture) (ok : Accepted p) (k x : ℕ) where
           joined = conn-trans (joined-sym p k (ends .0)) (ends .1)
 
           hi-in : hi < length m
-          hi-in = let b = conn-target joined .within in let g = n .size in omega (arith, b, g, f .size)
+          hi-in = let b = conn-target joined .within in let g = cs .size in omega (arith, b, g, f .size)
 
           small : lo < 2048
           small = let b = conn-source joined .within in let g = places-bound p ok in omega arith
 
-          state : (a : ℕ) → a < length m → n .root a ≡ a → getD m a 0 ≡ n .st a
+          state : (a : ℕ) → a < length m → cs .root a ≡ a → getD m a 0 ≡ cs .st a
           state a b e = forest .state a b (root-cell forest a b e)
 
-          lo-state : getD m lo 0 ≡ n .st lo
+          lo-state : getD m lo 0 ≡ cs .st lo
           lo-state = state lo (omega (arith, hi-in, less)) (roots .0)
 
-          hi-state : getD m hi 0 ≡ n .st hi
+          hi-state : getD m hi 0 ≡ cs .st hi
           hi-state = state hi hi-in (roots .1)
 
           -- both places have the root lo now
-          now : (z : ℕ) → (n .root z ≡ q) ⊎ (n .root z ≡ r) → relink (n .root) lo hi z ≡ lo
+          now : (z : ℕ) → (cs .root z ≡ q) ⊎ (cs .root z ≡ r) → relink (cs .root) lo hi z ≡ lo
           now z e =
-              ⊎-elim (λ h. relink-kept (n .root) lo hi z (λ g. omega (arith, less)) ∙ h) (λ h. relink-moved (n .root) lo hi z h)
-              (in-order (λ a b. (n .root z ≡ a) ⊎ (n .root z ≡ b)) (λ a b. ⊎-swap) o e)
+              ⊎-elim (λ h. relink-kept (cs .root) lo hi z (λ g. omega (arith, less)) ∙ h) (λ h. relink-moved (cs .root) lo hi z h)
+              (in-order (λ a b. (cs .root z ≡ a) ⊎ (cs .root z ≡ b)) (λ a b. ⊎-swap) o e)
 
-          lower : (z w : ℕ) → Low p k z → Low p k w → beneath p k z ≡ beneath p k w → n .root z ≡ n .root w
-          lower = edges-lower p k x (n .root) (let h = n .low in omega arith) (n .edges)
+          lower : (z w : ℕ) → Low p k z → Low p k w → beneath p k z ≡ beneath p k w → cs .root z ≡ cs .root w
+          lower = edges-lower p k x (cs .root) (let h = n .low in omega arith) (cs .edges)
 
           -- the father of a node that one of the two roots says
           pub near-met :
@@ -257,12 +233,12 @@ module _ (p : Picture) (ok : Accepted p) (k x : ℕ) where
               (i < length (nodes p)) × (fatherOf p (nodeAt p i) ≡ mapOf p x)
           near-met i b dq dr e =
               let (da, db) = in-order (λ a b. (getD m a 0 ≢ 65535) × (getD m b 0 ≢ 65535)) (λ a b h. (h .1, h .0)) o (dq, dr) in
-              let g : (n .st lo ≡ 2048 + i) ⊎ (n .st hi ≡ 2048 + i) =
+              let g : (cs .st lo ≡ 2048 + i) ⊎ (cs .st hi ≡ 2048 + i) =
               ⊎-elim (λ h. inl (sym lo-state ∙ h)) (λ h. inr (sym hi-state ∙ h))
               (in-order (λ a b. (getD m a 0 ≡ 2048 + i) ⊎ (getD m b 0 ≡ 2048 + i)) (λ a b. ⊎-swap) o e)
               in (
-                met-number p ok k (n .low) (soFar p k) x lo hi (n .root) (n .st) fa (n .level) lower less (roots .0) (roots .1) joined (ends .0) (n .value) i b g,
-                met p ok k (n .low) (soFar p k) x lo hi (n .root) (n .st) fa (n .level) lower less (roots .0) (roots .1) joined (ends .0) (n .value) i b
+                met-number p ok k (n .low) x lo hi (cs .root) (cs .st) fa (cs .level) lower less (roots .0) (roots .1) joined (ends .0) (n .value) i b g,
+                met p ok k (n .low) x lo hi (cs .root) (cs .st) fa (cs .level) lower less (roots .0) (roots .1) joined (ends .0) (n .value) i b
                     (λ h. da (lo-state ∙ h)) (λ h. db (hi-state ∙ h)) g,
               )
 
@@ -272,20 +248,23 @@ module _ (p : Picture) (ok : Accepted p) (k x : ℕ) where
               Near p k x (suc j) lo (set (set m hi lo) lo s) fb
           near-linked s fb big merged e =
               record {
-                root = relink (n .root) lo hi;
-                st = put (n .st) lo s;
-                size = length-set (set m hi lo) lo s ∙ (length-set m hi lo ∙ (f .size ∙ n .size));
+                classes =
+                    record {
+                      root = relink (cs .root) lo hi;
+                      st = put (cs .st) lo s;
+                      size = length-set (set m hi lo) lo s ∙ (length-set m hi lo ∙ (f .size ∙ cs .size));
+                      forest = forest-link m lo hi s (cs .root) (cs .st) forest less hi-in small (roots .0) (roots .1) big;
+                      level =
+                          linked p ok k (n .low) x lo hi (cs .root) (cs .st) fa (cs .level) lower
+                          less (roots .0) (roots .1) joined (ends .0) (n .value) s fb
+                          (subst (λ (a : ℕ). Merged x a (cs .st hi) s fa fb) lo-state
+                          (subst (λ (a : ℕ). Merged x (getD m lo 0) a s fa fb) hi-state
+                          (in-order (λ a b. Merged x (getD m a 0) (getD m b 0) s fa fb) (λ a b. merged-exchange) o merged)));
+                      edges = record { same = λ a b c d g. relink-same (cs .root) lo hi a b (cs .edges .same a b c d g) };
+                    };
                 low = n .low;
-                forest = forest-link m lo hi s (n .root) (n .st) forest less hi-in small (roots .0) (roots .1) big;
-                level =
-                    linked p ok k (n .low) (soFar p k) x lo hi (n .root) (n .st) fa (n .level) lower
-                    less (roots .0) (roots .1) joined (ends .0) (n .value) s fb
-                    (subst (λ (a : ℕ). Merged x a (n .st hi) s fa fb) lo-state
-                    (subst (λ (a : ℕ). Merged x (getD m lo 0) a s fa fb) hi-state
-                    (in-order (λ a b. Merged x (getD m a 0) (getD m b 0) s fa fb) (λ a b. merged-exchange) o merged)));
-                edges = record { same = λ a b c d g. relink-same (n .root) lo hi a b (n .edges .same a b c d g) };
                 within = n .within;
                 value = n .value;
                 is = now x (inr (n .is));
-                seen = seen-next (relink (n .root) lo hi) (relink-same (n .root) lo hi) y e (λ h. now y (inl root-of-y) ∙ sym (now x (inr (n .is))));
+                seen = seen-next (relink (cs .root) lo hi) (relink-same (cs .root) lo hi) y e (λ h. now y (inl root-of-y) ∙ sym (now x (inr (n .is))));
               }

@@ -15,7 +15,8 @@ use Rattle.lists.proofs.Updates.{put, put-same, put-other}
 use Rattle.tree_laws.proofs.Levels.{Merged, left, right, both}
 use Rattle.tree_laws.proofs.Forests.{Found, ordered, ordered-most, Hung, hung-size, Parents, forest-parents}
 use Rattle.tree_laws.proofs.Marks.{Names}
-use Rattle.tree_laws.proofs.Absorbing.{Classes, Near, Edge, Linkable, edge-touch, edge-within, near-skip, near-same, near-linkable, near-linked, near-met}
+use Rattle.tree_laws.proofs.Classes.{Classes}
+use Rattle.tree_laws.proofs.Absorbing.{Near, Edge, Linkable, edge-touch, edge-within, near-skip, near-same, near-linkable, near-linked, near-met}
 use Rattle.tree_laws.proofs.Chains.{Comes, upto-of}
 
 -- the lent entries of two lists contradict the tree: a node's father is the node of a pixel, and their entries differ
@@ -165,17 +166,17 @@ pub record Looked (pixels : List ℕ) (k x r y : ℕ) (l fs m : List ℕ) (q : �
 module _ (pixels : List ℕ) (k x r y : ℕ) (l fs m : List ℕ) where
   root-in : (p : Picture) (j : ℕ) → Accepted p → NearBy p k x j r l fs m → r < length l
   root-in p j ok n =
-      let f = n .near .level .first x (n .near .within) in
+      let f = n .near .classes .level .first x (n .near .within) in
       let e = n .near .is in
       let b = n .near .within in
-      let s = n .near .size in
+      let s = n .near .classes .size in
       omega arith
 
   pub look-bounds : LookReady pixels k x r y l fs m → (y < length pixels) × (y < length l)
-  look-bounds e = edge-within (e .p) (e .ok) k x (e .j) y pixels l (e .edge) (e .is) (e .near .near .size)
+  look-bounds e = edge-within (e .p) (e .ok) k x (e .j) y pixels l (e .edge) (e .is) (e .near .near .classes .size)
 
   pub look-parents : LookReady pixels k x r y l fs m → Parents l
-  look-parents e = forest-parents (e .near .near .forest)
+  look-parents e = forest-parents (e .near .near .classes .forest)
 
   pub look-skip : Comes k x y (getD pixels y 0) false → Looked pixels k x r y l fs m r l
   look-skip c =

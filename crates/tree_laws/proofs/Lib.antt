@@ -6,6 +6,7 @@ pub mod Numbering
 pub mod LastFathers
 pub mod Forests
 pub mod Marks
+pub mod Classes
 pub mod Absorbing
 pub mod Chains
 pub mod Walks

@@ -1,20 +1,20 @@
 -- The walk of the check over the pixels of a height.
 use mathlib.Core.Path.{_≡_, refl, sym, ap, subst, _∙_}
 use mathlib.Core.Bool.{Bool, true, false}
-use mathlib.Core.Logic.{inl, inr, ⊎-elim, by-cases, _≢_}
+use mathlib.Core.Logic.{_≢_}
 use mathlib.Core.List.{List}
 use Prim.Native.Nat.{ℕ, suc, _+_, _≤_, _<_}
 use native.Mathlib.Numerals.{add-one}
-use native.Mathlib.Decide.{ℕ-discrete}
 use native.Mathlib.Omega.{arith}
 use lib.ListN.{length, getD}
 use Rattle.picture.specs.Pictures.{Picture, valueAt}
 use Rattle.picture.specs.Geometry.{neighboursIn, Placed}
 use Rattle.lists.proofs.Tests.{clash}
 use Rattle.topology.proofs.Accepted.{Accepted, placed}
-use Rattle.tree_laws.proofs.Levels.{Upto}
+use Rattle.tree_laws.proofs.Levels.{upto-gap}
 use Rattle.tree_laws.proofs.Forests.{Found, Parents, forest-parents}
 use Rattle.tree_laws.proofs.Marks.{Names}
+use Rattle.tree_laws.proofs.Classes.{classes-upto}
 use Rattle.tree_laws.proofs.Absorbing.{Near, near-start, near-end}
 use Rattle.tree_laws.proofs.Checks.{Differs, Checking, NearBy, LookReady, Looked}
 
@@ -96,31 +96,16 @@ module _ (p : Picture) (k x : ℕ) where
   -- a pixel of another value
   pub look-pass : (l fs m : List ℕ) → Checking p k x l fs m → valueAt p x ≢ k → Checking p k (x + 1) l fs m
   look-pass l fs m c d =
-      let s = c .classes in
       subst (λ (z : ℕ). Checking p k z l fs m) (sym (add-one x))
       (record {
         ok = c .ok;
         fa = c .fa;
         classes =
-            record {
-              root = s .root;
-              st = s .st;
-              size = s .size;
-              forest = s .forest;
-              level = s .level;
-              edges = record { same = λ y z u v t. s .edges .same y z (back y u) (back z v) t };
-            };
+            classes-upto p k x (suc x) l (c .fa)
+            (λ y u.
+            upto-gap p k x (suc x) y
+            (λ z a b h e. let q : z ≡ x = omega arith in d (ap (valueAt p) (sym q) ∙ e))
+            u)
+            (c .classes);
         agree = c .agree;
       })
-    where
-      back : (y : ℕ) → Upto p k (suc x) y → Upto p k x y
-      back y u =
-          record {
-            within = u .within;
-            passed =
-                ⊎-elim (λ h. inl h)
-                (λ h.
-                let g = h .1 in
-                by-cases (ℕ-discrete y x) (λ e. absurd (d (ap (valueAt p) (sym e) ∙ h .0))) (λ e. inr (h .0, omega arith)))
-                (u .passed);
-          }

@@ -19,13 +19,13 @@ use Rattle.topology.proofs.Connected.{start, conn-target}
 use Rattle.topology.proofs.Adjacency.{At, Joined, joined-sym}
 use Rattle.topology.proofs.Reached.{firstAt, first-joined, first-least, first-at}
 use Rattle.topology.proofs.Parts.{isFirst, first-is, is-first}
-use Rattle.topology.proofs.Accepted.{Accepted, places-bound}
+use Rattle.topology.proofs.Accepted.{places-bound}
 use Rattle.topology.proofs.Branches.{joined-mono}
-use Rattle.topology.proofs.Nodes.{node, isNode, nodes-at, node-equal, number-found, nodes-few}
+use Rattle.topology.proofs.Nodes.{node, isNode, nodes-at, node-equal, number-found}
 use Rattle.topology.proofs.Descent.{under, under-same, under-fork}
-use Rattle.tree_laws.proofs.Counts.{soFar, so-few, so-next, so-at}
+use Rattle.tree_laws.proofs.Counts.{soFar, so-few, so-places, so-next, so-at}
 use Rattle.tree_laws.proofs.Beneath.{low-at, at-low, low-at-below, beneath-next, none-fork, many-fork, one-branch}
-use Rattle.tree_laws.proofs.Levels.{State, nothing, single, several, Father, unmet, known, Level, Upto, Edges, edges-joined, number-few}
+use Rattle.tree_laws.proofs.Levels.{State, nothing, single, several, Father, unmet, known, Level, class-joined, Edges, HeightJoined, upto-all, upto-next, edges-upto, edges-joined, number-few}
 
 -- y stands in f from c on, before d
 pub record Member (f : ℕ → ℕ) (c d y : ℕ) : Type 0 where
@@ -64,18 +64,15 @@ pub record Numbered (p : Picture) (c d : ℕ) (f root st new fa fb : ℕ → ℕ
   pub fresh : (i : ℕ) → c ≤ i → i < d → fb i ≡ 65535
   pub old : (i : ℕ) → i < c → fb i ≡ fa i
 
-module _ (p : Picture) (ok : Accepted p) (k c : ℕ) (low : k ≤ 255) (root st fa : ℕ → ℕ) (v : Level p k c root st fa) (e : Edges p k (places p) root) where
-  all-upto : (y : ℕ) → At p k y → Upto p k (places p) y
-  all-upto y s =
-      record {
-        within = s .within;
-        passed =
-            let h = s .low in
-            by-cases (decLt (valueAt p y) k) (λ b. inl b) (λ d. inr (omega arith, s .within));
-      }
+module _ (p : Picture) (k c : ℕ) (root st fa : ℕ → ℕ) (whole : HeightJoined p k c root st fa) where
+  abbrev v : Level p k root st fa
+  v = whole .level
+
+  low : k ≤ 255
+  low = whole .low
 
   pub joined-root : {y z : ℕ} → Joined p k y z → root y ≡ root z
-  joined-root j = edges-joined p k (places p) root e k all-upto j
+  joined-root j = edges-joined p k (places p) root (whole .edges) k (λ y s. upto-all p k (places p) y (omega arith) s) j
 
   -- at the end of a height the root of a class is the first place of the component
   pub root-first : (y : ℕ) → At p k y → root y ≡ firstAt p k y
@@ -104,13 +101,13 @@ module _ (p : Picture) (ok : Accepted p) (k c : ℕ) (low : k ≤ 255) (root st 
       by (several z w q l m a b d) =
           new (omega arith)
           (many-fork p k y z w l m
-          (joined-sym p k (subst (λ (u : ℕ). Joined p k z u) a (v .own z (low-at p l))))
-          (joined-sym p k (subst (λ (u : ℕ). Joined p k w u) b (v .own w (low-at p m))))
+          (joined-sym p k (class-joined v (low-at p l) a))
+          (joined-sym p k (class-joined v (low-at p m) b))
           d)
       by (single z l a q f) =
-          let j = joined-sym p k (subst (λ (u : ℕ). Joined p k z u) a (v .own z (low-at p l))) in
-          let (t, g) = one-branch p k y z (omega arith) l j (λ w m i. f w m (in-class w i)) in
-          let h = number-few p ok k low z l in
+          let j = joined-sym p k (class-joined v (low-at p l) a) in
+          let (t, g) = one-branch p k y z (omega (arith, low)) l j (λ w m i. f w m (in-class w i)) in
+          let h = number-few p (whole .ok) k low z l in
           old (omega arith) (omega arith)
 
   pub free-fork : (y : ℕ) → At p k y → root y ≡ y → 65534 ≤ st y → isBranch p k (componentAt p k y) ≡ false
@@ -127,8 +124,8 @@ module _ (p : Picture) (ok : Accepted p) (k c : ℕ) (low : k ≤ 255) (root st 
       by (nothing q f) = omega arith
       by (several z w q l m a b d) = omega arith
       by (single z l a q f) =
-          let j = joined-sym p k (subst (λ (u : ℕ). Joined p k z u) a (v .own z (low-at p l))) in
-          absurd (clash (one-branch p k y z (omega arith) l j (λ w m i. f w m (sym (joined-root i) ∙ r)) .0) h)
+          let j = joined-sym p k (class-joined v (low-at p l) a) in
+          absurd (clash (one-branch p k y z (omega (arith, low)) l j (λ w m i. f w m (sym (joined-root i) ∙ r)) .0) h)
 
   node-test : (y : ℕ) → At p k y → root y ≡ y → 65534 ≤ st y → isNode p k y ≡ true
   unfolding isNode
@@ -247,145 +244,121 @@ module _ (p : Picture) (ok : Accepted p) (k c : ℕ) (low : k ≤ 255) (root st 
     count-listed =
         ap length nodes-listed ∙ (length-map (range c (d - c)) (λ i. node k (f i)) ∙ length-range c (d - c))
 
-    module _ (n : c ≡ soFar p k) where
-      pub count-next : d ≡ soFar p (suc k)
-      count-next =
-          let o = l .roots .order in
-          let a = so-next p k in
-          let b = count-listed in
-          omega arith
+    pub count-next : d ≡ soFar p (suc k)
+    count-next =
+        let o = l .roots .order in
+        let n = whole .count in
+        let a = so-next p k in
+        let b = count-listed in
+        omega arith
 
-      pub number-new : (i : ℕ) → c ≤ i → i < d → nodeAt p i ≡ node k (f i)
-      number-new i a b =
-          let h : i ≡ soFar p k + (i - c) = omega arith in
-          let g : c + (i - c) ≡ i = omega arith in
-          let m = count-listed in
-          ap (nodeAt p) h ∙
-          (so-at p k (i - c) low (omega arith) ∙
-          (ap (λ (ns : List Node). getD ns (i - c) (node 0 0)) nodes-listed ∙
-          (getD-map-range (λ j. node k (f j)) (node 0 0) c (d - c) (i - c) (omega arith) ∙ ap (λ (j : ℕ). node k (f j)) g)))
+    pub number-new : (i : ℕ) → c ≤ i → i < d → nodeAt p i ≡ node k (f i)
+    number-new i a b =
+        let n = whole .count in
+        let h : i ≡ soFar p k + (i - c) = omega arith in
+        let g : c + (i - c) ≡ i = omega arith in
+        let m = count-listed in
+        ap (nodeAt p) h ∙
+        (so-at p k (i - c) low (omega arith) ∙
+        (ap (λ (ns : List Node). getD ns (i - c) (node 0 0)) nodes-listed ∙
+        (getD-map-range (λ j. node k (f j)) (node 0 0) c (d - c) (i - c) (omega arith) ∙ ap (λ (j : ℕ). node k (f j)) g)))
 
-      count-few : d ≤ length (nodes p)
-      count-few = let a = so-few p (suc k) (omega arith) in let b = count-next in omega arith
+    -- the list ends within the places
+    pub count-few : d ≤ places p
+    count-few =
+        let a = so-places p (suc k) (let b = low in omega arith) in let b = count-next in omega arith
 
-      module _ (new-st fb : ℕ → ℕ) (m : Numbered p c d f root st new-st fa fb) where
-        node-under : (i y : ℕ) → i < length (nodes p) → At p k y → isBranch p k (componentAt p k y) ≡ false → root y ≡ y → nodeAt p i ≡ node k y → under p k y ≡ i
-        node-under i y b s h r q =
-            let (a, g) = number-found p k y low s h in
-            under-fork p k y h ∙
-            node-equal p (numberOf p k (componentAt p k y)) i a b (g ∙ (ap (node k) (sym (root-first y s) ∙ r) ∙ sym q))
+    module _ (new-st fb : ℕ → ℕ) (m : Numbered p c d f root st new-st fa fb) where
+      node-under : (i y : ℕ) → i < length (nodes p) → At p k y → isBranch p k (componentAt p k y) ≡ false → root y ≡ y → nodeAt p i ≡ node k y → under p k y ≡ i
+      node-under i y b s h r q =
+          let (a, g) = number-found p k y low s h in
+          under-fork p k y h ∙
+          node-equal p (numberOf p k (componentAt p k y)) i a b (g ∙ (ap (node k) (sym (root-first y s) ∙ r) ∙ sym q))
 
-        named-root : (y : ℕ) → At p k y → root y ≡ y → new-st y ≡ 2048 + under p k y
-        named-root y s r = by (ended y s r)
-          where
-            by : Ended y → new-st y ≡ 2048 + under p k y
-            by (new h b) =
-                let t = l .complete y s r h in
-                let few = count-few in
-                let to = t .to in
-                let u = node-under (t .at) y (omega arith) s b r (number-new (t .at) (t .from) (t .to) ∙ ap (node k) (t .is)) in
-                let w = m .named (t .at) (t .from) (t .to) in
-                let q = ap new-st (t .is) in
-                omega arith
-            by (old h b) =
-                m .others y (s .within) r (λ t. let g = l .roots .free (t .at) (t .from) (t .to) in let q = ap st (t .is) in omega arith) ∙ h
+      named-root : (y : ℕ) → At p k y → root y ≡ y → new-st y ≡ 2048 + under p k y
+      named-root y s r = by (ended y s r)
+        where
+          by : Ended y → new-st y ≡ 2048 + under p k y
+          by (new h b) =
+              let t = l .complete y s r h in
+              let few = so-few p (suc k) (let z = low in omega arith) in
+              let next = count-next in
+              let to = t .to in
+              let u = node-under (t .at) y (omega arith) s b r (number-new (t .at) (t .from) (t .to) ∙ ap (node k) (t .is)) in
+              let w = m .named (t .at) (t .from) (t .to) in
+              let q = ap new-st (t .is) in
+              omega arith
+          by (old h b) =
+              m .others y (s .within) r (λ t. let g = l .roots .free (t .at) (t .from) (t .to) in let q = ap st (t .is) in omega arith) ∙ h
 
-        -- every place of the section has a root that says its node
-        pub named-all : (y : ℕ) → At p k y → new-st (root y) ≡ 2048 + under p k y
-        named-all y s =
-            named-root (root y) (root-at y s) (v .fixed y (s .within)) ∙ ap (λ (i : ℕ). 2048 + i) (sym (under-same p (v .own y s)))
+      -- every place of the section has a root that says its node
+      pub named-all : (y : ℕ) → At p k y → new-st (root y) ≡ 2048 + under p k y
+      named-all y s =
+          named-root (root y) (root-at y s) (v .fixed y (s .within)) ∙ ap (λ (i : ℕ). 2048 + i) (sym (under-same p (v .own y s)))
 
-        father-next : (i : ℕ) → i < c → Father p k root st (fa i) i → Father p (suc k) root new-st (fb i) i
-        father-next i b (known h g) = let q = m .old i b in known (omega arith) (g ∙ ap (mapOf p) (sym q))
-        father-next i b (unmet z h g q t) =
-            let bound : i < 1600 = let a = v .few in let u = nodes-few p in let w = places-bound p ok in omega arith in
-            let stays : new-st (root z) ≡ 2048 + i =
-            m .others (root z) (root-at z (low-at p g) .within) (v .fixed z (g .within))
-            (λ r. let u = l .roots .free (r .at) (r .from) (r .to) in let w = ap st (r .is) in omega arith) ∙
-            t
-            in
-            let all = named-all z (low-at p g) in
-            unmet z (m .old i b ∙ h) (at-low p (low-at p g)) (beneath-next p k z ∙ omega arith) stays
+      father-next : (i : ℕ) → i < c → Father p k root st (fa i) i → Father p (suc k) root new-st (fb i) i
+      father-next i b (known h g) = let q = m .old i b in known (omega arith) (g ∙ ap (mapOf p) (sym q))
+      father-next i b (unmet z h g q t) =
+          let bound : i < 1600 = let a = count-few in let u = l .roots .order in let w = places-bound p (whole .ok) in omega arith in
+          let stays : new-st (root z) ≡ 2048 + i =
+          m .others (root z) (root-at z (low-at p g) .within) (v .fixed z (g .within))
+          (λ r. let u = l .roots .free (r .at) (r .from) (r .to) in let w = ap st (r .is) in omega arith) ∙
+          t
+          in
+          let all = named-all z (low-at p g) in
+          unmet z (m .old i b ∙ h) (at-low p (low-at p g)) (beneath-next p k z ∙ omega arith) stays
 
-        father-fresh : (i : ℕ) → c ≤ i → i < d → Father p (suc k) root new-st (fb i) i
-        father-fresh i a b =
-            let s = l .roots .place i a b in
-            let says : new-st (root (f i)) ≡ 2048 + i = ap new-st (l .roots .fixed i a b) ∙ m .named i a b in
-            let all = named-all (f i) s in
-            unmet (f i) (m .fresh i a b) (at-low p s) (beneath-next p k (f i) ∙ omega arith) says
+      father-fresh : (i : ℕ) → c ≤ i → i < d → Father p (suc k) root new-st (fb i) i
+      father-fresh i a b =
+          let s = l .roots .place i a b in
+          let says : new-st (root (f i)) ≡ 2048 + i = ap new-st (l .roots .fixed i a b) ∙ m .named i a b in
+          let all = named-all (f i) s in
+          unmet (f i) (m .fresh i a b) (at-low p s) (beneath-next p k (f i) ∙ omega arith) says
 
-        not-listed : (y : ℕ) → k < valueAt p y → Member f c d y → ⊥
-        not-listed y h t =
-            let s = l .roots .place (t .at) (t .from) (t .to) .low in let q = ap (valueAt p) (t .is) in omega arith
+      not-listed : (y : ℕ) → k < valueAt p y → Member f c d y → ⊥
+      not-listed y h t =
+          let s = l .roots .place (t .at) (t .from) (t .to) .low in let q = ap (valueAt p) (t .is) in omega arith
 
-        pub next-level : Level p (suc k) d root new-st fb
-        next-level =
-            record {
-              own =
-                  λ y s.
-                  let h = s .low in
-                  let b = s .within in
-                  by-cases (decLt k (valueAt p y))
-                  (λ q. subst (λ (z : ℕ). Joined p (suc k) y z) (sym (v .later y b q .0)) (start s))
-                  (λ q. joined-mono p (let g : k ≤ suc k = omega arith in g) (v .own y (record { within = b; low = omega arith })));
-              fixed = v .fixed;
-              first = v .first;
-              later =
-                  λ y b h.
-                  let (r, q) = v .later y b (omega arith) in
-                  (r, m .others y b r (not-listed y (omega arith)) ∙ q);
-              state =
-                  λ y s r.
-                  let b = s .within in
-                  let h = s .low in
-                  by-cases (decLt k (valueAt p y))
-                  (λ q.
-                  nothing (m .others y b r (not-listed y q) ∙ v .later y b q .1)
-                  (λ z g t.
-                  let low = conn-target (subst (λ (u : ℕ). Joined p k z u) t (v .own z (low-at-below p g))) .low in
-                  omega arith))
-                  (λ q.
-                  let t : At p k y = record { within = b; low = omega arith } in
-                  single y (at-low p t) r (named-root y t r ∙ ap (λ (i : ℕ). 2048 + i) (sym (beneath-next p k y)))
-                  (λ w g z.
-                  beneath-next p k w ∙
-                  (under-same p (subst (λ (u : ℕ). Joined p k w u) z (v .own w (low-at-below p g))) ∙ sym (beneath-next p k y))));
-              fathers =
-                  λ i b. by-cases (decLt i c) (λ h. father-next i h (v .fathers i h)) (λ h. father-fresh i (omega arith) b);
-              few = count-few;
-            }
+      pub next-level : Level p (suc k) root new-st fb
+      next-level =
+          record {
+            own =
+                λ y s.
+                let h = s .low in
+                let b = s .within in
+                by-cases (decLt k (valueAt p y))
+                (λ q. subst (λ (z : ℕ). Joined p (suc k) y z) (sym (v .later y b q .0)) (start s))
+                (λ q. joined-mono p (let g : k ≤ suc k = omega arith in g) (v .own y (record { within = b; low = omega arith })));
+            fixed = v .fixed;
+            first = v .first;
+            later =
+                λ y b h.
+                let (r, q) = v .later y b (omega arith) in
+                (r, m .others y b r (not-listed y (omega arith)) ∙ q);
+            state =
+                λ y s r.
+                let b = s .within in
+                let h = s .low in
+                by-cases (decLt k (valueAt p y))
+                (λ q.
+                nothing (m .others y b r (not-listed y q) ∙ v .later y b q .1)
+                (λ z g t.
+                let low = conn-target (class-joined v (low-at-below p g) t) .low in
+                omega arith))
+                (λ q.
+                let t : At p k y = record { within = b; low = omega arith } in
+                single y (at-low p t) r (named-root y t r ∙ ap (λ (i : ℕ). 2048 + i) (sym (beneath-next p k y)))
+                (λ w g z.
+                beneath-next p k w ∙
+                (under-same p (class-joined v (low-at-below p g) z) ∙ sym (beneath-next p k y))));
+            fathers =
+                λ i b.
+                let n = whole .count in
+                let next = count-next in
+                by-cases (decLt i c) (λ h. father-next i h (v .fathers i (omega arith))) (λ h. father-fresh i (omega arith) (omega arith));
+          }
 
 -- what is passed at the end of a height is passed at the start of the next
 pub edges-next : (p : Picture) (k : ℕ) (root : ℕ → ℕ) → Edges p k (places p) root → Edges p (suc k) 0 root
-edges-next p k root e = record { same = λ y z a b t. e .same y z (back y a) (back z b) t }
-  where
-    back : (y : ℕ) → Upto p (suc k) 0 y → Upto p k (places p) y
-    back y u =
-        let b = u .within in
-        record {
-          within = b;
-          passed =
-              ⊎-elim
-              (λ h. by-cases (decLt (valueAt p y) k) (λ g. inl g) (λ g. inr (omega arith, b)))
-              (λ h. absurd (let g = h .1 in omega arith))
-              (u .passed);
-        }
-
--- before the first height every place is alone
-pub level-start : (p : Picture) (fa : ℕ → ℕ) → Level p 0 0 (λ y. y) (λ y. 65535) fa
-level-start p fa =
-    record {
-      own = λ y s. start s;
-      fixed = λ y b. refl;
-      first = λ y b. omega arith;
-      later = λ y b h. (refl, refl);
-      state = λ y s r. nothing refl (λ z l e. let h = l .less in omega arith);
-      fathers = λ i b. absurd (omega arith);
-      few = omega arith;
-    }
-
-pub edges-start : (p : Picture) (root : ℕ → ℕ) → Edges p 0 0 root
-edges-start p root =
-    record {
-      same = λ y z a b t. absurd (⊎-elim (λ h. omega arith) (λ h. let g = h .1 in omega arith) (a .passed));
-    }
+edges-next p k root e =
+    edges-upto p k (places p) (suc k) 0 root (λ y u. upto-all p k (places p) y (omega arith) (upto-next p k y u)) e

@@ -12,10 +12,11 @@ use Rattle.picture.specs.Pictures.{Picture, places}
 use Rattle.picture.specs.Trees.{nodes, nodeAt, fatherOf, mapOf}
 use Rattle.topology.proofs.Accepted.{Accepted, byte-at, places-bound}
 use Rattle.topology.proofs.Nodes.{nodes-few}
+use Rattle.lists.proofs.Blocks.{kept-refl, kept-set}
 use Rattle.tree_laws.proofs.Counts.{so-all}
 use Rattle.tree_laws.proofs.LastFathers.{LastFather, missing, pixel, last-father}
 use Rattle.tree_laws.proofs.Chains.{fathersIn, mapIn}
-use Rattle.tree_laws.proofs.Listing.{NodesIn}
+use Rattle.tree_laws.proofs.Listing.{NodesIn, nodes-block}
 use Rattle.tree_laws.proofs.Mapped.{Between}
 
 -- the fathers of the first i nodes are settled
@@ -129,10 +130,9 @@ settle-turn n c i w v u s h t =
           ok = g .ok;
           room = length-set v (places p + i) father ∙ g .room;
           listed =
-              record {
-                heights = λ j k. other j (λ z. omega arith) ∙ g .listed .heights j k;
-                firsts = λ j k. other (3 * places p + j) (λ z. omega arith) ∙ g .listed .firsts j k;
-              };
+              nodes-block p (length (nodes p)) (places p) v (set v (places p + i) father) hi (omega arith) (omega arith)
+              (kept-set (places p) (places p) i father v v (omega arith) (kept-refl (places p) (places p) v))
+              (g .listed);
           map = λ x k. other (2 * places p + x) (λ z. omega arith) ∙ g .map x k;
           done =
               λ j q k.

@@ -9,12 +9,13 @@ use lib.ListN.{length, getD}
 use Rattle.picture.specs.Pictures.{Picture, places, valueAt}
 use Rattle.picture.specs.Geometry.{neighboursIn, Placed}
 use Rattle.topology.proofs.Accepted.{Accepted, placed}
-use Rattle.tree_laws.proofs.Levels.{Upto}
 use Rattle.lists.specs.Blocks.{UntouchedOutside}
 use Rattle.lists.proofs.Blocks.{kept-refl, kept-trans}
+use Rattle.tree_laws.proofs.Levels.{upto-gap}
 use Rattle.tree_laws.proofs.Forests.{Found, Parents, forest-parents}
-use Rattle.tree_laws.proofs.Absorbing.{Classes, Near, near-start, near-end}
-use Rattle.tree_laws.proofs.Chains.{fathersIn, mapIn, NextOfValue, Threads, classes-skip, EdgeReady, EdgeDone}
+use Rattle.tree_laws.proofs.Classes.{Classes, classes-upto}
+use Rattle.tree_laws.proofs.Absorbing.{Near, near-start, near-end}
+use Rattle.tree_laws.proofs.Chains.{fathersIn, mapIn, Threads, threads-same, threads-next, classes-skip, EdgeReady, EdgeDone}
 
 -- the pixels of height k before x have joined the classes; x is the next one, or beyond the picture
 pub record WalkReady (p : Picture) (k x : ℕ) (l w : List ℕ) : Type 0 where
@@ -43,13 +44,9 @@ ready-parents r = forest-parents (r .classes .forest)
 
 pub threads-block : (p : Picture) (k x b : ℕ) (w v : List ℕ) → Threads p k x (mapIn p w) → UntouchedOutside b (places p) w v → (b + places p ≤ 2 * places p) ⊎ (3 * places p ≤ b) → Threads p k x (mapIn p v)
 threads-block p k x b w v t k′ o =
-    record {
-      mapped = λ y u. same y (u .within) ∙ t .mapped y u;
-      linked = λ y a. subst (λ (z : ℕ). NextOfValue p (valueAt p y) (suc y) z) (sym (same y (a .within))) (t .linked y a);
-    }
-  where
-    same : (y : ℕ) → y < places p → getD v (2 * places p + y) 0 ≡ getD w (2 * places p + y) 0
-    same y h = k′ .outside (2 * places p + y) (⊎-elim (λ a. inr (omega arith)) (λ a. inl (omega arith)) o)
+    threads-same p k x (mapIn p w) (mapIn p v)
+    (λ y h. k′ .outside (2 * places p + y) (⊎-elim (λ a. inr (omega arith)) (λ a. inl (omega arith)) o))
+    t
 
 module _ (p : Picture) (k x : ℕ) where
   pub joining-start : (r : ℕ) (l m w : List ℕ) → WalkReady p k x l w → x < places p → Found l x r m → Joining p k x 0 r m w w
@@ -78,7 +75,7 @@ module _ (p : Picture) (k x : ℕ) where
       (i r y q : ℕ) (l m w v u : List ℕ) → Joining p k x i r l w v → i < length (neighboursIn p x) → y ≡ getD (neighboursIn p x) i 0 →
       EdgeDone (p .pixels) k x r y l v q m u → Joining p k x (i + 1) q m w u
   joining-turn i r y q l m w v u a b e d =
-      let block = subst (λ (n : ℕ). UntouchedOutside n n v u) (a .near .size) (d .block) in
+      let block = subst (λ (n : ℕ). UntouchedOutside n n v u) (a .near .classes .size) (d .block) in
       record {
         ok = a .ok;
         room = block .size ∙ a .room;
@@ -95,11 +92,7 @@ module _ (p : Picture) (k x : ℕ) where
   joining-end i r q l w v o a b s e =
       let t = threads-block p k 0 (places p) w v (s .threads) (a .block) (inl (omega arith)) in
       let n = a .near in
-      let next =
-      subst (λ (z : ℕ). NextOfValue p k (suc x) z) (sym e)
-      (subst (λ (j : ℕ). NextOfValue p j (suc x) (getD v (2 * places p + x) 0)) (n .value)
-      (t .linked x (record { within = n .within; later = inr (n .value, omega arith) })))
-      in
+      let next = threads-next p k 0 x q (mapIn p v) t (omega arith) (n .within) (n .value) e in
       let m = a .most in
       let all : i ≡ length (neighboursIn p x) = omega arith in
       record {
@@ -127,17 +120,9 @@ ready-end p k x l w r b =
       ok = r .ok;
       room = r .room;
       classes =
-          record {
-            root = r .classes .root;
-            st = r .classes .st;
-            size = r .classes .size;
-            forest = r .classes .forest;
-            level = r .classes .level;
-            edges = record { same = λ y z u v t. r .classes .edges .same y z (further y u) (further z v) t };
-          };
+          classes-upto p k x (places p) l (fathersIn p w)
+          (λ y u. upto-gap p k x (places p) y (λ z h g. absurd (omega arith)) u)
+          (r .classes);
       threads = r .threads;
       is = λ h. absurd (omega arith);
     }
-  where
-    further : (y : ℕ) → Upto p k (places p) y → Upto p k x y
-    further y u = record { within = u .within; passed = ⊎-elim (λ h. inl h) (λ h. let g = h .1 in inr (h .0, omega arith)) (u .passed) }

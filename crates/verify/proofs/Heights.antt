@@ -16,9 +16,8 @@ use Rattle.lists.proofs.Tests.{clash}
 use Rattle.topology.proofs.Accepted.{accepted-is, byte-at, places-bound}
 use Rattle.topology.proofs.Nodes.{nodes-few}
 use Rattle.topology.proofs.Descent.{under-is}
-use Rattle.tree_laws.proofs.Levels.{Level}
 use Rattle.tree_laws.proofs.Counts.{so-none}
-use Rattle.tree_laws.proofs.Numbering.{level-start, edges-start}
+use Rattle.tree_laws.proofs.Classes.{classes-start}
 use Rattle.tree_laws.proofs.Checks.{Checking}
 use Rattle.tree_laws.proofs.Looks.{Passed}
 use Rattle.verify.specs.Checked.{Says}
@@ -32,28 +31,12 @@ module _ (p : Picture) (count : ℕ) (hs fs ss m : List ℕ) where
   pub verified-start : (n : ℕ) (o l : List ℕ) → isPicture p ≡ true → length o ≡ places p → Filled 0 n 65535 o l → n ≡ places p → Verified p 0 0 count l hs fs ss m
   verified-start n o l ok size f e =
       let same = f .kept .size in
-      let none = filled-entry f in
       record {
         checking =
             record {
               ok = accepted-is p ok;
               fa = λ j. 65535;
-              classes =
-                  record {
-                    root = λ y. y;
-                    st = λ y. 65535;
-                    size = same ∙ size;
-                    forest =
-                        record {
-                          below = λ y c. omega arith;
-                          less = λ y c h. absurd (let a = none y (omega arith) in omega arith);
-                          up = λ y c h. absurd (let a = none y (omega arith) in omega arith);
-                          top = λ y c h. refl;
-                          state = λ y c h. none y (omega arith);
-                        };
-                    level = subst (λ (c : ℕ). Level p 0 c (λ y. y) (λ y. 65535) (λ j. 65535)) (sym (so-none p)) (level-start p (λ j. 65535));
-                    edges = edges-start p (λ y. y);
-                  };
+              classes = classes-start p l (λ j. 65535) (same ∙ size) (λ y h. filled-entry f y (omega arith));
               agree = record { same = λ j h. inl refl };
             };
         number = sym (so-none p);
@@ -97,7 +80,7 @@ module _ (p : Picture) (count : ℕ) (hs fs ss m : List ℕ) where
           level-map = record { p = p; c = c; d = d; fs = fs; ss = ss; is = refl; matched = matched }
 
           pub level-same : length u ≡ places p
-          level-same = n .yes g p fs m refl counted .size
+          level-same = n .yes g p fs m refl counted .cells .size
 
           pub level-mapped : (w : List ℕ) (i : Bool) (z : ℕ) → MapChecked (p .pixels) k 0 (length u) u m w i → i ≡ false → z ≡ count + 1 → LevelChecked p k count w hs fs ss m z
           level-mapped w i z t h e =

@@ -102,14 +102,14 @@ numbered-turn pixels k c i f o ss l s b t e =
           λ p fs m q g.
           let h = s .from p fs m q g in
           subst (λ (z : ℕ). Counted p k c (i + 1) (set l z (2048 + i)) fs ss m) (sym e)
-          (counted-turn p k c i l fs ss m h b (t .yes refl p (record { is = q; size = h .size })));
+          (counted-turn p k c i l fs ss m h b (t .yes refl p (record { is = q; size = h .cells .size })));
     }
 
 -- the place of a lent first place that fits
 pub numbered-within : (pixels : List ℕ) (k c i f : ℕ) (o ss l : List ℕ) → CountReady pixels k c o ss → NodesNumbered pixels k c i o ss l → Fit pixels k c i l ss true → f ≡ getD ss i 0 → f < length l
 numbered-within pixels k c i f o ss l r s t e =
     let h = s .from (r .p) (r .fs) (r .m) (r .is) (r .counted) in
-    let z = h .size in
+    let z = h .cells .size in
     let w = t .yes refl (r .p) (record { is = r .is; size = z }) .within in
     omega arith
 
@@ -120,7 +120,7 @@ numbered-fails pixels k c d i o ss l u s b t =
       never =
           λ q p fs m e g count hs run tree.
           let h = s .from p fs m e g in
-          t .never refl p (record { is = e; size = h .size }) (tree-fits p k c i l fs ss m h d count hs run b tree);
+          t .never refl p (record { is = e; size = h .cells .size }) (tree-fits p k c i l fs ss m h d count hs run b tree);
     }
 
 pub numbered-end : (pixels : List ℕ) (k c d i : ℕ) (o ss l : List ℕ) → NodesNumbered pixels k c i o ss l → i ≡ d → NodesChecked pixels k c d o ss l true
@@ -147,7 +147,7 @@ module _ (pixels : List ℕ) (k x v : ℕ) (l m : List ℕ) (b : x < length l) (
         record {
           yes =
               λ z p c d fs ss g s.
-              let size = s .counted .size in
+              let size = s .counted .cells .size in
               let top = f .top in
               matched-turn p k c d x r l o fs ss m s f (omega arith) (value-of p g) h (omega arith);
           never = λ z. absurd (clash refl z);
@@ -158,7 +158,7 @@ module _ (pixels : List ℕ) (k x v : ℕ) (l m : List ℕ) (b : x < length l) (
         (p : Picture) (c d : ℕ) (fs ss : List ℕ) → p .pixels ≡ pixels → Matched p k c d x l fs ss m → (count : ℕ) (hs : List ℕ) → SameHeights k c d count hs →
         HoldsTree p count hs fs ss m → (getD o r 0 ≡ 2048 + getD m x 0) × (getD m x 0 < 1600)
     tree-cell p c d fs ss g s count hs run tree =
-        let size = s .counted .size in
+        let size = s .counted .cells .size in
         let inside : x < places p = omega arith in
         let value = value-of p g in
         matched-cell p k c d x r l o fs ss m s f inside value count hs run tree
@@ -189,7 +189,7 @@ map-start pixels k l m = record { size = refl; most = omega arith; from = λ p c
 
 pub map-ready : (pixels : List ℕ) (k x : ℕ) (o m l : List ℕ) → LentMapReady pixels k 0 o m → MapCheckedTo pixels k x o m l → Parents l
 map-ready pixels k x o m l r s =
-    forest-parents (s .from (r .p) (r .c) (r .d) (r .fs) (r .ss) (r .is) (r .matched) .counted .forest)
+    forest-parents (s .from (r .p) (r .c) (r .d) (r .fs) (r .ss) (r .is) (r .matched) .counted .cells .forest)
 
 pub map-turn :
     (pixels : List ℕ) (k x : ℕ) (o m l u : List ℕ) (b : Bool) → MapCheckedTo pixels k x o m l → x < length l → MapChecked pixels k x (x + 1) l m u b → b ≡ true →

@@ -7,11 +7,8 @@ use mathlib.Core.List.{List}
 use Prim.Native.Nat.{ℕ, _+_, _-_, _≤_, _<_}
 use lib.ListN.{length, getD}
 use Rattle.picture.specs.Pictures.{Picture, places, valueAt}
-use Rattle.topology.proofs.Accepted.{Accepted}
-use Rattle.tree_laws.proofs.Levels.{Level, Edges}
-use Rattle.tree_laws.proofs.Counts.{soFar}
 use Rattle.tree_laws.proofs.Numbering.{Member, NewRoots}
-use Rattle.tree_laws.proofs.Forests.{Forest}
+use Rattle.tree_laws.proofs.Classes.{MarkedClasses}
 use Rattle.tree_laws.proofs.Checks.{Agree}
 use Rattle.lent_tree.specs.Lent.{HoldsTree}
 
@@ -24,21 +21,12 @@ pub record SameHeights (k c d count : ℕ) (hs : List ℕ) : Type 0 where
 
 -- the lent first places from c on, before i, are new roots, rising, and have their numbers
 pub record Counted (p : Picture) (k c i : ℕ) (l fs ss m : List ℕ) : Type 0 where
-  pub ok : Accepted p
-  pub low : k ≤ 255
-  pub count : c ≡ soFar p k
   pub fa : ℕ → ℕ
   pub agree : Agree fa fs m
-  pub root : ℕ → ℕ
-  pub st : ℕ → ℕ
-  pub new : ℕ → ℕ
-  pub size : length l ≡ places p
-  pub forest : Forest l root new
-  pub level : Level p k c root st fa
-  pub edges : Edges p k (places p) root
-  pub roots : NewRoots p k c i (λ j. getD ss j 0) root st
-  pub named : (j : ℕ) → c ≤ j → j < i → new (getD ss j 0) ≡ 2048 + j
-  pub either : (y : ℕ) → y < places p → root y ≡ y → Member (λ j. getD ss j 0) c i y ⊎ (new y ≡ st y)
+  pub cells : MarkedClasses p k c l fa
+  pub roots : NewRoots p k c i (λ j. getD ss j 0) (cells .root) (cells .st)
+  pub named : (j : ℕ) → c ≤ j → j < i → cells .marks (getD ss j 0) ≡ 2048 + j
+  pub either : (y : ℕ) → y < places p → cells .root y ≡ y → Member (λ j. getD ss j 0) c i y ⊎ (cells .marks y ≡ cells .st y)
 
 -- the tests that the lent first place of the node i passes: a place of value at most k, above the one before it, a root without a number
 pub record NodeFits (p : Picture) (k c i : ℕ) (l ss : List ℕ) : Type 0 where
@@ -50,8 +38,8 @@ pub record NodeFits (p : Picture) (k c i : ℕ) (l ss : List ℕ) : Type 0 where
 -- the lent map of the pixels of height k before x agrees with the numbers
 pub record Matched (p : Picture) (k c d x : ℕ) (l fs ss m : List ℕ) : Type 0 where
   pub counted : Counted p k c d l fs ss m
-  pub few : (y : ℕ) → y < places p → valueAt p y ≡ k → y < x → counted .new (counted .root y) < 65534
-  pub same : (y : ℕ) → y < places p → valueAt p y ≡ k → y < x → counted .new (counted .root y) ≡ 2048 + getD m y 0
+  pub few : (y : ℕ) → y < places p → valueAt p y ≡ k → y < x → counted .cells .marks (counted .cells .root y) < 65534
+  pub same : (y : ℕ) → y < places p → valueAt p y ≡ k → y < x → counted .cells .marks (counted .cells .root y) ≡ 2048 + getD m y 0
 
 -- a picture with these pixels and cells
 pub record Frame (p : Picture) (pixels l : List ℕ) : Type 0 where

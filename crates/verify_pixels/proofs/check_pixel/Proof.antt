@@ -50,12 +50,12 @@ check-edge-requires c κs = let s = c .before .before .before .before .before .b
     let b = c .before .before .loop-test .taken in
     let e = s .count in
     let i = c .before .before .before .loop .inv in
-    let z = i .by-near .near .size in
+    let z = i .by-near .near .classes .size in
     let y = c .before .before .before .before .before .before .before .before .before .before .before .before .before .before .before .before .before .before .pre .0 .0 .classes .size in
     (look-ready _ _ _ _ _ _ _ _ _ i (omega arith) (c .wide .ensures ∙ listed-at _ _ _ _ s _ b), (omega (arith, c .before .before .before .before .before .before .before .before .before .before .before .before .before .before .before .before .before .before .pre .1 .0), omega (arith, c .before .before .before .before .before .before .before .before .before .before .before .before .before .before .before .before .before .before .pre .1 .1)))
 
 same-length : tie.Need-same-length Inv-loop μ-loop
-same-length c = c .before .before .before .check-edge .ensures .size ∙ (c .before .before .before .before .before .before .before .loop .inv .by-near .near .size ∙ sym (c .before .before .before .before .before .before .before .before .before .before .before .before .before .before .before .before .before .before .before .before .before .before .pre .0 .0 .classes .size))
+same-length c = c .before .before .before .check-edge .ensures .size ∙ (c .before .before .before .before .before .before .before .loop .inv .by-near .near .classes .size ∙ sym (c .before .before .before .before .before .before .before .before .before .before .before .before .before .before .before .before .before .before .before .before .before .before .pre .0 .0 .classes .size))
 
 returns-2 : tie.Need-returns-2 Inv-loop μ-loop
 returns-2 c = let s = c .before .before .before .before .before .before .before .before .before .before .before .before .before .neighbours .ensures in

@@ -67,7 +67,7 @@ mul-wide-3 c = search needs
 
 slice-read-wide : tie.Need-slice-read-wide Inv-loop μ-loop
 slice-read-wide c = let i = c .before .before .loop .inv in
-    omega (arith, i .room, i .near .size, i .near .within)
+    omega (arith, i .room, i .near .classes .size, i .near .within)
 
 wide-requires-2 : tie.Need-wide-requires-2 Inv-loop μ-loop
 wide-requires-2 c κs = search needs
@@ -84,7 +84,7 @@ returns c = let s = c .before .before .before .before .before .before .before .b
     let b = c .before .before .loop-test .left in
     let e = s .count in
     joining-end _ _ _ _ _ _ _ _ _ _ i (omega arith) (c .before .before .before .before .before .before .before .before .before .before .before .before .before .before .pre .0)
-    (c .wide2 .ensures ∙ ap (λ (n : ℕ). getD (c .before .before .before .loop .work) (2 * n + c .before .before .before .before .before .before .before .before .before .before .before .before .before .before .args .x) 0) (i .near .size))
+    (c .wide2 .ensures ∙ ap (λ (n : ℕ). getD (c .before .before .before .loop .work) (2 * n + c .before .before .before .before .before .before .before .before .before .before .before .before .before .before .args .x) 0) (i .near .classes .size))
 
 pub absorb-spec : {M : Type 1} → statement M
 absorb-spec =
