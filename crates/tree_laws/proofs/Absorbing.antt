@@ -17,7 +17,7 @@ use Rattle.topology.proofs.Nodes.{nodes-few}
 use Rattle.tree_laws.proofs.Beneath.{Low, beneath, beneath-number}
 use Rattle.lists.proofs.Updates.{put}
 use Rattle.tree_laws.proofs.Levels.{relink, relink-moved, relink-kept, relink-same, State, nothing, single, several, Upto, upto-before, edges-lower, Merged, merged-exchange, met, met-number, linked}
-use Rattle.tree_laws.proofs.Forests.{Forest, Found, root-cell, Ordered, ordered-less, in-order, forest-link}
+use Rattle.tree_laws.proofs.Forests.{Forest, Found, found-root, root-cell, Ordered, ordered-less, in-order, forest-link}
 use Rattle.tree_laws.proofs.Marks.{Names}
 use Rattle.tree_laws.proofs.Classes.{Classes, classes-cells, classes-found}
 
@@ -63,7 +63,7 @@ module _ (p : Picture) (ok : Accepted p) (k x : ℕ) where
         low = let h = byte-at (p .pixels) (ok .bytes) x in omega arith;
         within = b;
         value = v;
-        is = f .is (c .root) (c .st) (c .forest);
+        is = found-root f (c .forest);
         seen = λ i h. absurd (omega arith);
       }
 
@@ -152,10 +152,10 @@ module _ (p : Picture) (ok : Accepted p) (k x : ℕ) where
 
       module _ {m : List ℕ} {q : ℕ} (f : Found l y q m) where
         root-of-y : cs .root y ≡ q
-        root-of-y = f .is (cs .root) (cs .st) (cs .forest)
+        root-of-y = found-root f (cs .forest)
 
         forest : Forest m (cs .root) (cs .st)
-        forest = f .keeps (cs .root) (cs .st) (cs .forest)
+        forest = f .walked .keeps (cs .root) (cs .st) (cs .forest)
 
         root-q : cs .root q ≡ q
         root-q = subst (λ (a : ℕ). cs .root a ≡ a) root-of-y (cs .level .fixed y (u .within))
@@ -170,11 +170,11 @@ module _ (p : Picture) (ok : Accepted p) (k x : ℕ) where
         joined-r = subst (Joined p k x) (n .is) (cs .level .own x at-x)
 
         pub near-same : Edge p x j y → q ≡ r → Near p k x (suc j) r m fa
-        near-same e g = near-next m (f .size) forest y e (λ h. root-of-y ∙ (g ∙ sym (n .is)))
+        near-same e g = near-next m (f .walked .size) forest y e (λ h. root-of-y ∙ (g ∙ sym (n .is)))
 
         pub near-linkable : Linkable x q r m
         near-linkable =
-            let size = f .size in
+            let size = f .walked .size in
             let same = cs .size in
             let most = places-bound p ok in
             let within = n .within in
@@ -185,8 +185,8 @@ module _ (p : Picture) (ok : Accepted p) (k x : ℕ) where
               place = omega arith;
               in-q = omega arith;
               in-r = omega arith;
-              name-q = near-names m (f .size) forest q (conn-target joined-q) root-q;
-              name-r = near-names m (f .size) forest r (conn-target joined-r) root-r;
+              name-q = near-names m (f .walked .size) forest q (conn-target joined-q) root-q;
+              name-r = near-names m (f .walked .size) forest r (conn-target joined-r) root-r;
             }
 
         -- the two roots, the smaller first
@@ -204,7 +204,7 @@ module _ (p : Picture) (ok : Accepted p) (k x : ℕ) where
           joined = conn-trans (joined-sym p k (ends .0)) (ends .1)
 
           hi-in : hi < length m
-          hi-in = let b = conn-target joined .within in let g = cs .size in omega (arith, b, g, f .size)
+          hi-in = let b = conn-target joined .within in let g = cs .size in omega (arith, b, g, f .walked .size)
 
           small : lo < 2048
           small = let b = conn-source joined .within in let g = places-bound p ok in omega arith
@@ -252,7 +252,7 @@ module _ (p : Picture) (ok : Accepted p) (k x : ℕ) where
                     record {
                       root = relink (cs .root) lo hi;
                       st = put (cs .st) lo s;
-                      size = length-set (set m hi lo) lo s ∙ (length-set m hi lo ∙ (f .size ∙ cs .size));
+                      size = length-set (set m hi lo) lo s ∙ (length-set m hi lo ∙ (f .walked .size ∙ cs .size));
                       forest = forest-link m lo hi s (cs .root) (cs .st) forest less hi-in small (roots .0) (roots .1) big;
                       level =
                           linked p ok k (n .low) x lo hi (cs .root) (cs .st) fa (cs .level) lower

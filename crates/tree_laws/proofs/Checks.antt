@@ -13,7 +13,7 @@ use Rattle.lists.proofs.Tests.{clash}
 use Rattle.topology.proofs.Accepted.{Accepted}
 use Rattle.lists.proofs.Updates.{put, put-same, put-other}
 use Rattle.tree_laws.proofs.Levels.{Merged, left, right, both}
-use Rattle.tree_laws.proofs.Forests.{Found, ordered, ordered-most, Hung, hung-size, Parents, forest-parents}
+use Rattle.tree_laws.proofs.Forests.{Found, ordered, ordered-most, Hung, hung-size, Parents}
 use Rattle.tree_laws.proofs.Marks.{Names}
 use Rattle.tree_laws.proofs.Classes.{Classes}
 use Rattle.tree_laws.proofs.Absorbing.{Near, Edge, Linkable, edge-touch, edge-within, near-skip, near-same, near-linkable, near-linked, near-met}
@@ -176,7 +176,7 @@ module _ (pixels : List ℕ) (k x r y : ℕ) (l fs m : List ℕ) where
   look-bounds e = edge-within (e .p) (e .ok) k x (e .j) y pixels l (e .edge) (e .is) (e .near .near .classes .size)
 
   pub look-parents : LookReady pixels k x r y l fs m → Parents l
-  look-parents e = forest-parents (e .near .near .classes .forest)
+  look-parents e = e .near .near .classes .forest .parents
 
   pub look-skip : Comes k x y (getD pixels y 0) false → Looked pixels k x r y l fs m r l
   look-skip c =
@@ -198,7 +198,7 @@ module _ (pixels : List ℕ) (k x r y : ℕ) (l fs m : List ℕ) where
     pub look-same : q ≡ r → Looked pixels k x r y l fs m r o
     look-same h =
         record {
-          size = f .size;
+          size = f .walked .size;
           near =
               λ p j ok e g n b.
               let (s, t) = edge-touch p ok k x j y g in
@@ -218,7 +218,7 @@ module _ (pixels : List ℕ) (k x r y : ℕ) (l fs m : List ℕ) where
     pub look-joined : (u : List ℕ) (z : ℕ) → q ≢ r → Joint x q r o fs m u z → Looked pixels k x r y l fs m z u
     look-joined u z d (linked s big h g) =
         record {
-          size = hung-size h ∙ f .size;
+          size = hung-size h ∙ f .walked .size;
           near =
               λ p j ok i a n b.
               let (w, t) = edge-touch p ok k x j y a in
@@ -237,8 +237,8 @@ module _ (pixels : List ℕ) (k x r y : ℕ) (l fs m : List ℕ) where
         }
     look-joined u z d (differs i b dq dr a e s is) =
         record {
-          size = s ∙ f .size;
-          near = λ p j ok i a n v. absurd (let g = f .size in omega arith);
+          size = s ∙ f .walked .size;
+          near = λ p j ok i a n v. absurd (let g = f .walked .size in omega arith);
           differs =
               λ p j ok g t n v.
               let (w, touch) = edge-touch p ok k x j y t in

@@ -41,7 +41,7 @@ classes-start p l fa size cell =
       forest =
           record {
             below = λ y b. omega arith;
-            less = λ y b h. absurd (let c = cell y b in omega arith);
+            parents = record { less = λ y b h. absurd (let c = cell y b in omega arith) };
             up = λ y b h. absurd (let c = cell y b in omega arith);
             top = λ y b h. refl;
             state = λ y b h. cell y b;
@@ -80,7 +80,7 @@ module _ (p : Picture) (k x : ℕ) (l : List ℕ) (fa : ℕ → ℕ) (c : Classe
       record { root = c .root; st = c .st; size = size ∙ c .size; forest = forest; level = c .level; edges = c .edges }
 
   abbrev pub classes-found : {y r : ℕ} {m : List ℕ} → Found l y r m → Classes p k x m fa
-  classes-found {m = m} f = classes-cells m (f .size) (f .keeps (c .root) (c .st) (c .forest))
+  classes-found {m = m} f = classes-cells m (f .walked .size) (f .walked .keeps (c .root) (c .st) (c .forest))
 
   abbrev pub classes-fathers : (fb : ℕ → ℕ) → ((i : ℕ) → i < soFar p k → fb i ≡ fa i) → Classes p k x l fb
   classes-fathers fb e =
@@ -113,8 +113,8 @@ module _ (p : Picture) (k c : ℕ) (l : List ℕ) (fa : ℕ → ℕ) (s : Marked
         root = s .root;
         st = s .st;
         marks = s .marks;
-        size = f .size ∙ s .size;
-        forest = f .keeps (s .root) (s .marks) (s .forest);
+        size = f .walked .size ∙ s .size;
+        forest = f .walked .keeps (s .root) (s .marks) (s .forest);
         joined = s .joined;
       }
 

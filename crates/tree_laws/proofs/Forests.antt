@@ -16,14 +16,11 @@ pub record Parents (l : List ℕ) : Type 0 where
 
 -- the cells hold the roots of a forest and their states
 pub record Forest (l : List ℕ) (root st : ℕ → ℕ) : Type 0 where
+  pub parents : Parents l
   pub below : (x : ℕ) → x < length l → root x ≤ x
-  pub less : (x : ℕ) → x < length l → getD l x 0 < 2048 → getD l x 0 < x
   pub up : (x : ℕ) → x < length l → getD l x 0 < 2048 → root (getD l x 0) ≡ root x
   pub top : (x : ℕ) → x < length l → 2048 ≤ getD l x 0 → root x ≡ x
   pub state : (x : ℕ) → x < length l → 2048 ≤ getD l x 0 → getD l x 0 ≡ st x
-
-pub forest-parents : {l : List ℕ} {root st : ℕ → ℕ} → Forest l root st → Parents l
-forest-parents f = record { less = f .less }
 
 -- a root's cell is no parent
 pub root-cell : {l : List ℕ} {root st : ℕ → ℕ} → Forest l root st → (x : ℕ) → x < length l → root x ≡ x → 2048 ≤ getD l x 0
@@ -31,7 +28,7 @@ root-cell {l} f x b e =
     by-cases (decLt (getD l x 0) 2048)
     (λ h.
     absurd
-    (let a = f .less x b h in
+    (let a = f .parents .less x b h in
     let c = f .up x b h in
     let d = f .below (getD l x 0) (omega arith) in
     omega arith))
@@ -52,12 +49,18 @@ pub record Split (l : List ℕ) (x r : ℕ) (m : List ℕ) : Type 0 where
 
 -- r is the root of x
 pub record Found (l : List ℕ) (x r : ℕ) (m : List ℕ) : Type 0 where
-  pub size : length m ≡ length l
-  pub within : r < length l
-  pub parents : Parents m
+  pub walked : Walked l x r m
   pub top : 2048 ≤ getD m r 0
-  pub keeps : (root st : ℕ → ℕ) → Forest l root st → Forest m root st
-  pub is : (root st : ℕ → ℕ) → Forest l root st → root x ≡ r
+
+module _ {l m : List ℕ} {x r : ℕ} {root st : ℕ → ℕ} (f : Found l x r m) (forest : Forest l root st) where
+  inside : r < length m
+  inside = let w = f .walked in let s = w .size in let b = w .within in omega arith
+
+  pub found-root : root x ≡ r
+  found-root = f .walked .same root st forest ∙ f .walked .keeps root st forest .top r inside (f .top)
+
+  pub found-state : getD m r 0 ≡ st r
+  found-state = f .walked .keeps root st forest .state r inside (f .top)
 
 pub walk-start : (l : List ℕ) (x : ℕ) → x < length l → Parents l → Walked l x x l
 walk-start l x b h =
@@ -76,17 +79,7 @@ walk-turn l m o x i r a b =
     }
 
 pub walk-end : (l m : List ℕ) (x r : ℕ) → Walked l x r m → 2048 ≤ getD m r 0 → Found l x r m
-walk-end l m x r a h =
-    let s = a .size in
-    let b = a .within in
-    record {
-      size = a .size;
-      within = a .within;
-      parents = a .parents;
-      top = h;
-      keeps = a .keeps;
-      is = λ root st f. a .same root st f ∙ a .keeps root st f .top r (omega arith) h;
-    }
+walk-end l m x r a h = record { walked = a; top = h }
 
 module _ (l : List ℕ) (x : ℕ) (b : x < length l) (h : Parents l) (low : getD l x 0 < 2048) where
   -- to the parent, with no cell changed
@@ -114,7 +107,7 @@ module _ (l : List ℕ) (x : ℕ) (b : x < length l) (h : Parents l) (low : getD
             record {
               size = length-set l x grand;
               within = omega arith;
-              parents = record { less = λ y c. smaller y (subst (λ (n : ℕ). y < n) (length-set l x grand) c) };
+              parents = parents;
               keeps = kept;
               same = λ root st f. sym (f .up x b low);
             };
@@ -134,11 +127,14 @@ module _ (l : List ℕ) (x : ℕ) (b : x < length l) (h : Parents l) (low : getD
           omega (arith, s, e, t))
           (λ d q. let s = getD-set-other l x y grand 0 d in let t = h .less y c (omega arith) in omega arith)
 
+      parents : Parents (set l x grand)
+      parents = record { less = λ y c. smaller y (subst (λ (n : ℕ). y < n) (length-set l x grand) c) }
+
       kept : (root st : ℕ → ℕ) → Forest l root st → Forest (set l x grand) root st
       kept root st f =
           record {
             below = λ y c. f .below y (subst (λ (n : ℕ). y < n) (length-set l x grand) c);
-            less = λ y c. smaller y (subst (λ (n : ℕ). y < n) (length-set l x grand) c);
+            parents = parents;
             up = λ y c q. up y (subst (λ (n : ℕ). y < n) (length-set l x grand) c) q;
             top = λ y c q. f .top y (subst (λ (n : ℕ). y < n) (length-set l x grand) c) (other y q .1);
             state = λ y c q. other y q .0 ∙ f .state y (subst (λ (n : ℕ). y < n) (length-set l x grand) c) (other y q .1);
@@ -214,7 +210,7 @@ pub forest-link :
 forest-link l lo hi s root st f less b small at-lo at-hi big =
     record {
       below = λ y c. below y (bound y c);
-      less = λ y c. by y (bound y c) .0;
+      parents = record { less = λ y c. by y (bound y c) .0 };
       up = λ y c. by y (bound y c) .1;
       top = λ y c q. high y (bound y c) q .0;
       state = λ y c q. high y (bound y c) q .1;
@@ -261,7 +257,7 @@ forest-link l lo hi s root st f less b small at-lo at-hi big =
         ))
         (λ e.
         let g = cell-other y d e in (
-          λ q. let t = f .less y c (omega arith) in omega arith,
+          λ q. let t = f .parents .less y c (omega arith) in omega arith,
           λ q. ap (relink root lo hi) g ∙ relink-same root lo hi (getD l y 0) y (f .up y c (omega arith)),
         )))
 
@@ -289,7 +285,7 @@ pub forest-state :
 forest-state l r s root st f b at-r big =
     record {
       below = λ y c. f .below y (bound y c);
-      less = λ y c q. let g = low y q in let t = f .less y (bound y c) (omega arith) in omega arith;
+      parents = record { less = λ y c q. let g = low y q in let t = f .parents .less y (bound y c) (omega arith) in omega arith };
       up = λ y c q. let g = low y q in ap root g ∙ f .up y (bound y c) (omega arith);
       top = λ y c q. high y (bound y c) q .0;
       state = λ y c q. high y (bound y c) q .1;

@@ -12,7 +12,7 @@ use Rattle.picture.specs.Geometry.{neighboursIn, Placed}
 use Rattle.lists.proofs.Tests.{clash}
 use Rattle.topology.proofs.Accepted.{Accepted, placed}
 use Rattle.tree_laws.proofs.Levels.{upto-gap}
-use Rattle.tree_laws.proofs.Forests.{Found, Parents, forest-parents}
+use Rattle.tree_laws.proofs.Forests.{Found, Parents}
 use Rattle.tree_laws.proofs.Marks.{Names}
 use Rattle.tree_laws.proofs.Classes.{classes-upto}
 use Rattle.tree_laws.proofs.Absorbing.{Near, near-start, near-end}
@@ -44,7 +44,7 @@ module _ (p : Picture) (k x : ℕ) where
       placed p (c .ok) x (let e = c .classes .size in omega arith)
 
   pub checking-parents : (l fs m : List ℕ) → Checking p k x l fs m → Parents l
-  checking-parents l fs m c = forest-parents (c .classes .forest)
+  checking-parents l fs m c = c .classes .forest .parents
 
   pub look-start : (r : ℕ) (l o fs m : List ℕ) → Checking p k x l fs m → x < length l → valueAt p x ≡ k → Found l x r o → Looking p k x 0 r o fs m
   look-start r l o fs m c b v f =

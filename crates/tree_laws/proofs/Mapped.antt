@@ -1,10 +1,10 @@
 -- The walks that number the listed roots of a height and map its pixels; what holds between two heights.
 use mathlib.Core.Path.{_≡_, refl, sym, ap, subst, _∙_}
-use mathlib.Core.Logic.{inl, inr, ⊎-elim, by-cases, _≢_}
+use mathlib.Core.Logic.{inl, ⊎-elim, by-cases, _≢_}
 use mathlib.Core.List.{List}
 use Prim.Native.Nat.{ℕ, suc, _+_, _-_, _*_, _≤_, _<_}
 use native.Mathlib.Numerals.{add-one}
-use native.Mathlib.Decide.{ℕ-discrete, decLt}
+use native.Mathlib.Decide.{ℕ-discrete}
 use native.Mathlib.Omega.{arith}
 use lib.ListN.{length, getD, set, length-set}
 use lib.Seq.{getD-set-same, getD-set-other}
@@ -16,7 +16,7 @@ use Rattle.tree_laws.proofs.Levels.{Upto, upto-before, upto-all, upto-n
 use Rattle.tree_laws.proofs.Counts.{soFar, so-places}
 use Rattle.lists.specs.Blocks.{UntouchedOutside}
 use Rattle.lists.proofs.Blocks.{kept-refl, kept-set}
-use Rattle.tree_laws.proofs.Forests.{Found, Parents, forest-parents}
+use Rattle.tree_laws.proofs.Forests.{Found, found-root, found-state, Parents}
 use Rattle.tree_laws.proofs.Classes.{Classes, classes-found, classes-fathers}
 use Rattle.tree_laws.proofs.Chains.{fathersIn, mapIn, NextOfValue, After, after-mono, Threads, threads-next, upto-skip, classes-skip}
 use Rattle.tree_laws.proofs.Walks.{WalkReady}
@@ -134,7 +134,7 @@ pub map-ready : (x y : ℕ) (l w m v : List ℕ) → MapReady x l w → MapWalk 
 map-ready x y l w m v r s = record { p = r .p; k = r .k; d = r .d; from = s .from (r .p) (r .k) (r .d) (r .from) }
 
 pub map-parents : (x : ℕ) (l w : List ℕ) → MapReady x l w → Parents l
-map-parents x l w r = forest-parents (r .from .mapping .classes .forest)
+map-parents x l w r = r .from .mapping .classes .forest .parents
 
 pub map-bounds : (x : ℕ) (l w : List ℕ) → MapReady x l w → length w ≡ 4 * length l
 map-bounds x l w r = let a = r .from .mapping .room in let b = r .from .mapping .classes .size in omega arith
@@ -162,11 +162,10 @@ module _ (p : Picture) (k d x q : ℕ) (l w m v : List ℕ) (s : MapFrom p k d x
   cs = classes-found p (suc k) 0 l (fathersIn p w) (g .classes) (t .found)
 
   says-x : getD m (t .r) 0 - 2048 ≡ mapOf p x
-  unfolding cs
   says-x =
       let f = t .found in
-      let r = f .is (g .classes .root) (g .classes .st) (g .classes .forest) in
-      let a = cs .forest .state (t .r) (let z = f .size in let y = f .within in omega arith) (f .top) in
+      let r = found-root f (g .classes .forest) in
+      let a = found-state f (g .classes .forest) in
       let c = g .says x (record { within = b; low = let z = value in omega arith }) in
       let e = ap (g .classes .st) r in
       let h : mapOf p x ≡ under p k x = map-under p x ∙ ap (λ (j : ℕ). under p j x) value in
@@ -229,7 +228,7 @@ module _ (p : Picture) (k d x q : ℕ) (l w m v : List ℕ) (s : MapFrom p k d x
 pub map-more : (x y q : ℕ) (l w m v o u : List ℕ) → MapWalk x l w y m v → y < length m → MappedOne y q m v o u → MapWalk x l w q o u
 map-more x y q l w m v o u s b t =
     record {
-      size = t .found .size ∙ s .size;
+      size = t .found .walked .size ∙ s .size;
       same = ap length (t .work) ∙ (length-set v (2 * length m + y) (getD o (t .r) 0 - 2048) ∙ s .same);
       from =
           λ p k d a.

@@ -1,13 +1,13 @@
 -- The listed roots get their numbers, and the pixels of the height their nodes.
 use mathlib.Core.Path.{_≡_, refl, sym, ap, subst, _∙_}
-use mathlib.Core.Logic.{inl, inr, ⊎-elim, by-cases, _≢_}
+use mathlib.Core.Logic.{⊎-elim, by-cases, _≢_}
 use mathlib.Core.List.{List}
 use Prim.Native.Nat.{ℕ, suc, _+_, _*_, _≤_, _<_}
 use native.Mathlib.Decide.{ℕ-discrete, decLt}
 use native.Mathlib.Omega.{arith}
 use lib.ListN.{length, getD, set, length-set}
 use lib.Seq.{getD-set-same, getD-set-other}
-use Rattle.picture.specs.Pictures.{Picture, places, valueAt}
+use Rattle.picture.specs.Pictures.{Picture, places}
 use Rattle.picture.specs.Trees.{Node, nodes, nodeAt}
 use Rattle.topology.proofs.Adjacency.{At}
 use Rattle.topology.proofs.Accepted.{Accepted}

@@ -12,7 +12,7 @@ use Rattle.topology.proofs.Accepted.{Accepted, placed}
 use Rattle.lists.specs.Blocks.{UntouchedOutside}
 use Rattle.lists.proofs.Blocks.{kept-refl, kept-trans}
 use Rattle.tree_laws.proofs.Levels.{upto-gap}
-use Rattle.tree_laws.proofs.Forests.{Found, Parents, forest-parents}
+use Rattle.tree_laws.proofs.Forests.{Found, Parents}
 use Rattle.tree_laws.proofs.Classes.{Classes, classes-upto}
 use Rattle.tree_laws.proofs.Absorbing.{Near, near-start, near-end}
 use Rattle.tree_laws.proofs.Chains.{fathersIn, mapIn, Threads, threads-same, threads-next, classes-skip, EdgeReady, EdgeDone}
@@ -40,7 +40,7 @@ pub record Joining (p : Picture) (k x i r : ℕ) (l w v : List ℕ) : Type 0 whe
   pub block : UntouchedOutside (places p) (places p) w v
 
 pub ready-parents : {p : Picture} {k x : ℕ} {l w : List ℕ} → WalkReady p k x l w → Parents l
-ready-parents r = forest-parents (r .classes .forest)
+ready-parents r = r .classes .forest .parents
 
 pub threads-block : (p : Picture) (k x b : ℕ) (w v : List ℕ) → Threads p k x (mapIn p w) → UntouchedOutside b (places p) w v → (b + places p ≤ 2 * places p) ⊎ (3 * places p ≤ b) → Threads p k x (mapIn p v)
 threads-block p k x b w v t k′ o =

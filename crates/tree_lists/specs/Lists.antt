@@ -1,6 +1,6 @@
 -- The tree handed over as lists.
 use mathlib.Core.Path.{_≡_}
-use mathlib.Core.List.{List, _++_}
+use mathlib.Core.List.{List}
 use Prim.Native.Nat.{ℕ, _*_, _≤_, _<_}
 use lib.ListN.{length, getD, drop}
 use Rattle.picture.specs.Pictures.{Picture, places}

@@ -14,7 +14,7 @@ use Rattle.picture.specs.Trees.{isBranch, nodes, nodeAt}
 use Rattle.topology.proofs.Adjacency.{At}
 use Rattle.topology.proofs.Reached.{firstAt}
 use Rattle.topology.proofs.Nodes.{node-is}
-use Rattle.lists.proofs.Updates.{put, put-same, put-other}
+use Rattle.lists.proofs.Updates.{put-same, put-other}
 use Rattle.tree_laws.proofs.Counts.{soFar, firsts-rise}
 use Rattle.tree_laws.proofs.Numbering.{roots-none, root-first, fork-free}
 use Rattle.tree_laws.proofs.Forests.{root-cell}

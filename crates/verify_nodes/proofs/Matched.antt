@@ -20,7 +20,7 @@ use Rattle.topology.proofs.Descent.{under, map-under}
 use Rattle.topology.proofs.Fathers.{map-found}
 use Rattle.tree_laws.proofs.Counts.{soFar, height-least, height-below}
 use Rattle.tree_laws.proofs.Numbering.{Member, RootsListed, Numbered, root-first, free-fork, number-new, count-next, next-level, named-all, edges-next}
-use Rattle.tree_laws.proofs.Forests.{Found}
+use Rattle.tree_laws.proofs.Forests.{Found, found-root, found-state}
 use Rattle.tree_laws.proofs.Classes.{MarkedClasses, marks-found}
 use Rattle.tree_laws.proofs.Checks.{Checking}
 use Rattle.lent_tree.specs.Lent.{HoldsTree}
@@ -57,9 +57,7 @@ module _ (p : Picture) (k c d x r : ℕ) (l o fs ss m : List ℕ) (s : Matched p
 
   cell : getD o r 0 ≡ s .counted .cells .marks (s .counted .cells .root x)
   cell =
-      let g = s .counted .cells in
-      let e = f .is (g .root) (g .marks) (g .forest) in
-      f .keeps (g .root) (g .marks) (g .forest) .state r (let a = f .within in let z = f .size in omega arith) (f .top) ∙ ap (g .marks) (sym e)
+      let g = s .counted .cells in found-state f (g .forest) ∙ ap (g .marks) (sym (found-root f (g .forest)))
 
   pub matched-turn : getD o r 0 < 65534 → getD o r 0 ≡ 2048 + getD m x 0 → Matched p k c d (x + 1) o fs ss m
   unfolding moved

@@ -9,7 +9,7 @@ use native.Mathlib.Omega.{arith}
 use lib.ListN.{length, getD, set, length-set}
 use Rattle.picture.specs.Pictures.{Picture, places, valueAt}
 use Rattle.lists.proofs.Tests.{clash}
-use Rattle.tree_laws.proofs.Forests.{Found, Parents, forest-parents}
+use Rattle.tree_laws.proofs.Forests.{Found, Parents}
 use Rattle.lent_tree.specs.Lent.{HoldsTree}
 use Rattle.verify_nodes.specs.Steps.{SameHeights, Counted, Matched, Fit, CountReady, NodesChecked, LentMapReady, MapChecked}
 use Rattle.verify_nodes.proofs.Counted.{counted-turn, tree-fits}
@@ -189,7 +189,7 @@ map-start pixels k l m = record { size = refl; most = omega arith; from = λ p c
 
 pub map-ready : (pixels : List ℕ) (k x : ℕ) (o m l : List ℕ) → LentMapReady pixels k 0 o m → MapCheckedTo pixels k x o m l → Parents l
 map-ready pixels k x o m l r s =
-    forest-parents (s .from (r .p) (r .c) (r .d) (r .fs) (r .ss) (r .is) (r .matched) .counted .cells .forest)
+    s .from (r .p) (r .c) (r .d) (r .fs) (r .ss) (r .is) (r .matched) .counted .cells .forest .parents
 
 pub map-turn :
     (pixels : List ℕ) (k x : ℕ) (o m l u : List ℕ) (b : Bool) → MapCheckedTo pixels k x o m l → x < length l → MapChecked pixels k x (x + 1) l m u b → b ≡ true →

@@ -32,7 +32,7 @@ check-join-requires c κs = let t = c .before .before .before .before .before .b
     let s = c .before .before .before .before .before .before .before .before .before .before .before .before .pre in
     let f = c .before .before .before .before .find .ensures in
     let j = look-join _ _ _ _ _ _ _ _ (comes-is (not-false (t .result) (c .before .before .before .before .before .before .if1 .left)) (t .ensures)) _ _ f (s .0) in
-    let z = f .size in
+    let z = f .walked .size in
     ((c .before .if2 .left, j .in-q, j .in-r, j .few, j .place), ((j .name-q, j .name-r), (omega (arith, s .1 .0), omega (arith, s .1 .1))))
 
 same-length-2 : tie.Need-same-length-2
