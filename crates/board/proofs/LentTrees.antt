@@ -19,7 +19,7 @@ use Rattle.topology.proofs.Grid.{pass-byte}
 use Rattle.topology.proofs.TreeLists.{length-heights, length-fathers, length-firsts, length-map-of, heights-at, fathers-at, firsts-at, map-at}
 use Rattle.tree_lists.specs.Lists.{Rooms}
 use Rattle.lent_tree.specs.Lent.{HoldsTree}
-use Rattle.verify.specs.Checked.{Says}
+use Rattle.verify.specs.Checked.{IsTreeAnswer, decided-yes, decided-never}
 use Rattle.lent_tree.specs.Passes.{PassReady}
 use Rattle.faults.specs.Faults.{outputFault}
 use Rattle.board.specs.Trees.{begins, isTree, shortest, treeFaultOf, placesFaultOf, checkedFault, TreeLent}
@@ -82,10 +82,10 @@ module _ (p : Picture) (count : ℕ) (hs fs ss m : List ℕ) where
         (begun (treeOf p .map) m (places p) (length-map-of p) (lent .map refl) (λ x h. t .map x h ∙ sym (map-at p x h))))))
 
     -- the answer of the check is the test
-    pub answer-tree : (b : Bool) → Says p count hs fs ss m b → b ≡ isTree p count hs fs ss m
-    answer-tree true s = sym (entries-tree (s .yes refl))
+    pub answer-tree : (b : Bool) → IsTreeAnswer p count hs fs ss m b → b ≡ isTree p count hs fs ss m
+    answer-tree true s = sym (entries-tree (decided-yes refl s))
     answer-tree false s =
-        on-test (isTree p count hs fs ss m) (λ e. absurd (s .never refl (tree-entries e))) (λ e. sym e)
+        on-test (isTree p count hs fs ss m) (λ e. absurd (decided-never refl s (tree-entries e))) (λ e. sym e)
 
   -- the returns of the fault of a lent tree
   pub tree-unchecked : (f : ℕ) → f ≢ 0 → f ≡ checkedFault f p count hs fs ss m

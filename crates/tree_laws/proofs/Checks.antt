@@ -9,15 +9,15 @@ use native.Mathlib.Omega.{arith}
 use lib.ListN.{length, getD}
 use Rattle.picture.specs.Pictures.{Picture, places}
 use Rattle.picture.specs.Trees.{nodes, nodeAt, fatherOf, mapOf}
-use Rattle.lists.proofs.Tests.{clash}
 use Rattle.topology.proofs.Accepted.{Accepted}
 use Rattle.lists.proofs.Updates.{put, put-same, put-other}
-use Rattle.tree_laws.proofs.Levels.{Merged, left, right, both}
+use Rattle.tree_laws.proofs.Decided.{Decided, yes, never, decided-yes, decided-never}
+use Rattle.tree_laws.proofs.Levels.{Earlier, Merged, left, right, both}
 use Rattle.tree_laws.proofs.Forests.{Found, ordered, ordered-most, Hung, hung-size, Parents}
 use Rattle.tree_laws.proofs.Marks.{Names}
 use Rattle.tree_laws.proofs.Classes.{Classes}
 use Rattle.tree_laws.proofs.Absorbing.{Near, Edge, Linkable, edge-touch, edge-within, near-skip, near-same, near-linkable, near-linked, near-met}
-use Rattle.tree_laws.proofs.Chains.{Comes, upto-of}
+use Rattle.tree_laws.proofs.Chains.{upto-of}
 
 -- the lent entries of two lists contradict the tree: a node's father is the node of a pixel, and their entries differ
 pub record Differs (p : Picture) (fs m : List ℕ) : Type 0 where
@@ -46,9 +46,9 @@ pub record NearBy (p : Picture) (k x j r : ℕ) (l fs m : List ℕ) : Type 0 whe
   pub agree : Agree fa fs m
 
 -- the entry of the node that a state names agrees with the pixel's
-pub record Agrees (s x : ℕ) (fs m : List ℕ) (b : Bool) : Type 0 where
-  pub yes : b ≡ true → (i : ℕ) → i < 1600 → s ≡ 2048 + i → getD fs i 0 ≡ getD m x 0
-  pub never : b ≡ false → (s < 65534) × (getD fs (s - 2048) 0 ≢ getD m x 0)
+unfoldable pub Agrees : ℕ → ℕ → List ℕ → List ℕ → Bool → Type 0
+Agrees s x fs m =
+    Decided ((i : ℕ) → i < 1600 → s ≡ 2048 + i → getD fs i 0 ≡ getD m x 0) ((s < 65534) × (getD fs (s - 2048) 0 ≢ getD m x 0))
 
 -- the states a and b merged to s, the lent fathers of the nodes that meet being the lent node of x
 pub data MergedBy (x a b s : ℕ) (fs m : List ℕ) : Type 0 where
@@ -108,21 +108,16 @@ merged-by x a b s fs m fa ra rb (by-both da db q f) g = (
     miss i h d e = other b (marked a x fa) i rb e ∙ other a fa i ra d
 
 pub agrees-none : (s x : ℕ) (fs m : List ℕ) → 65534 ≤ s → Agrees s x fs m true
-agrees-none s x fs m h = record { yes = λ e i b q. absurd (omega arith); never = λ e. absurd (clash refl e) }
+unfolding Agrees
+agrees-none s x fs m h = yes (λ i b q. absurd (omega arith))
 
 pub agrees-same : (s x t : ℕ) (fs m : List ℕ) → t ≡ s - 2048 → 2048 ≤ s → getD fs t 0 ≡ getD m x 0 → Agrees s x fs m true
-agrees-same s x t fs m e r h =
-    record {
-      yes = λ q i b g. let z : i ≡ t = omega arith in ap (λ (y : ℕ). getD fs y 0) z ∙ h;
-      never = λ q. absurd (clash refl q);
-    }
+unfolding Agrees
+agrees-same s x t fs m e r h = yes (λ i b g. let z : i ≡ t = omega arith in ap (λ (y : ℕ). getD fs y 0) z ∙ h)
 
 pub agrees-not : (s x t : ℕ) (fs m : List ℕ) → t ≡ s - 2048 → s < 65534 → (getD fs t 0 ≡ getD m x 0 → ⊥) → Agrees s x fs m false
-agrees-not s x t fs m e b h =
-    record {
-      yes = λ q. absurd (clash q refl);
-      never = λ q. (b, λ g. h (ap (λ (y : ℕ). getD fs y 0) e ∙ g));
-    }
+unfolding Agrees
+agrees-not s x t fs m e b h = never (b, λ g. h (ap (λ (y : ℕ). getD fs y 0) e ∙ g))
 
 module _ (x q r n : ℕ) (l fs m : List ℕ) (few : n ≤ 1600) (na : Names n (getD l q 0)) (nb : Names n (getD l r 0)) where
   pub joint-left : (o : List ℕ) (z : ℕ) → getD l q 0 ≡ 65535 → Hung q r (getD l r 0) l o z → Joint x q r l fs m o z
@@ -134,16 +129,18 @@ module _ (x q r n : ℕ) (l fs m : List ℕ) (few : n ≤ 1600) (na : Names n (g
   module _ (da : getD l q 0 ≢ 65535) (db : getD l r 0 ≢ 65535) where
     -- the state s is that of one of the two
     pub joint-differs : (s : ℕ) → (getD l q 0 ≡ s) ⊎ (getD l r 0 ≡ s) → Names n s → Agrees s x fs m false → Joint x q r l fs m l (length l)
+    unfolding Agrees
     joint-differs s e names a =
-        let (b, d) = a .never refl in
+        let (b, d) = decided-never refl a in
         let g = names .root in
         let h = names .node b in
         differs (s - 2048) (omega arith) da db (⊎-elim (λ t. inl (omega arith)) (λ t. inr (omega arith)) e) d refl refl
 
     pub joint-both : (o : List ℕ) (z : ℕ) → Agrees (getD l q 0) x fs m true → Agrees (getD l r 0) x fs m true → Hung q r 65534 l o z → Joint x q r l fs m o z
+    unfolding Agrees
     joint-both o z a b h =
         linked 65534 (omega arith) h
-        (by-both da db refl (λ i g. ⊎-elim (λ e. a .yes refl i g e) (λ e. b .yes refl i g e)))
+        (by-both da db refl (λ i g. ⊎-elim (decided-yes refl a i g) (decided-yes refl b i g)))
 
 -- x is joined to some of its neighbours, and y is the next
 pub record LookReady (pixels : List ℕ) (k x r y : ℕ) (l fs m : List ℕ) : Type 0 where
@@ -178,7 +175,7 @@ module _ (pixels : List ℕ) (k x r y : ℕ) (l fs m : List ℕ) where
   pub look-parents : LookReady pixels k x r y l fs m → Parents l
   look-parents e = e .near .near .classes .forest .parents
 
-  pub look-skip : Comes k x y (getD pixels y 0) false → Looked pixels k x r y l fs m r l
+  pub look-skip : (Earlier k x y (getD pixels y 0) → ⊥) → Looked pixels k x r y l fs m r l
   look-skip c =
       record {
         size = refl;
@@ -188,13 +185,13 @@ module _ (pixels : List ℕ) (k x r y : ℕ) (l fs m : List ℕ) where
               fa = n .fa;
               near =
                   near-skip p ok k x j r l (n .fa) (n .near) y g
-                  (λ u. c .never refl (subst (λ (v : List ℕ). (getD v y 0 < k) ⊎ ((getD v y 0 ≡ k) × (y < x))) e (u .passed)));
+                  (λ u. c (subst (λ (v : List ℕ). Earlier k x y (getD v y 0)) e (u .passed)));
               agree = n .agree;
             };
         differs = λ p j ok e g n b. absurd (let h = root-in p j ok n in omega arith);
       }
 
-  module _ (c : Comes k x y (getD pixels y 0) true) (o : List ℕ) (q : ℕ) (f : Found l y q o) where
+  module _ (c : Earlier k x y (getD pixels y 0)) (o : List ℕ) (q : ℕ) (f : Found l y q o) where
     pub look-same : q ≡ r → Looked pixels k x r y l fs m r o
     look-same h =
         record {

@@ -59,10 +59,14 @@ pub record Level (p : Picture) (k : ℕ) (root st fa : ℕ → ℕ) : Type 0 whe
 pub class-joined : {p : Picture} {k : ℕ} {root st fa : ℕ → ℕ} → Level p k root st fa → {y c : ℕ} → At p k y → root y ≡ c → Joined p k y c
 class-joined {p} {k} v {y} s e = subst (λ (z : ℕ). Joined p k y z) e (v .own y s)
 
--- y has a value below k, or the value k and a place before x
+-- a place y of value v comes before x at height k: by value, then by place
+abbrev pub Earlier : ℕ → ℕ → ℕ → ℕ → Type 0
+Earlier k x y v = (v < k) ⊎ ((v ≡ k) × (y < x))
+
+-- y is a place that comes before x at height k
 pub record Upto (p : Picture) (k x y : ℕ) : Type 0 where
   pub within : y < places p
-  pub passed : (valueAt p y < k) ⊎ ((valueAt p y ≡ k) × (y < x))
+  pub passed : Earlier k x y (valueAt p y)
 
 -- neighbours up to x are in one class
 pub record Edges (p : Picture) (k x : ℕ) (root : ℕ → ℕ) : Type 0 where

@@ -1,16 +1,16 @@
 -- The walk of the check over the pixels of a height.
 use mathlib.Core.Path.{_≡_, refl, sym, ap, subst, _∙_}
-use mathlib.Core.Bool.{Bool, true, false}
+use mathlib.Core.Bool.{Bool}
 use mathlib.Core.Logic.{_≢_}
 use mathlib.Core.List.{List}
 use Prim.Native.Nat.{ℕ, suc, _+_, _≤_, _<_}
 use native.Mathlib.Numerals.{add-one}
 use native.Mathlib.Omega.{arith}
 use lib.ListN.{length, getD}
-use Rattle.picture.specs.Pictures.{Picture, valueAt}
+use Rattle.picture.specs.Pictures.{Picture, places, valueAt}
 use Rattle.picture.specs.Geometry.{neighboursIn, Placed}
-use Rattle.lists.proofs.Tests.{clash}
 use Rattle.topology.proofs.Accepted.{Accepted, placed}
+use Rattle.tree_laws.proofs.Decided.{Decided}
 use Rattle.tree_laws.proofs.Levels.{upto-gap}
 use Rattle.tree_laws.proofs.Forests.{Found, Parents}
 use Rattle.tree_laws.proofs.Marks.{Names}
@@ -25,18 +25,11 @@ pub record Looking (p : Picture) (k x i r : ℕ) (l fs m : List ℕ) : Type 0 wh
   pub by-near : NearBy p k x i r l fs m
 
 -- what the check of a pixel, or of all before x, leaves
-pub record Passed (p : Picture) (k x : ℕ) (l fs m : List ℕ) (b : Bool) : Type 0 where
-  pub yes : b ≡ true → Checking p k x l fs m
-  pub never : b ≡ false → Differs p fs m
+abbrev pub Passed : Picture → ℕ → ℕ → List ℕ → List ℕ → List ℕ → Bool → Type 0
+Passed p k x l fs m = Decided (Checking p k x l fs m) (Differs p fs m)
 
 pub names-more : {n m s : ℕ} → n ≤ m → Names n s → Names m s
 names-more h a = record { root = a .root; node = λ b. let q = a .node b in omega arith }
-
-pub passed-yes : (p : Picture) (k x : ℕ) (l fs m : List ℕ) → Checking p k x l fs m → Passed p k x l fs m true
-passed-yes p k x l fs m c = record { yes = λ e. c; never = λ e. absurd (clash refl e) }
-
-pub passed-not : (p : Picture) (k x : ℕ) (l fs m : List ℕ) → Differs p fs m → Passed p k x l fs m false
-passed-not p k x l fs m d = record { yes = λ e. absurd (clash e refl); never = λ e. d }
 
 module _ (p : Picture) (k x : ℕ) where
   pub checking-placed : (l fs m : List ℕ) → Checking p k x l fs m → x < length l → Placed (p .width) (p .height) x
@@ -45,6 +38,11 @@ module _ (p : Picture) (k x : ℕ) where
 
   pub checking-parents : (l fs m : List ℕ) → Checking p k x l fs m → Parents l
   checking-parents l fs m c = c .classes .forest .parents
+
+  -- all places are passed
+  pub checking-end : (l fs m : List ℕ) → Checking p k x l fs m → x ≤ places p → length l ≤ x → Checking p k (places p) l fs m
+  checking-end l fs m c a b =
+      subst (λ (z : ℕ). Checking p k z l fs m) (let s = c .classes .size in let e : x ≡ places p = omega arith in e) c
 
   pub look-start : (r : ℕ) (l o fs m : List ℕ) → Checking p k x l fs m → x < length l → valueAt p x ≡ k → Found l x r o → Looking p k x 0 r o fs m
   look-start r l o fs m c b v f =

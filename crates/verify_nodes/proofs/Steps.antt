@@ -8,10 +8,10 @@ use native.Mathlib.Decide.{ℕ-discrete}
 use native.Mathlib.Omega.{arith}
 use lib.ListN.{length, getD, set, length-set}
 use Rattle.picture.specs.Pictures.{Picture, places, valueAt}
-use Rattle.lists.proofs.Tests.{clash}
+use Rattle.tree_laws.proofs.Decided.{yes, never, decided-yes, decided-never}
 use Rattle.tree_laws.proofs.Forests.{Found, Parents}
 use Rattle.lent_tree.specs.Lent.{HoldsTree}
-use Rattle.verify_nodes.specs.Steps.{SameHeights, Counted, Matched, Fit, CountReady, NodesChecked, LentMapReady, MapChecked}
+use Rattle.verify_nodes.specs.Steps.{SameHeights, Counted, Matched, NodeFits, SamePicture, FitAnswer, CountReady, NodesChecked, LentMapReady, MapChecked}
 use Rattle.verify_nodes.proofs.Counted.{counted-turn, tree-fits}
 use Rattle.verify_nodes.proofs.Matched.{matched-pass, matched-turn, matched-cell}
 
@@ -39,47 +39,32 @@ pub run-end : (k c i count : ℕ) (hs : List ℕ) → RunTo k c i hs → i ≤ c
 run-end k c i count hs s a b = record { order = s .order; most = a; same = s .same; ends = λ h. absurd (omega arith) }
 
 module _ (pixels : List ℕ) (k c i f : ℕ) (l ss : List ℕ) (e : f ≡ getD ss i 0) where
-  pub unfit-beyond : length l ≤ f → Fit pixels k c i l ss false
-  unfit-beyond h =
-      record { yes = λ q. absurd (clash q refl); never = λ q p r t. let a = t .within in let z = r .size in omega arith }
+  value-of : (p : Picture) → SamePicture p pixels l → (v : ℕ) → v ≡ getD pixels f 0 → valueAt p (getD ss i 0) ≡ v
+  value-of p r v g = ap (λ (u : List ℕ). getD u (getD ss i 0) 0) (r .is) ∙ (ap (λ (u : ℕ). getD pixels u 0) (sym e) ∙ sym g)
 
-  pub unfit-high : (v : ℕ) → v ≡ getD pixels f 0 → k < v → Fit pixels k c i l ss false
+  pub unfit-beyond : length l ≤ f → FitAnswer pixels k c i l ss false
+  unfit-beyond h = never (λ p r t. let a = t .within in let z = r .size in omega arith)
+
+  pub unfit-high : (v : ℕ) → v ≡ getD pixels f 0 → k < v → FitAnswer pixels k c i l ss false
   unfit-high v g h =
-      record {
-        yes = λ q. absurd (clash q refl);
-        never =
-            λ q p r t.
-            let a = t .low in
-            let z : valueAt p (getD ss i 0) ≡ v = ap (λ (u : List ℕ). getD u (getD ss i 0) 0) (r .is) ∙ (ap (λ (u : ℕ). getD pixels u 0) (sym e) ∙ sym g) in
-            omega arith;
-      }
+      never (λ p r t. let a = t .low in let z = value-of p r v g in omega arith)
 
-  pub unfit-taken : getD l f 0 < 65534 → Fit pixels k c i l ss false
-  unfit-taken h =
-      record {
-        yes = λ q. absurd (clash q refl);
-        never = λ q p r t. let a = t .free in let z = ap (λ (u : ℕ). getD l u 0) e in omega arith;
-      }
+  pub unfit-taken : getD l f 0 < 65534 → FitAnswer pixels k c i l ss false
+  unfit-taken h = never (λ p r t. let a = t .free in let z = ap (λ (u : ℕ). getD l u 0) e in omega arith)
 
-  pub unfit-order : (g : ℕ) → g ≡ getD ss (i - 1) 0 → c < i → f ≤ g → Fit pixels k c i l ss false
-  unfit-order g q a h =
-      record { yes = λ z. absurd (clash z refl); never = λ z p r t. let b = t .above a in omega arith }
+  pub unfit-order : (g : ℕ) → g ≡ getD ss (i - 1) 0 → c < i → f ≤ g → FitAnswer pixels k c i l ss false
+  unfit-order g q a h = never (λ p r t. let b = t .above a in omega arith)
 
-  pub fit-yes : (v : ℕ) → f < length l → v ≡ getD pixels f 0 → v ≤ k → 65534 ≤ getD l f 0 → (c < i → getD ss (i - 1) 0 < f) → Fit pixels k c i l ss true
+  pub fit-yes : (v : ℕ) → f < length l → v ≡ getD pixels f 0 → v ≤ k → 65534 ≤ getD l f 0 → (c < i → getD ss (i - 1) 0 < f) → FitAnswer pixels k c i l ss true
   fit-yes v b g h free above =
+      yes
+      (λ p r.
       record {
-        yes =
-            λ q p r.
-            record {
-              within = let z = r .size in omega arith;
-              low =
-                  let z : valueAt p (getD ss i 0) ≡ v = ap (λ (u : List ℕ). getD u (getD ss i 0) 0) (r .is) ∙ (ap (λ (u : ℕ). getD pixels u 0) (sym e) ∙ sym g) in
-                  omega arith;
-              above = λ a. let z = above a in omega arith;
-              free = let z = ap (λ (u : ℕ). getD l u 0) e in omega arith;
-            };
-        never = λ q. absurd (clash refl q);
-      }
+        within = let z = r .size in omega arith;
+        low = let z = value-of p r v g in omega arith;
+        above = λ a. let z = above a in omega arith;
+        free = let z = ap (λ (u : ℕ). getD l u 0) e in omega arith;
+      })
 
 -- the lent nodes from c on, before i, have passed their tests and have their numbers
 pub record NodesNumbered (pixels : List ℕ) (k c i : ℕ) (o ss l : List ℕ) : Type 0 where
@@ -91,7 +76,7 @@ pub numbered-start : (pixels : List ℕ) (k c : ℕ) (l ss : List ℕ) → Nodes
 numbered-start pixels k c l ss = record { order = omega arith; size = refl; from = λ p fs m e s. s }
 
 pub numbered-turn :
-    (pixels : List ℕ) (k c i f : ℕ) (o ss l : List ℕ) → NodesNumbered pixels k c i o ss l → i < 1600 → Fit pixels k c i l ss true → f ≡ getD ss i 0 →
+    (pixels : List ℕ) (k c i f : ℕ) (o ss l : List ℕ) → NodesNumbered pixels k c i o ss l → i < 1600 → (t : (p : Picture) → SamePicture p pixels l → NodeFits p k c i l ss) → f ≡ getD ss i 0 →
     NodesNumbered pixels k c (i + 1) o ss (set l f (2048 + i))
 numbered-turn pixels k c i f o ss l s b t e =
     let a = s .order in
@@ -102,56 +87,44 @@ numbered-turn pixels k c i f o ss l s b t e =
           λ p fs m q g.
           let h = s .from p fs m q g in
           subst (λ (z : ℕ). Counted p k c (i + 1) (set l z (2048 + i)) fs ss m) (sym e)
-          (counted-turn p k c i l fs ss m h b (t .yes refl p (record { is = q; size = h .cells .size })));
+          (counted-turn p k c i l fs ss m h b (t p (record { is = q; size = h .cells .size })));
     }
 
 -- the place of a lent first place that fits
-pub numbered-within : (pixels : List ℕ) (k c i f : ℕ) (o ss l : List ℕ) → CountReady pixels k c o ss → NodesNumbered pixels k c i o ss l → Fit pixels k c i l ss true → f ≡ getD ss i 0 → f < length l
+pub numbered-within : (pixels : List ℕ) (k c i f : ℕ) (o ss l : List ℕ) → CountReady pixels k c o ss → NodesNumbered pixels k c i o ss l → ((p : Picture) → SamePicture p pixels l → NodeFits p k c i l ss) → f ≡ getD ss i 0 → f < length l
 numbered-within pixels k c i f o ss l r s t e =
     let h = s .from (r .p) (r .fs) (r .m) (r .is) (r .counted) in
     let z = h .cells .size in
-    let w = t .yes refl (r .p) (record { is = r .is; size = z }) .within in
+    let w = t (r .p) (record { is = r .is; size = z }) .within in
     omega arith
 
-pub numbered-fails : (pixels : List ℕ) (k c d i : ℕ) (o ss l u : List ℕ) → NodesNumbered pixels k c i o ss l → i < d → Fit pixels k c i l ss false → NodesChecked pixels k c d o ss u false
+pub numbered-fails : (pixels : List ℕ) (k c d i : ℕ) (o ss l u : List ℕ) → NodesNumbered pixels k c i o ss l → i < d → ((p : Picture) → SamePicture p pixels l → NodeFits p k c i l ss → ⊥) → NodesChecked pixels k c d o ss u false
 numbered-fails pixels k c d i o ss l u s b t =
-    record {
-      yes = λ q. absurd (clash q refl);
-      never =
-          λ q p fs m e g count hs run tree.
-          let h = s .from p fs m e g in
-          t .never refl p (record { is = e; size = h .cells .size }) (tree-fits p k c i l fs ss m h d count hs run b tree);
-    }
+    never
+    (λ p fs m e g count hs run tree.
+    let h = s .from p fs m e g in
+    t p (record { is = e; size = h .cells .size }) (tree-fits p k c i l fs ss m h d count hs run b tree))
 
 pub numbered-end : (pixels : List ℕ) (k c d i : ℕ) (o ss l : List ℕ) → NodesNumbered pixels k c i o ss l → i ≡ d → NodesChecked pixels k c d o ss l true
 numbered-end pixels k c d i o ss l s e =
-    record {
-      yes = λ q p fs m g h. subst (λ (z : ℕ). Counted p k c z l fs ss m) e (s .from p fs m g h);
-      never = λ q. absurd (clash refl q);
-    }
+    yes (λ p fs m g h. subst (λ (z : ℕ). Counted p k c z l fs ss m) e (s .from p fs m g h))
 
 module _ (pixels : List ℕ) (k x v : ℕ) (l m : List ℕ) (b : x < length l) (e : v ≡ getD pixels x 0) where
   pub map-other : (v ≡ k → ⊥) → MapChecked pixels k x (x + 1) l m l true
   map-other d =
-      record {
-        yes = λ q p c d′ fs ss g s. matched-pass p k c d′ x l fs ss m s (λ z. d (e ∙ (ap (λ (u : List ℕ). getD u x 0) (sym g) ∙ z)));
-        never = λ q. absurd (clash refl q);
-      }
+      yes (λ p c d′ fs ss g s. matched-pass p k c d′ x l fs ss m s (λ z. d (e ∙ (ap (λ (u : List ℕ). getD u x 0) (sym g) ∙ z))))
 
   module _ (o : List ℕ) (r : ℕ) (f : Found l x r o) (same : v ≡ k) where
-    value-of : (p : Picture) → p .pixels ≡ pixels → valueAt p x ≡ k
-    value-of p g = ap (λ (u : List ℕ). getD u x 0) g ∙ (sym e ∙ same)
+    value-at : (p : Picture) → p .pixels ≡ pixels → valueAt p x ≡ k
+    value-at p g = ap (λ (u : List ℕ). getD u x 0) g ∙ (sym e ∙ same)
 
     pub map-yes : getD o r 0 - 2048 ≡ getD m x 0 → getD o r 0 < 65534 → MapChecked pixels k x (x + 1) l m o true
     map-yes q h =
-        record {
-          yes =
-              λ z p c d fs ss g s.
-              let size = s .counted .cells .size in
-              let top = f .top in
-              matched-turn p k c d x r l o fs ss m s f (omega arith) (value-of p g) h (omega arith);
-          never = λ z. absurd (clash refl z);
-        }
+        yes
+        (λ p c d fs ss g s.
+        let size = s .counted .cells .size in
+        let top = f .top in
+        matched-turn p k c d x r l o fs ss m s f (omega arith) (value-at p g) h (omega arith))
 
     -- under the tree the cell says the lent node
     tree-cell :
@@ -160,22 +133,16 @@ module _ (pixels : List ℕ) (k x v : ℕ) (l m : List ℕ) (b : x < length l) (
     tree-cell p c d fs ss g s count hs run tree =
         let size = s .counted .cells .size in
         let inside : x < places p = omega arith in
-        let value = value-of p g in
+        let value = value-at p g in
         matched-cell p k c d x r l o fs ss m s f inside value count hs run tree
 
     pub map-free : 65534 ≤ getD o r 0 → MapChecked pixels k x (x + 1) l m o false
     map-free h =
-        record {
-          yes = λ z. absurd (clash z refl);
-          never = λ z p c d fs ss g s count hs run tree. let a = tree-cell p c d fs ss g s count hs run tree in let i = a .0 in let j = a .1 in omega arith;
-        }
+        never (λ p c d fs ss g s count hs run tree. let (i, j) = tree-cell p c d fs ss g s count hs run tree in omega arith)
 
     pub map-differs : (getD o r 0 - 2048 ≡ getD m x 0 → ⊥) → MapChecked pixels k x (x + 1) l m o false
     map-differs d =
-        record {
-          yes = λ z. absurd (clash z refl);
-          never = λ z p c d′ fs ss g s count hs run tree. let a = tree-cell p c d′ fs ss g s count hs run tree .0 in d (omega arith);
-        }
+        never (λ p c d′ fs ss g s count hs run tree. let a = tree-cell p c d′ fs ss g s count hs run tree .0 in d (omega arith))
 
 -- the lent map of the pixels before x is checked
 pub record MapCheckedTo (pixels : List ℕ) (k x : ℕ) (o m l : List ℕ) : Type 0 where
@@ -199,28 +166,19 @@ map-turn pixels k x o m l u b s h t e z =
     record {
       size = z ∙ s .size;
       most = omega arith;
-      from = λ p c d fs ss g q. t .yes e p c d fs ss g (s .from p c d fs ss g q);
+      from = λ p c d fs ss g q. decided-yes e t p c d fs ss g (s .from p c d fs ss g q);
     }
 
 pub map-fails :
     (pixels : List ℕ) (k x : ℕ) (o m l u : List ℕ) (b : Bool) → MapCheckedTo pixels k x o m l → MapChecked pixels k x (x + 1) l m u b → b ≡ false →
     MapChecked pixels k 0 (length o) o m u false
 map-fails pixels k x o m l u b s t e =
-    record {
-      yes = λ q. absurd (clash q refl);
-      never = λ q p c d fs ss g i. t .never e p c d fs ss g (s .from p c d fs ss g i);
-    }
+    never (λ p c d fs ss g i. decided-never e t p c d fs ss g (s .from p c d fs ss g i))
 
 pub map-end : (pixels : List ℕ) (k x : ℕ) (o m l : List ℕ) → MapCheckedTo pixels k x o m l → length l ≤ x → MapChecked pixels k 0 (length o) o m l true
 map-end pixels k x o m l s h =
     let a = s .size in
     let b = s .most in
-    record {
-      yes =
-          λ q p c d fs ss g i.
-          subst (λ (z : ℕ). Matched p k c d z l fs ss m) (let e : x ≡ length o = omega arith in e) (s .from p c d fs ss g i);
-      never = λ q. absurd (clash refl q);
-    }
-
-pub fit-is : {pixels : List ℕ} {k c i : ℕ} {l ss : List ℕ} {a b : Bool} → a ≡ b → Fit pixels k c i l ss a → Fit pixels k c i l ss b
-fit-is {pixels} {k} {c} {i} {l} {ss} e h = subst (Fit pixels k c i l ss) e h
+    yes
+    (λ p c d fs ss g i.
+    subst (λ (z : ℕ). Matched p k c d z l fs ss m) (let e : x ≡ length o = omega arith in e) (s .from p c d fs ss g i))

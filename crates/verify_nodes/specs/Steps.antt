@@ -1,12 +1,13 @@
 -- What the steps of the check of a lent tree keep.
 -- p the picture, hs fs ss m the lent heights, fathers, first places and map; l the cells, o the cells before, fa the fathers' entries so far, st the states of roots.
 use mathlib.Core.Path.{_≡_}
-use mathlib.Core.Bool.{Bool, true, false}
+use mathlib.Core.Bool.{Bool}
 use mathlib.Core.Logic.{_⊎_, _≢_}
 use mathlib.Core.List.{List}
 use Prim.Native.Nat.{ℕ, _+_, _-_, _≤_, _<_}
 use lib.ListN.{length, getD}
 use Rattle.picture.specs.Pictures.{Picture, places, valueAt}
+use Rattle.tree_laws.proofs.Decided.{Decided}
 use Rattle.tree_laws.proofs.Numbering.{Member, NewRoots}
 use Rattle.tree_laws.proofs.Classes.{MarkedClasses}
 use Rattle.tree_laws.proofs.Checks.{Agree}
@@ -41,15 +42,15 @@ pub record Matched (p : Picture) (k c d x : ℕ) (l fs ss m : List ℕ) : Type 0
   pub few : (y : ℕ) → y < places p → valueAt p y ≡ k → y < x → counted .cells .marks (counted .cells .root y) < 65534
   pub same : (y : ℕ) → y < places p → valueAt p y ≡ k → y < x → counted .cells .marks (counted .cells .root y) ≡ 2048 + getD m y 0
 
--- a picture with these pixels and cells
-pub record Frame (p : Picture) (pixels l : List ℕ) : Type 0 where
+-- p is the picture with these pixels, with a cell for each place
+pub record SamePicture (p : Picture) (pixels l : List ℕ) : Type 0 where
   pub is : p .pixels ≡ pixels
   pub size : length l ≡ places p
 
 -- the answer whether the lent first place of the node i passes its tests
-pub record Fit (pixels : List ℕ) (k c i : ℕ) (l ss : List ℕ) (b : Bool) : Type 0 where
-  pub yes : b ≡ true → (p : Picture) → Frame p pixels l → NodeFits p k c i l ss
-  pub never : b ≡ false → (p : Picture) → Frame p pixels l → NodeFits p k c i l ss → ⊥
+abbrev pub FitAnswer : List ℕ → ℕ → ℕ → ℕ → List ℕ → List ℕ → Bool → Type 0
+FitAnswer pixels k c i l ss =
+    Decided ((p : Picture) → SamePicture p pixels l → NodeFits p k c i l ss) ((p : Picture) → SamePicture p pixels l → NodeFits p k c i l ss → ⊥)
 
 -- some picture's roots of height k can be counted
 pub record CountReady (pixels : List ℕ) (k c : ℕ) (l ss : List ℕ) : Type 0 where
@@ -60,11 +61,12 @@ pub record CountReady (pixels : List ℕ) (k c : ℕ) (l ss : List ℕ) : Type 0
   pub counted : Counted p k c c l fs ss m
 
 -- what the check of the lent nodes of a height leaves
-pub record NodesChecked (pixels : List ℕ) (k c d : ℕ) (o ss l : List ℕ) (b : Bool) : Type 0 where
-  pub yes : b ≡ true → (p : Picture) (fs m : List ℕ) → p .pixels ≡ pixels → Counted p k c c o fs ss m → Counted p k c d l fs ss m
-  pub never :
-      b ≡ false → (p : Picture) (fs m : List ℕ) → p .pixels ≡ pixels → Counted p k c c o fs ss m →
-      (count : ℕ) (hs : List ℕ) → SameHeights k c d count hs → HoldsTree p count hs fs ss m → ⊥
+abbrev pub NodesChecked : List ℕ → ℕ → ℕ → ℕ → List ℕ → List ℕ → List ℕ → Bool → Type 0
+NodesChecked pixels k c d o ss l =
+    Decided
+    ((p : Picture) (fs m : List ℕ) → p .pixels ≡ pixels → Counted p k c c o fs ss m → Counted p k c d l fs ss m)
+    ((p : Picture) (fs m : List ℕ) → p .pixels ≡ pixels → Counted p k c c o fs ss m →
+    (count : ℕ) (hs : List ℕ) → SameHeights k c d count hs → HoldsTree p count hs fs ss m → ⊥)
 
 -- some picture's lent map can be checked from x on
 pub record LentMapReady (pixels : List ℕ) (k x : ℕ) (l m : List ℕ) : Type 0 where
@@ -77,9 +79,9 @@ pub record LentMapReady (pixels : List ℕ) (k x : ℕ) (l m : List ℕ) : Type 
   pub matched : Matched p k c d x l fs ss m
 
 -- what the check of the lent map leaves, for the pixels from x on, before z
-pub record MapChecked (pixels : List ℕ) (k x z : ℕ) (l m o : List ℕ) (b : Bool) : Type 0 where
-  pub yes :
-      b ≡ true → (p : Picture) (c d : ℕ) (fs ss : List ℕ) → p .pixels ≡ pixels → Matched p k c d x l fs ss m → Matched p k c d z o fs ss m
-  pub never :
-      b ≡ false → (p : Picture) (c d : ℕ) (fs ss : List ℕ) → p .pixels ≡ pixels → Matched p k c d x l fs ss m →
-      (count : ℕ) (hs : List ℕ) → SameHeights k c d count hs → HoldsTree p count hs fs ss m → ⊥
+abbrev pub MapChecked : List ℕ → ℕ → ℕ → ℕ → List ℕ → List ℕ → List ℕ → Bool → Type 0
+MapChecked pixels k x z l m o =
+    Decided
+    ((p : Picture) (c d : ℕ) (fs ss : List ℕ) → p .pixels ≡ pixels → Matched p k c d x l fs ss m → Matched p k c d z o fs ss m)
+    ((p : Picture) (c d : ℕ) (fs ss : List ℕ) → p .pixels ≡ pixels → Matched p k c d x l fs ss m →
+    (count : ℕ) (hs : List ℕ) → SameHeights k c d count hs → HoldsTree p count hs fs ss m → ⊥)

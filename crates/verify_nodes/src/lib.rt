@@ -7,7 +7,7 @@ use union_find::find;
 ghost use Prim.Native.Nat.{_<_, _≤_, _+_};
 ghost use lib.ListN.{length};
 ghost use Rattle.tree_laws.proofs.Forests.{Parents};
-ghost use Rattle.verify_nodes.specs.Steps.{SameHeights, Fit, CountReady, NodesChecked, LentMapReady, MapChecked};
+ghost use Rattle.verify_nodes.specs.Steps.{SameHeights, FitAnswer, CountReady, NodesChecked, LentMapReady, MapChecked};
 
 // The end of the lent heights k from c on.
 pub fn run_end(heights: &[u8], k: usize, c: usize, count: usize) -> usize
@@ -27,7 +27,7 @@ pub fn run_end(heights: &[u8], k: usize, c: usize, count: usize) -> usize
 // The lent first place of the node i is a new root of height k, above the one before it.
 fn node_fits(pixels: &[u8], firsts: &[u16], cells: &[u16], k: usize, c: usize, i: usize) -> bool
     requires { ⌜ (i < length (now firsts)) × (length (now cells) ≤ length (now pixels)) ⌝ }
-    ensures { λ r. ⌜ Fit (now (pixels .entry)) k c i (now (cells .entry)) (now (firsts .entry)) r ⌝ }
+    ensures { λ r. ⌜ FitAnswer (now (pixels .entry)) k c i (now (cells .entry)) (now (firsts .entry)) r ⌝ }
 {
     let f = wide(firsts[i]);
     if cells.len() <= f {

@@ -1,5 +1,4 @@
 -- `verify_pixels::check_join` meets its contract.
-use Rattle.verify_pixels.proofs.Answers.{agrees-is}
 use Rattle.tree_laws.proofs.Looks.{names-more}
 use Rattle.tree_laws.proofs.Checks.{joint-left, joint-right, joint-differs, joint-both}
 use borrow.Author.Tests.{not-true, not-false}
@@ -49,7 +48,7 @@ agrees-requires c κs = let s = c .before .before .before .before .before .befor
 returns-3 : tie.Need-returns-3
 returns-3 c = let s = c .before .before .before .before .before .before .before .before .before .pre in
     let t = c .before .agrees in
-    joint-differs _ _ _ _ _ _ _ (s .0 .3) (s .1 .0 .0) (s .1 .0 .1) (c .before .before .before .if1 .left) (c .before .before .if2 .left) _ (inl refl) (s .1 .0 .0) (agrees-is (not-true (t .result) (c .if3 .taken)) (t .ensures))
+    joint-differs _ _ _ _ _ _ _ (s .0 .3) (s .1 .0 .0) (s .1 .0 .1) (c .before .before .before .if1 .left) (c .before .before .if2 .left) _ (inl refl) (s .1 .0 .0) (rw (not-true (t .result) (c .if3 .taken)) at (t .ensures))
 
 agrees-requires-2 : tie.Need-agrees-requires-2
 agrees-requires-2 c κs = let s = c .before .before .before .before .before .before .before .before .before .pre in
@@ -58,7 +57,7 @@ agrees-requires-2 c κs = let s = c .before .before .before .before .before .bef
 returns-4 : tie.Need-returns-4
 returns-4 c = let s = c .before .before .before .before .before .before .before .before .before .before .before .pre in
     let t = c .before .agrees2 in
-    joint-differs _ _ _ _ _ _ _ (s .0 .3) (s .1 .0 .0) (s .1 .0 .1) (c .before .before .before .before .before .if1 .left) (c .before .before .before .before .if2 .left) _ (inr refl) (s .1 .0 .1) (agrees-is (not-true (t .result) (c .if4 .taken)) (t .ensures))
+    joint-differs _ _ _ _ _ _ _ (s .0 .3) (s .1 .0 .0) (s .1 .0 .1) (c .before .before .before .before .before .if1 .left) (c .before .before .before .before .if2 .left) _ (inr refl) (s .1 .0 .1) (rw (not-true (t .result) (c .if4 .taken)) at (t .ensures))
 
 hang-requires-3 : tie.Need-hang-requires-3
 hang-requires-3 c κs = search needs
@@ -71,7 +70,7 @@ returns-5 c = let s = c .before .before .before .before .before .before .before 
     let t = c .before .before .before .before .before .before .before .agrees in
     let u = c .before .before .before .before .before .agrees2 in
     joint-both _ _ _ _ _ _ _ (s .0 .3) (s .1 .0 .0) (s .1 .0 .1) (c .before .before .before .before .before .before .before .before .before .if1 .left) (c .before .before .before .before .before .before .before .before .if2 .left) _ _
-    (agrees-is (not-false (t .result) (c .before .before .before .before .before .before .if3 .left)) (t .ensures)) (agrees-is (not-false (u .result) (c .before .before .before .before .if4 .left)) (u .ensures)) (c .before .before .hang3 .ensures)
+    (rw (not-false (t .result) (c .before .before .before .before .before .before .if3 .left)) at (t .ensures)) (rw (not-false (u .result) (c .before .before .before .before .if4 .left)) at (u .ensures)) (c .before .before .hang3 .ensures)
 
 pub check-join-spec : {M : Type 1} → statement M
 check-join-spec =

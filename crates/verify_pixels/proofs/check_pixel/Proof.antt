@@ -1,6 +1,7 @@
 -- `verify_pixels::check_pixel` meets its contract.
 use Rattle.picture.specs.Pictures.{pictureOf}
-use Rattle.tree_laws.proofs.Looks.{Looking, passed-yes, passed-not, checking-placed, checking-parents, look-start, look-ready, look-turn, look-differs, look-end, look-pass}
+use Rattle.tree_laws.proofs.Decided.{yes, never}
+use Rattle.tree_laws.proofs.Looks.{Looking, checking-placed, checking-parents, look-start, look-ready, look-turn, look-differs, look-end, look-pass}
 use Rattle.picture.proofs.Neighbours.{listed-at}
 use mathlib.Core.Path.{sym, _∙_}
 use native.Mathlib.Omega.{arith}
@@ -22,7 +23,7 @@ value-requires : tie.Need-value-requires Inv-loop μ-loop
 value-requires c κs = search needs
 
 returns : tie.Need-returns Inv-loop μ-loop
-returns c = passed-yes _ _ _ _ _ _ (look-pass _ _ _ _ _ _ (c .before .before .before .before .before .before .before .pre .0 .0) (λ e. c .if1 .taken (c .before .value .ensures ∙ e)))
+returns c = yes (look-pass _ _ _ _ _ _ (c .before .before .before .before .before .before .before .pre .0 .0) (λ e. c .if1 .taken (c .before .value .ensures ∙ e)))
 
 slice-aggregate-neighbours : tie.Need-slice-aggregate-neighbours Inv-loop μ-loop
 slice-aggregate-neighbours c = search needs
@@ -61,7 +62,7 @@ returns-2 : tie.Need-returns-2 Inv-loop μ-loop
 returns-2 c = let s = c .before .before .before .before .before .before .before .before .before .before .before .before .before .neighbours .ensures in
     let b = c .before .before .before .before .before .before .loop-test .taken in
     let e = s .count in
-    passed-not _ _ _ _ _ _
+    never
     (look-differs _ _ _ _ _ _ _ _ _ (c .before .before .before .before .before .before .before .loop .inv) (omega arith) (c .before .before .before .before .wide .ensures ∙ listed-at _ _ _ _ s _ b) _ _ (c .before .before .before .check-edge .ensures) (c .if2 .taken))
 
 add-i : tie.Need-add-i Inv-loop μ-loop
@@ -83,7 +84,7 @@ returns-3 : tie.Need-returns-3 Inv-loop μ-loop
 returns-3 c = let s = c .before .before .before .before .before .before .before .neighbours .ensures in
     let b = c .loop-test .left in
     let e = s .count in
-    passed-yes _ _ _ _ _ _ (look-end _ _ _ _ _ _ _ _ (c .before .loop .inv) (omega arith))
+    yes (look-end _ _ _ _ _ _ _ _ (c .before .loop .inv) (omega arith))
 
 pub check-pixel-spec : {M : Type 1} → statement M
 check-pixel-spec =
