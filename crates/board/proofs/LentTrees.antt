@@ -17,7 +17,7 @@ use Rattle.topology.proofs.Accepted.{accepted-is}
 use Rattle.topology.proofs.Nodes.{nodes-few}
 use Rattle.topology.proofs.Grid.{pass-byte}
 use Rattle.topology.proofs.TreeLists.{length-heights, length-fathers, length-firsts, length-map-of, heights-at, fathers-at, firsts-at, map-at}
-use Rattle.tree_lists.specs.Lists.{Rooms}
+use Rattle.tree_lists.specs.Lists.{ListsRoom}
 use Rattle.lent_tree.specs.Lent.{HoldsTree}
 use Rattle.verify.specs.Checked.{IsTreeAnswer, decided-yes, decided-never}
 use Rattle.lent_tree.specs.Passes.{PassReady}
@@ -187,7 +187,7 @@ pub pass-low : (p : Picture) (x y : ℕ) → isPicture p ≡ true → x < places
 pass-low p x y ok bx by = pass-byte p (accepted-is p ok) x y bx by
 
 -- the lists and the work of a call with no fault have room for the tree
-pub tree-rooms : (p : Picture) (hs fs ss m q : List ℕ) → Admitted p (length q) → places p ≤ shortest hs fs ss m → Rooms (places p) hs fs ss m q
+pub tree-rooms : (p : Picture) (hs fs ss m q : List ℕ) → Admitted p (length q) → places p ≤ shortest hs fs ss m → ListsRoom (places p) hs fs ss m q
 tree-rooms p hs fs ss m q a l =
     record {
       heights = omega arith;

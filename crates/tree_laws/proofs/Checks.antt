@@ -13,10 +13,10 @@ use Rattle.topology.proofs.Accepted.{Accepted}
 use Rattle.lists.proofs.Updates.{put, put-same, put-other}
 use Rattle.tree_laws.proofs.Decided.{Decided, yes, never, decided-yes, decided-never}
 use Rattle.tree_laws.proofs.Levels.{Earlier, Merged, left, right, both}
-use Rattle.tree_laws.proofs.Forests.{Found, ordered, ordered-most, Hung, hung-size, Parents}
+use Rattle.tree_laws.proofs.Forests.{Found, ordered, ordered-most, Linked, linked-size, Parents}
 use Rattle.tree_laws.proofs.Marks.{Names}
 use Rattle.tree_laws.proofs.Classes.{Classes}
-use Rattle.tree_laws.proofs.Absorbing.{Near, Edge, Linkable, edge-touch, edge-within, near-skip, near-same, near-linkable, near-linked, near-met}
+use Rattle.tree_laws.proofs.Joins.{Near, Edge, Linkable, edge-touch, edge-within, near-skip, near-same, near-linkable, near-linked, near-met}
 use Rattle.tree_laws.proofs.Chains.{upto-of}
 
 -- the lent entries of two lists contradict the tree: a node's father is the node of a pixel, and their entries differ
@@ -60,7 +60,7 @@ pub data MergedBy (x a b s : ℕ) (fs m : List ℕ) : Type 0 where
 
 -- what a checked link of two roots leaves: the link, with the root z, or a difference, with the number of cells for z
 pub data Joint (x q r : ℕ) (l fs m : List ℕ) (o : List ℕ) (z : ℕ) : Type 0 where
-  linked : (s : ℕ) → 2048 ≤ s → Hung q r s l o z → MergedBy x (getD l q 0) (getD l r 0) s fs m → Joint x q r l fs m o z
+  linked : (s : ℕ) → 2048 ≤ s → Linked q r s l o z → MergedBy x (getD l q 0) (getD l r 0) s fs m → Joint x q r l fs m o z
   differs :
       (i : ℕ) → i < 1600 → getD l q 0 ≢ 65535 → getD l r 0 ≢ 65535 → (getD l q 0 ≡ 2048 + i) ⊎ (getD l r 0 ≡ 2048 + i) →
       getD fs i 0 ≢ getD m x 0 → length o ≡ length l → z ≡ length l → Joint x q r l fs m o z
@@ -120,10 +120,10 @@ unfolding Agrees
 agrees-not s x t fs m e b h = never (b, λ g. h (ap (λ (y : ℕ). getD fs y 0) e ∙ g))
 
 module _ (x q r n : ℕ) (l fs m : List ℕ) (few : n ≤ 1600) (na : Names n (getD l q 0)) (nb : Names n (getD l r 0)) where
-  pub joint-left : (o : List ℕ) (z : ℕ) → getD l q 0 ≡ 65535 → Hung q r (getD l r 0) l o z → Joint x q r l fs m o z
+  pub joint-left : (o : List ℕ) (z : ℕ) → getD l q 0 ≡ 65535 → Linked q r (getD l r 0) l o z → Joint x q r l fs m o z
   joint-left o z e h = linked (getD l r 0) (nb .root) h (by-left e refl)
 
-  pub joint-right : (o : List ℕ) (z : ℕ) → getD l r 0 ≡ 65535 → Hung q r (getD l q 0) l o z → Joint x q r l fs m o z
+  pub joint-right : (o : List ℕ) (z : ℕ) → getD l r 0 ≡ 65535 → Linked q r (getD l q 0) l o z → Joint x q r l fs m o z
   joint-right o z e h = linked (getD l q 0) (na .root) h (by-right e refl)
 
   module _ (da : getD l q 0 ≢ 65535) (db : getD l r 0 ≢ 65535) where
@@ -136,14 +136,14 @@ module _ (x q r n : ℕ) (l fs m : List ℕ) (few : n ≤ 1600) (na : Names n (g
         let h = names .node b in
         differs (s - 2048) (omega arith) da db (⊎-elim (λ t. inl (omega arith)) (λ t. inr (omega arith)) e) d refl refl
 
-    pub joint-both : (o : List ℕ) (z : ℕ) → Agrees (getD l q 0) x fs m true → Agrees (getD l r 0) x fs m true → Hung q r 65534 l o z → Joint x q r l fs m o z
+    pub joint-both : (o : List ℕ) (z : ℕ) → Agrees (getD l q 0) x fs m true → Agrees (getD l r 0) x fs m true → Linked q r 65534 l o z → Joint x q r l fs m o z
     unfolding Agrees
     joint-both o z a b h =
         linked 65534 (omega arith) h
         (by-both da db refl (λ i g. ⊎-elim (decided-yes refl a i g) (decided-yes refl b i g)))
 
 -- x is joined to some of its neighbours, and y is the next
-pub record LookReady (pixels : List ℕ) (k x r y : ℕ) (l fs m : List ℕ) : Type 0 where
+pub record EdgeCheckReady (pixels : List ℕ) (k x r y : ℕ) (l fs m : List ℕ) : Type 0 where
   pub p : Picture
   pub j : ℕ
   pub ok : Accepted p
@@ -152,7 +152,7 @@ pub record LookReady (pixels : List ℕ) (k x r y : ℕ) (l fs m : List ℕ) : T
   pub near : NearBy p k x j r l fs m
 
 -- then x is joined to y too, or the lent lists differ from the tree: q is the root, or the number of cells
-pub record Looked (pixels : List ℕ) (k x r y : ℕ) (l fs m : List ℕ) (q : ℕ) (o : List ℕ) : Type 0 where
+pub record EdgeChecked (pixels : List ℕ) (k x r y : ℕ) (l fs m : List ℕ) (q : ℕ) (o : List ℕ) : Type 0 where
   pub size : length o ≡ length l
   pub near :
       (p : Picture) (j : ℕ) → Accepted p → p .pixels ≡ pixels → Edge p x j y → NearBy p k x j r l fs m → q < length l →
@@ -169,14 +169,14 @@ module _ (pixels : List ℕ) (k x r y : ℕ) (l fs m : List ℕ) where
       let s = n .near .classes .size in
       omega arith
 
-  pub look-bounds : LookReady pixels k x r y l fs m → (y < length pixels) × (y < length l)
-  look-bounds e = edge-within (e .p) (e .ok) k x (e .j) y pixels l (e .edge) (e .is) (e .near .near .classes .size)
+  pub checked-bounds : EdgeCheckReady pixels k x r y l fs m → (y < length pixels) × (y < length l)
+  checked-bounds e = edge-within (e .p) (e .ok) k x (e .j) y pixels l (e .edge) (e .is) (e .near .near .classes .size)
 
-  pub look-parents : LookReady pixels k x r y l fs m → Parents l
-  look-parents e = e .near .near .classes .forest .parents
+  pub checked-parents : EdgeCheckReady pixels k x r y l fs m → Parents l
+  checked-parents e = e .near .near .classes .forest .parents
 
-  pub look-skip : (Earlier k x y (getD pixels y 0) → ⊥) → Looked pixels k x r y l fs m r l
-  look-skip c =
+  pub checked-skip : (Earlier k x y (getD pixels y 0) → ⊥) → EdgeChecked pixels k x r y l fs m r l
+  checked-skip c =
       record {
         size = refl;
         near =
@@ -192,8 +192,8 @@ module _ (pixels : List ℕ) (k x r y : ℕ) (l fs m : List ℕ) where
       }
 
   module _ (c : Earlier k x y (getD pixels y 0)) (o : List ℕ) (q : ℕ) (f : Found l y q o) where
-    pub look-same : q ≡ r → Looked pixels k x r y l fs m r o
-    look-same h =
+    pub checked-same : q ≡ r → EdgeChecked pixels k x r y l fs m r o
+    checked-same h =
         record {
           size = f .walked .size;
           near =
@@ -208,14 +208,14 @@ module _ (pixels : List ℕ) (k x r y : ℕ) (l fs m : List ℕ) where
         let (s, t) = edge-touch p ok k x j y g in
         near-linkable p ok k x j r l (n .fa) (n .near) y (upto-of p e s c) t f
 
-    pub look-join : LookReady pixels k x r y l fs m → Linkable x q r o
-    look-join e = linkable (e .p) (e .j) (e .ok) (e .is) (e .edge) (e .near)
+    pub checked-join : EdgeCheckReady pixels k x r y l fs m → Linkable x q r o
+    checked-join e = linkable (e .p) (e .j) (e .ok) (e .is) (e .edge) (e .near)
 
     -- the two roots are linked, or the lent lists differ
-    pub look-joined : (u : List ℕ) (z : ℕ) → q ≢ r → Joint x q r o fs m u z → Looked pixels k x r y l fs m z u
-    look-joined u z d (linked s big h g) =
+    pub checked-joined : (u : List ℕ) (z : ℕ) → q ≢ r → Joint x q r o fs m u z → EdgeChecked pixels k x r y l fs m z u
+    checked-joined u z d (linked s big h g) =
         record {
-          size = hung-size h ∙ f .walked .size;
+          size = linked-size h ∙ f .walked .size;
           near =
               λ p j ok i a n b.
               let (w, t) = edge-touch p ok k x j y a in
@@ -232,7 +232,7 @@ module _ (pixels : List ℕ) (k x r y : ℕ) (l fs m : List ℕ) where
               };
           differs = λ p j ok i a n b. absurd (let w = root-in p j ok n in omega (arith, ordered-most (h .order)));
         }
-    look-joined u z d (differs i b dq dr a e s is) =
+    checked-joined u z d (differs i b dq dr a e s is) =
         record {
           size = s ∙ f .walked .size;
           near = λ p j ok i a n v. absurd (let g = f .walked .size in omega arith);

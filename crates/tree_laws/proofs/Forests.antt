@@ -187,23 +187,23 @@ pub in-order : {q r lo hi : ℕ} (P : ℕ → ℕ → Type 0) → ((a b : ℕ) �
 in-order P exchange (below h) f = f
 in-order {q} {r} P exchange (above h) f = exchange q r f
 
--- the greater of two roots hung below the smaller, lo, which gets the state s
-pub record Hung (q r s : ℕ) (l m : List ℕ) (lo : ℕ) : Type 0 where
+-- the greater of two roots linked below the smaller, lo, which gets the state s
+pub record Linked (q r s : ℕ) (l m : List ℕ) (lo : ℕ) : Type 0 where
   pub hi : ℕ
   pub order : Ordered q r lo hi
   pub cells : m ≡ set (set l hi lo) lo s
 
-pub hung-size : {q r s lo : ℕ} {l m : List ℕ} → Hung q r s l m lo → length m ≡ length l
-hung-size {s = s} {lo = lo} {l = l} h =
+pub linked-size : {q r s lo : ℕ} {l m : List ℕ} → Linked q r s l m lo → length m ≡ length l
+linked-size {s = s} {lo = lo} {l = l} h =
     ap length (h .cells) ∙ (length-set (set l (h .hi) lo) lo s ∙ length-set l (h .hi) lo)
 
-pub hung-below : (q r s : ℕ) (l : List ℕ) → q < r → Hung q r s l (set (set l r q) q s) q
-hung-below q r s l h = record { hi = r; order = below h; cells = refl }
+pub linked-below : (q r s : ℕ) (l : List ℕ) → q < r → Linked q r s l (set (set l r q) q s) q
+linked-below q r s l h = record { hi = r; order = below h; cells = refl }
 
-pub hung-above : (q r s : ℕ) (l : List ℕ) → r < q → Hung q r s l (set (set l q r) r s) r
-hung-above q r s l h = record { hi = q; order = above h; cells = refl }
+pub linked-above : (q r s : ℕ) (l : List ℕ) → r < q → Linked q r s l (set (set l q r) r s) r
+linked-above q r s l h = record { hi = q; order = above h; cells = refl }
 
--- the class of hi hung below lo, which gets the state s
+-- the class of hi linked below lo, which gets the state s
 pub forest-link :
     (l : List ℕ) (lo hi s : ℕ) (root st : ℕ → ℕ) → Forest l root st → lo < hi → hi < length l → lo < 2048 → root lo ≡ lo → root hi ≡ hi → 2048 ≤ s →
     Forest (set (set l hi lo) lo s) (relink root lo hi) (put st lo s)

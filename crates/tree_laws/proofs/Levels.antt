@@ -15,7 +15,7 @@ use Rattle.topology.proofs.Nodes.{nodes-few}
 use Rattle.tree_laws.proofs.Counts.{soFar, so-places}
 use Rattle.tree_laws.proofs.Beneath.{Low, beneath, low-at, beneath-number, beneath-joined, fork-father}
 
--- the roots after the class of hi is hung below lo
+-- the roots after the class of hi is linked below lo
 unfoldable pub relink : (ℕ → ℕ) → ℕ → ℕ → ℕ → ℕ
 relink root lo hi z = put (λ y. y) hi lo (root z)
 

@@ -8,7 +8,7 @@ pub mod LastFathers
 pub mod Forests
 pub mod Marks
 pub mod Classes
-pub mod Absorbing
+pub mod Joins
 pub mod Chains
 pub mod Walks
 pub mod Insertion
@@ -17,6 +17,6 @@ pub mod ListWalks
 pub mod Naming
 pub mod Mapped
 pub mod Buckets
-pub mod Settling
+pub mod Resolving
 pub mod Checks
-pub mod Looks
+pub mod PixelChecks

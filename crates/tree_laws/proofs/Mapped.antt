@@ -18,7 +18,7 @@ use Rattle.lists.specs.Blocks.{UntouchedOutside}
 use Rattle.lists.proofs.Blocks.{kept-refl, kept-set}
 use Rattle.tree_laws.proofs.Forests.{Found, found-root, found-state, Parents}
 use Rattle.tree_laws.proofs.Classes.{Classes, classes-found, classes-fathers}
-use Rattle.tree_laws.proofs.Chains.{fathersIn, mapIn, NextOfValue, After, after-mono, Threads, threads-next, upto-skip, classes-skip}
+use Rattle.tree_laws.proofs.Chains.{fathersIn, mapIn, NextOfValue, After, after-mono, Chained, chained-next, upto-skip, classes-skip}
 use Rattle.tree_laws.proofs.Walks.{WalkReady}
 use Rattle.tree_laws.proofs.Listing.{firstsIn, NodesIn, nodes-block, Listing, list-start}
 use Rattle.tree_laws.proofs.ListWalks.{ListFrom, ListReady}
@@ -31,7 +31,7 @@ pub record Between (p : Picture) (k c : ℕ) (l w : List ℕ) : Type 0 where
   pub count : c ≡ soFar p k
   pub nodes : NodesIn p c w
   pub classes : Classes p k 0 l (fathersIn p w)
-  pub threads : Threads p k 0 (mapIn p w)
+  pub chained : Chained p k 0 (mapIn p w)
 
 -- some picture's list is whole
 pub record NameReady (k c d : ℕ) (l w : List ℕ) : Type 0 where
@@ -150,7 +150,7 @@ module _ (p : Picture) (k d x q : ℕ) (l w m v : List ℕ) (s : MapFrom p k d x
   at = let e = g .classes .size in omega arith
 
   next : NextOfValue p k (suc x) q
-  next = threads-next p k x x q (mapIn p w) (g .threads) (omega arith) b value (t .next ∙ ap (λ (z : ℕ). getD w z 0) at)
+  next = chained-next p k x x q (mapIn p w) (g .chained) (omega arith) b value (t .next ∙ ap (λ (z : ℕ). getD w z 0) at)
 
   work : v ≡ set w (2 * places p + x) (getD m (t .r) 0 - 2048)
   work = t .work ∙ ap (λ (z : ℕ). set w z (getD m (t .r) 0 - 2048)) at
@@ -202,7 +202,7 @@ module _ (p : Picture) (k d x q : ℕ) (l w m v : List ℕ) (s : MapFrom p k d x
                   classes-fathers p (suc k) 0 m (fathersIn p w) cs (fathersIn p v)
                   (λ i h. let n = g .count in block .outside (places p + i) (inl (omega (arith, few))));
               says = g .says;
-              threads = record { mapped = mapped; linked = linked };
+              chained = record { mapped = mapped; linked = linked };
             };
         is = next .is;
       }
@@ -216,14 +216,14 @@ module _ (p : Picture) (k d x q : ℕ) (l w m v : List ℕ) (s : MapFrom p k d x
           (λ e. subst (λ (z : ℕ). mapIn p v z ≡ mapOf p z) (sym e) mapped-x)
           (λ e.
           mapped-other y e ∙
-          g .threads .mapped y (upto-before p k x y e (upto-skip p k (suc x) q y next u)))
+          g .chained .mapped y (upto-before p k x y e (upto-skip p k (suc x) q y next u)))
 
       linked : (y : ℕ) → After p k q y → NextOfValue p (valueAt p y) (suc y) (mapIn p v y)
       linked y a =
           let rises = map-rises in
           let e : y ≢ x = λ z. ⊎-elim (λ h. let i = ap (valueAt p) z in omega (arith, value)) (λ h. let i = h .1 in omega arith) (a .later) in
           subst (λ (z : ℕ). NextOfValue p (valueAt p y) (suc y) z) (sym (mapped-other y e))
-          (g .threads .linked y (after-mono (omega arith) a))
+          (g .chained .linked y (after-mono (omega arith) a))
 
 pub map-more : (x y q : ℕ) (l w m v o u : List ℕ) → MapWalk x l w y m v → y < length m → MappedOne y q m v o u → MapWalk x l w q o u
 map-more x y q l w m v o u s b t =
@@ -250,12 +250,12 @@ map-end p k d x l w s h =
       count = g .count;
       nodes = g .nodes;
       classes = g .classes;
-      threads =
+      chained =
           record {
-            mapped = λ y u. g .threads .mapped y (upto-all p k x y h (upto-next p k y u));
+            mapped = λ y u. g .chained .mapped y (upto-all p k x y h (upto-next p k y u));
             linked =
                 λ y a.
-                g .threads .linked y
+                g .chained .linked y
                 (record { within = a .within; later = inl (⊎-elim (λ i. omega arith) (λ i. let z = i .0 in omega arith) (a .later)) });
           };
     }
@@ -267,7 +267,7 @@ between-ready p k c x l w b n =
       ok = b .ok;
       room = b .room;
       classes = classes-skip p k 0 x l (fathersIn p w) n (b .classes);
-      threads = b .threads;
+      chained = b .chained;
       is = n .is;
     }
 

@@ -10,7 +10,7 @@ use lib.Seq.{getD-set-same, getD-set-other}
 use Rattle.tree_laws.proofs.Levels.{Merged, left, right, both}
 use Rattle.lists.specs.Blocks.{UntouchedOutside}
 use Rattle.lists.proofs.Blocks.{kept-refl, kept-set, kept-trans}
-use Rattle.tree_laws.proofs.Forests.{Hung}
+use Rattle.tree_laws.proofs.Forests.{Linked}
 
 -- a state: 65534, 65535, or the name of a node below n
 pub record Names (n s : ℕ) : Type 0 where
@@ -34,7 +34,7 @@ pub record LinkedIn (x q r : ℕ) (l m w v : List ℕ) (lo : ℕ) : Type 0 where
   pub state : ℕ
   pub root : 2048 ≤ state
   pub block : UntouchedOutside (length l) (length l) w v
-  pub hung : Hung q r state l m lo
+  pub linked : Linked q r state l m lo
   pub merged :
       (n : ℕ) → n ≡ length l → Merged x (getD l q 0) (getD l r 0) state (λ i. getD w (n + i) 0) (λ i. getD v (n + i) 0)
 
@@ -83,14 +83,14 @@ merge-both n x a b w u v ha hb da db p q =
     }
 
 pub link-in :
-    (x q r s lo : ℕ) (l o w v : List ℕ) → length l ≤ 1600 → MergedIn (length l) x (getD l q 0) (getD l r 0) s w v → Hung q r s l o lo →
+    (x q r s lo : ℕ) (l o w v : List ℕ) → length l ≤ 1600 → MergedIn (length l) x (getD l q 0) (getD l r 0) s w v → Linked q r s l o lo →
     LinkedIn x q r l o w v lo
 link-in x q r s lo l o w v few m h =
     record {
       state = s;
       root = m .root;
       block = m .block;
-      hung = h;
+      linked = h;
       merged =
           λ n e.
           subst (λ (b : ℕ). Merged x (getD l q 0) (getD l r 0) s (λ i. getD w (b + i) 0) (λ i. getD v (b + i) 0)) (sym e)

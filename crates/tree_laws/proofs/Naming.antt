@@ -16,7 +16,7 @@ use Rattle.lists.proofs.Updates.{put, put-same, put-other}
 use Rattle.tree_laws.proofs.Counts.{soFar}
 use Rattle.tree_laws.proofs.Numbering.{Member, RootsListed, Numbered, number-new, count-next, count-few, next-level, named-all, edges-next}
 use Rattle.tree_laws.proofs.Classes.{Classes, MarkedClasses, marks-set}
-use Rattle.tree_laws.proofs.Chains.{fathersIn, mapIn, NextOfValue, Threads, after-mono, threads-same, upto-skip}
+use Rattle.tree_laws.proofs.Chains.{fathersIn, mapIn, NextOfValue, Chained, after-mono, chained-same, upto-skip}
 use Rattle.tree_laws.proofs.Listing.{firstsIn, NodesIn, Listing, list-end}
 
 -- the listed roots from c on, before i, have their numbers; w is the work before
@@ -24,7 +24,7 @@ pub record Naming (p : Picture) (k c d i : ℕ) (l w v : List ℕ) : Type 0 wher
   pub cells : MarkedClasses p k c l (fathersIn p w)
   pub room : length v ≡ 4 * places p
   pub nodes : NodesIn p c w
-  pub threads : Threads p k 0 (mapIn p w)
+  pub chained : Chained p k 0 (mapIn p w)
   pub listed : RootsListed p k c d (firstsIn p w) (cells .root) (cells .st)
   pub named : (j : ℕ) → c ≤ j → j < i → cells .marks (firstsIn p w j) ≡ 2048 + j
   pub others : (y : ℕ) → y < places p → cells .root y ≡ y → (Member (firstsIn p w) c d y → ⊥) → cells .marks y ≡ cells .st y
@@ -41,7 +41,7 @@ pub record Mapping (p : Picture) (k d x : ℕ) (l w : List ℕ) : Type 0 where
   pub nodes : NodesIn p d w
   pub classes : Classes p (suc k) 0 l (fathersIn p w)
   pub says : (y : ℕ) → At p k y → classes .st (classes .root y) ≡ 2048 + under p k y
-  pub threads : Threads p k x (mapIn p w)
+  pub chained : Chained p k x (mapIn p w)
 
 module _ (p : Picture) (k c d : ℕ) where
   pub naming-start : (x : ℕ) (l w : List ℕ) → Listing p k c d x l w → places p ≤ x → Naming p k c d c l w w
@@ -50,7 +50,7 @@ module _ (p : Picture) (k c d : ℕ) where
         cells = s .cells;
         room = s .room;
         nodes = s .nodes;
-        threads = s .threads;
+        chained = s .chained;
         listed = list-end p k c d x l w s h;
         named = λ j a b. absurd (omega arith);
         others = λ y a b g. ⊎-elim (λ t. absurd (g t)) (λ t. t) (s .either y a b);
@@ -77,7 +77,7 @@ module _ (p : Picture) (k c d : ℕ) where
         cells = cells′;
         room = length-set (set v i k) (places p + i) 65535 ∙ (length-set v i k ∙ s .room);
         nodes = s .nodes;
-        threads = s .threads;
+        chained = s .chained;
         listed = s .listed;
         named =
             λ j g h.
@@ -187,10 +187,10 @@ module _ (p : Picture) (k c d : ℕ) where
           says =
               named-all p k c (cs .root) (cs .st) (fathersIn p w) (cs .joined) d (firstsIn p w) (s .listed)
               (cs .marks) (fathersIn p v) numbered;
-          threads =
-              threads-same p k x (mapIn p w) (mapIn p v) same
+          chained =
+              chained-same p k x (mapIn p w) (mapIn p v) same
               (record {
-                mapped = λ y u. s .threads .mapped y (upto-skip p k 0 x y n u);
-                linked = λ y a. s .threads .linked y (after-mono (omega arith) a);
+                mapped = λ y u. s .chained .mapped y (upto-skip p k 0 x y n u);
+                linked = λ y a. s .chained .linked y (after-mono (omega arith) a);
               });
         }

@@ -14,19 +14,19 @@ use Rattle.lists.proofs.Blocks.{kept-refl, kept-trans}
 use Rattle.tree_laws.proofs.Levels.{upto-gap}
 use Rattle.tree_laws.proofs.Forests.{Found, Parents}
 use Rattle.tree_laws.proofs.Classes.{Classes, classes-upto}
-use Rattle.tree_laws.proofs.Absorbing.{Near, near-start, near-end}
-use Rattle.tree_laws.proofs.Chains.{fathersIn, mapIn, Threads, threads-same, threads-next, classes-skip, EdgeReady, EdgeDone}
+use Rattle.tree_laws.proofs.Joins.{Near, near-start, near-end}
+use Rattle.tree_laws.proofs.Chains.{fathersIn, mapIn, Chained, chained-same, chained-next, classes-skip, EdgeReady, EdgeDone}
 
 -- the pixels of height k before x have joined the classes; x is the next one, or beyond the picture
 pub record WalkReady (p : Picture) (k x : ℕ) (l w : List ℕ) : Type 0 where
   pub ok : Accepted p
   pub room : length w ≡ 4 * places p
   pub classes : Classes p k x l (fathersIn p w)
-  pub threads : Threads p k 0 (mapIn p w)
+  pub chained : Chained p k 0 (mapIn p w)
   pub is : x < places p → valueAt p x ≡ k
 
 -- one pixel further
-pub record Absorbed (p : Picture) (k x r : ℕ) (m w v : List ℕ) : Type 0 where
+pub record PixelJoined (p : Picture) (k x r : ℕ) (m w v : List ℕ) : Type 0 where
   pub ready : WalkReady p k r m v
   pub more : x < r
   pub block : UntouchedOutside (places p) (places p) w v
@@ -42,9 +42,9 @@ pub record Joining (p : Picture) (k x i r : ℕ) (l w v : List ℕ) : Type 0 whe
 pub ready-parents : {p : Picture} {k x : ℕ} {l w : List ℕ} → WalkReady p k x l w → Parents l
 ready-parents r = r .classes .forest .parents
 
-pub threads-block : (p : Picture) (k x b : ℕ) (w v : List ℕ) → Threads p k x (mapIn p w) → UntouchedOutside b (places p) w v → (b + places p ≤ 2 * places p) ⊎ (3 * places p ≤ b) → Threads p k x (mapIn p v)
-threads-block p k x b w v t k′ o =
-    threads-same p k x (mapIn p w) (mapIn p v)
+pub chained-block : (p : Picture) (k x b : ℕ) (w v : List ℕ) → Chained p k x (mapIn p w) → UntouchedOutside b (places p) w v → (b + places p ≤ 2 * places p) ⊎ (3 * places p ≤ b) → Chained p k x (mapIn p v)
+chained-block p k x b w v t k′ o =
+    chained-same p k x (mapIn p w) (mapIn p v)
     (λ y h. k′ .outside (2 * places p + y) (⊎-elim (λ a. inr (omega arith)) (λ a. inl (omega arith)) o))
     t
 
@@ -88,11 +88,11 @@ module _ (p : Picture) (k x : ℕ) where
 
   pub joining-end :
       (i r q : ℕ) (l w v o : List ℕ) → Joining p k x i r l w v → length (neighboursIn p x) ≤ i → WalkReady p k x o w →
-      q ≡ getD v (2 * places p + x) 0 → Absorbed p k x q l w v
+      q ≡ getD v (2 * places p + x) 0 → PixelJoined p k x q l w v
   joining-end i r q l w v o a b s e =
-      let t = threads-block p k 0 (places p) w v (s .threads) (a .block) (inl (omega arith)) in
+      let t = chained-block p k 0 (places p) w v (s .chained) (a .block) (inl (omega arith)) in
       let n = a .near in
-      let next = threads-next p k 0 x q (mapIn p v) t (omega arith) (n .within) (n .value) e in
+      let next = chained-next p k 0 x q (mapIn p v) t (omega arith) (n .within) (n .value) e in
       let m = a .most in
       let all : i ≡ length (neighboursIn p x) = omega arith in
       record {
@@ -103,7 +103,7 @@ module _ (p : Picture) (k x : ℕ) where
               classes =
                   classes-skip p k (suc x) q l (fathersIn p v) next
                   (near-end p (a .ok) k x r l (fathersIn p v) (subst (λ (j : ℕ). Near p k x j r l (fathersIn p v)) all n));
-              threads = t;
+              chained = t;
               is = next .is;
             };
         more = let f = next .from in omega arith;
@@ -123,6 +123,6 @@ ready-end p k x l w r b =
           classes-upto p k x (places p) l (fathersIn p w)
           (λ y u. upto-gap p k x (places p) y (λ z h g. absurd (omega arith)) u)
           (r .classes);
-      threads = r .threads;
+      chained = r .chained;
       is = λ h. absurd (omega arith);
     }

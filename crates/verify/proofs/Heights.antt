@@ -20,7 +20,7 @@ use Rattle.tree_laws.proofs.Classes.{classes-start}
 use Rattle.tree_laws.proofs.Checks.{Differs, Checking}
 use Rattle.tree_laws.proofs.Decided.{yes, never, decided-yes, decided-never}
 use Rattle.verify.specs.Checked.{IsTreeAnswer}
-use Rattle.verify_nodes.specs.Steps.{SameHeights, Counted, Matched, CountReady, NodesChecked, LentMapReady, MapChecked}
+use Rattle.verify_nodes.specs.NodeChecks.{SameHeights, Counted, Matched, CountReady, NodesChecked, LentMapReady, MapChecked}
 use Rattle.verify.specs.Heights.{ListsLong, Verified, LevelChecked}
 use Rattle.verify_nodes.proofs.Counted.{counted-start}
 use Rattle.verify_nodes.proofs.Matched.{matched-start}

@@ -21,7 +21,7 @@ use Rattle.tree_laws.proofs.Numbering.{Member, joined-root, free-fork}
 use Rattle.tree_laws.proofs.LastFathers.{LastFather, missing, pixel, last-father}
 use Rattle.tree_laws.proofs.Checks.{Differs}
 use Rattle.lent_tree.specs.Lent.{HoldsTree}
-use Rattle.verify_nodes.specs.Steps.{SameHeights, Matched}
+use Rattle.verify_nodes.specs.NodeChecks.{SameHeights, Matched}
 use Rattle.verify.specs.Heights.{Verified}
 use Rattle.verify_nodes.proofs.Matched.{says, count-is, node-new, checking-next}
 

@@ -21,7 +21,7 @@ use Rattle.tree_laws.proofs.Forests.{root-cell}
 use Rattle.tree_laws.proofs.Classes.{MarkedClasses, marks-set}
 use Rattle.tree_laws.proofs.Checks.{Checking}
 use Rattle.lent_tree.specs.Lent.{HoldsTree}
-use Rattle.verify_nodes.specs.Steps.{SameHeights, Counted, NodeFits}
+use Rattle.verify_nodes.specs.NodeChecks.{SameHeights, Counted, NodeFits}
 
 pub counted-start : (p : Picture) (k c : ℕ) (l fs ss m : List ℕ) → k ≤ 255 → c ≡ soFar p k → Checking p k (places p) l fs m → Counted p k c c l fs ss m
 counted-start p k c l fs ss m low e s =

@@ -24,7 +24,7 @@ use Rattle.tree_laws.proofs.Forests.{Found, found-root, found-state}
 use Rattle.tree_laws.proofs.Classes.{MarkedClasses, marks-found}
 use Rattle.tree_laws.proofs.Checks.{Checking}
 use Rattle.lent_tree.specs.Lent.{HoldsTree}
-use Rattle.verify_nodes.specs.Steps.{SameHeights, Counted, Matched}
+use Rattle.verify_nodes.specs.NodeChecks.{SameHeights, Counted, Matched}
 
 pub matched-start : (p : Picture) (k c d : ℕ) (l fs ss m : List ℕ) → Counted p k c d l fs ss m → Matched p k c d 0 l fs ss m
 matched-start p k c d l fs ss m s =

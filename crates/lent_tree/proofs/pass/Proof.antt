@@ -9,7 +9,8 @@ use Rattle.lent_tree.proofs.pass.Tie as tie
 -- the climb from the nodes of both places has met
 met-at :
     (c : tie.After-meet) →
-    Meet (λ i. getD (c .before .before .before .before .before .before .before .before .before .args .fathers .now) i 0) (getD (c .before .before .before .before .before .before .before .before .before .args .map .now) (c .before .before .before .before .before .before .before .before .before .args .x) 0) (getD (c .before .before .before .before .before .before .before .before .before .args .map .now) (c .before .before .before .before .before .before .before .before .before .args .y) 0) (c .meet .result)
+    let a = c .before .before .before .before .before .before .before .before .before .args in
+    Meet (λ i. getD (a .fathers .now) i 0) (getD (a .map .now) (a .x) 0) (getD (a .map .now) (a .y) 0) (c .meet .result)
 met-at c = rw (c .before .wide2 .ensures, c .before .before .before .wide .ensures) at (c .meet .ensures)
 
 mul-wide : tie.Need-mul-wide

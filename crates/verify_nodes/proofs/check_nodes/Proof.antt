@@ -1,6 +1,6 @@
 -- `verify_nodes::check_nodes` meets its contract.
 use Rattle.tree_laws.proofs.Decided.{decided-yes, decided-never}
-use Rattle.verify_nodes.proofs.Steps.{NodesNumbered, numbered-start, numbered-turn, numbered-within, numbered-fails, numbered-end}
+use Rattle.verify_nodes.proofs.NodeChecks.{NodesNumbered, numbered-start, numbered-turn, numbered-within, numbered-fails, numbered-end}
 use borrow.Author.Tests.{not-true, not-false}
 use native.Mathlib.Omega.{arith}
 use Prim.Native.Nat.{_-_, _≤_}

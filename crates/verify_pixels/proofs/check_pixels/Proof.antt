@@ -1,7 +1,7 @@
 -- `verify_pixels::check_pixels` meets its contract.
 use Rattle.picture.specs.Pictures.{pictureOf}
 use Rattle.tree_laws.proofs.Decided.{yes, never, decided-yes, decided-never}
-use Rattle.tree_laws.proofs.Looks.{checking-end}
+use Rattle.tree_laws.proofs.PixelChecks.{checking-end}
 use Rattle.tree_laws.proofs.Checks.{Checking}
 use borrow.Author.Tests.{not-true, not-false}
 use native.Mathlib.Omega.{arith}

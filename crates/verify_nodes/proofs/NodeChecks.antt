@@ -11,7 +11,7 @@ use Rattle.picture.specs.Pictures.{Picture, places, valueAt}
 use Rattle.tree_laws.proofs.Decided.{yes, never, decided-yes, decided-never}
 use Rattle.tree_laws.proofs.Forests.{Found, Parents}
 use Rattle.lent_tree.specs.Lent.{HoldsTree}
-use Rattle.verify_nodes.specs.Steps.{SameHeights, Counted, Matched, NodeFits, SamePicture, FitAnswer, CountReady, NodesChecked, LentMapReady, MapChecked}
+use Rattle.verify_nodes.specs.NodeChecks.{SameHeights, Counted, Matched, NodeFits, SamePicture, FitAnswer, CountReady, NodesChecked, LentMapReady, MapChecked}
 use Rattle.verify_nodes.proofs.Counted.{counted-turn, tree-fits}
 use Rattle.verify_nodes.proofs.Matched.{matched-pass, matched-turn, matched-cell}
 

@@ -15,11 +15,11 @@ use Rattle.tree_laws.proofs.Levels.{upto-gap}
 use Rattle.tree_laws.proofs.Forests.{Found, Parents}
 use Rattle.tree_laws.proofs.Marks.{Names}
 use Rattle.tree_laws.proofs.Classes.{classes-upto}
-use Rattle.tree_laws.proofs.Absorbing.{Near, near-start, near-end}
-use Rattle.tree_laws.proofs.Checks.{Differs, Checking, NearBy, LookReady, Looked}
+use Rattle.tree_laws.proofs.Joins.{Near, near-start, near-end}
+use Rattle.tree_laws.proofs.Checks.{Differs, Checking, NearBy, EdgeCheckReady, EdgeChecked}
 
 -- x is joined to the first i of its neighbours
-pub record Looking (p : Picture) (k x i r : ℕ) (l fs m : List ℕ) : Type 0 where
+pub record PixelChecking (p : Picture) (k x i r : ℕ) (l fs m : List ℕ) : Type 0 where
   pub ok : Accepted p
   pub most : i ≤ length (neighboursIn p x)
   pub by-near : NearBy p k x i r l fs m
@@ -44,8 +44,8 @@ module _ (p : Picture) (k x : ℕ) where
   checking-end l fs m c a b =
       subst (λ (z : ℕ). Checking p k z l fs m) (let s = c .classes .size in let e : x ≡ places p = omega arith in e) c
 
-  pub look-start : (r : ℕ) (l o fs m : List ℕ) → Checking p k x l fs m → x < length l → valueAt p x ≡ k → Found l x r o → Looking p k x 0 r o fs m
-  look-start r l o fs m c b v f =
+  pub checked-start : (r : ℕ) (l o fs m : List ℕ) → Checking p k x l fs m → x < length l → valueAt p x ≡ k → Found l x r o → PixelChecking p k x 0 r o fs m
+  checked-start r l o fs m c b v f =
       record {
         ok = c .ok;
         most = omega arith;
@@ -57,14 +57,14 @@ module _ (p : Picture) (k x : ℕ) where
             };
       }
 
-  module _ (i r y : ℕ) (l fs m : List ℕ) (a : Looking p k x i r l fs m) (b : i < length (neighboursIn p x)) (e : y ≡ getD (neighboursIn p x) i 0) where
-    pub look-ready : LookReady (p .pixels) k x r y l fs m
-    look-ready =
+  module _ (i r y : ℕ) (l fs m : List ℕ) (a : PixelChecking p k x i r l fs m) (b : i < length (neighboursIn p x)) (e : y ≡ getD (neighboursIn p x) i 0) where
+    pub checked-ready : EdgeCheckReady (p .pixels) k x r y l fs m
+    checked-ready =
         record { p = p; j = i; ok = a .ok; is = refl; edge = record { listed = b; is = e }; near = a .by-near }
 
-    module _ (q : ℕ) (o : List ℕ) (s : Looked (p .pixels) k x r y l fs m q o) where
-      pub look-turn : q < length o → Looking p k x (i + 1) q o fs m
-      look-turn h =
+    module _ (q : ℕ) (o : List ℕ) (s : EdgeChecked (p .pixels) k x r y l fs m q o) where
+      pub checked-turn : q < length o → PixelChecking p k x (i + 1) q o fs m
+      checked-turn h =
           let z = s .size in
           record {
             ok = a .ok;
@@ -74,12 +74,12 @@ module _ (p : Picture) (k x : ℕ) where
                 (s .near p i (a .ok) refl (record { listed = b; is = e }) (a .by-near) (omega arith));
           }
 
-      pub look-differs : length o ≤ q → Differs p fs m
-      look-differs h =
+      pub checked-differs : length o ≤ q → Differs p fs m
+      checked-differs h =
           let z = s .size in s .differs p i (a .ok) refl (record { listed = b; is = e }) (a .by-near) (omega arith)
 
-  pub look-end : (i r : ℕ) (l fs m : List ℕ) → Looking p k x i r l fs m → length (neighboursIn p x) ≤ i → Checking p k (x + 1) l fs m
-  look-end i r l fs m a h =
+  pub checked-end : (i r : ℕ) (l fs m : List ℕ) → PixelChecking p k x i r l fs m → length (neighboursIn p x) ≤ i → Checking p k (x + 1) l fs m
+  checked-end i r l fs m a h =
       let n = a .by-near in
       let g = a .most in
       let all : i ≡ length (neighboursIn p x) = omega arith in
@@ -92,8 +92,8 @@ module _ (p : Picture) (k x : ℕ) where
       })
 
   -- a pixel of another value
-  pub look-pass : (l fs m : List ℕ) → Checking p k x l fs m → valueAt p x ≢ k → Checking p k (x + 1) l fs m
-  look-pass l fs m c d =
+  pub checked-pass : (l fs m : List ℕ) → Checking p k x l fs m → valueAt p x ≢ k → Checking p k (x + 1) l fs m
+  checked-pass l fs m c d =
       subst (λ (z : ℕ). Checking p k z l fs m) (sym (add-one x))
       (record {
         ok = c .ok;

@@ -1,4 +1,4 @@
--- `tree::absorb::absorb` meets its contract.
+-- `tree::joins::join_pixel` meets its contract.
 use Rattle.picture.specs.Pictures.{pictureOf}
 use Rattle.picture.proofs.Neighbours.{listed-at}
 use Rattle.tree_laws.proofs.Walks.{Joining, joining-start, joining-turn, joining-end, edge-ready, ready-placed, ready-parents}
@@ -7,8 +7,8 @@ use mathlib.Core.Path.{ap, _∙_}
 use native.Mathlib.Omega.{arith}
 use Prim.Native.Nat.{ℕ, _-_, _+_, _*_}
 use borrow.Author.Needs.{needs}
-use Rattle.tree.proofs.absorb.absorb.Statement.{statement}
-use Rattle.tree.proofs.absorb.absorb.Tie as tie
+use Rattle.tree.proofs.joins.join_pixel.Statement.{statement}
+use Rattle.tree.proofs.joins.join_pixel.Tie as tie
 
 abbrev Inv-loop : tie.InvT-loop
 Inv-loop a w h pixels work₀ cells₀ k x near count root₀ i₀ work cells root i = Joining (pictureOf a w h pixels) k x i root cells work₀ work
@@ -38,8 +38,8 @@ array-read-wide c = omega (arith, c .before .before .before .before .before .bef
 wide-requires : tie.Need-wide-requires Inv-loop μ-loop
 wide-requires c κs = search needs
 
-absorb-edge-requires : tie.Need-absorb-edge-requires Inv-loop μ-loop
-absorb-edge-requires c κs = let s = c .before .before .before .before .before .before .before .before .before .before .neighbours .ensures in
+join-edge-requires : tie.Need-join-edge-requires Inv-loop μ-loop
+join-edge-requires c κs = let s = c .before .before .before .before .before .before .before .before .before .before .neighbours .ensures in
     let b = c .before .before .before .loop-test .taken in
     let e = s .count in
     edge-ready _ _ _ _ _ _ _ _ _ (c .before .before .before .before .loop .inv) (omega arith) (c .wide .ensures ∙ listed-at _ _ _ _ s _ b)
@@ -54,7 +54,7 @@ loop-again : tie.Need-loop-again Inv-loop μ-loop
 loop-again c = let s = c .before .before .before .before .before .before .before .before .before .before .before .before .before .before .before .neighbours .ensures in
     let b = c .before .before .before .before .before .before .before .before .loop-test .taken in
     let e = s .count in
-    joining-turn _ _ _ _ _ _ _ _ _ _ _ _ (c .before .before .before .before .before .before .before .before .before .loop .inv) (omega arith) (c .before .before .before .before .before .wide .ensures ∙ listed-at _ _ _ _ s _ b) (c .before .before .before .before .absorb-edge .ensures)
+    joining-turn _ _ _ _ _ _ _ _ _ _ _ _ (c .before .before .before .before .before .before .before .before .before .loop .inv) (omega arith) (c .before .before .before .before .before .wide .ensures ∙ listed-at _ _ _ _ s _ b) (c .before .before .before .before .join-edge .ensures)
 
 mul-wide-2 : tie.Need-mul-wide-2 Inv-loop μ-loop
 mul-wide-2 c = search needs
@@ -86,8 +86,8 @@ returns c = let s = c .before .before .before .before .before .before .before .b
     joining-end _ _ _ _ _ _ _ _ _ _ i (omega arith) (c .before .before .before .before .before .before .before .before .before .before .before .before .before .before .pre .0)
     (c .wide2 .ensures ∙ ap (λ (n : ℕ). getD (c .before .before .before .loop .work) (2 * n + c .before .before .before .before .before .before .before .before .before .before .before .before .before .before .args .x) 0) (i .near .classes .size))
 
-pub absorb-spec : {M : Type 1} → statement M
-absorb-spec =
+pub join-pixel-spec : {M : Type 1} → statement M
+join-pixel-spec =
     tie.close
     (tie.spec
     Inv-loop
@@ -99,7 +99,7 @@ absorb-spec =
     mul-wide
     array-read-wide
     wide-requires
-    absorb-edge-requires
+    join-edge-requires
     add-i
     loop-less
     loop-again

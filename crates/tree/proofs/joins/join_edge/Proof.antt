@@ -1,4 +1,4 @@
--- `tree::absorb::absorb_edge` meets its contract.
+-- `tree::joins::join_edge` meets its contract.
 use lib.ListN.{getD}
 use Rattle.tree_laws.proofs.Decided.{decided-yes, decided-never}
 use Rattle.tree_laws.proofs.Levels.{Earlier}
@@ -7,8 +7,8 @@ use Rattle.lists.proofs.Blocks.{kept-refl}
 use borrow.Author.Tests.{not-true, not-false}
 use native.Mathlib.Omega.{arith}
 use borrow.Author.Needs.{needs}
-use Rattle.tree.proofs.absorb.absorb_edge.Statement.{statement}
-use Rattle.tree.proofs.absorb.absorb_edge.Tie as tie
+use Rattle.tree.proofs.joins.join_edge.Statement.{statement}
+use Rattle.tree.proofs.joins.join_edge.Tie as tie
 
 abbrev origin : tie.Else1 → tie.Start
 origin c = c .before .before .before .before .before
@@ -48,8 +48,8 @@ returns-3 : tie.Need-returns-3
 returns-3 c = let d = c .before .before .before .before in
     done-linked _ _ _ _ _ _ _ (earlier (d .before .before .before .before .before .before .before .before)) _ _ (d .before .before .before .before .before .before .find .ensures) _ _ _ (d .join .ensures)
 
-pub absorb-edge-spec : {M : Type 1} → statement M
-absorb-edge-spec =
+pub join-edge-spec : {M : Type 1} → statement M
+join-edge-spec =
     tie.close
     (tie.spec
     comes-before-requires
