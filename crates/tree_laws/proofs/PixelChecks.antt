@@ -15,7 +15,7 @@ use Rattle.tree_laws.proofs.Levels.{upto-gap}
 use Rattle.tree_laws.proofs.Forests.{Found, Parents}
 use Rattle.tree_laws.proofs.Marks.{Names}
 use Rattle.tree_laws.proofs.Classes.{classes-upto}
-use Rattle.tree_laws.proofs.Joins.{Near, near-start, near-end}
+use Rattle.tree_laws.proofs.Joins.{Near, Edge, near-start, near-end}
 use Rattle.tree_laws.proofs.Checks.{Differs, Checking, NearBy, EdgeCheckReady, EdgeChecked}
 
 -- x is joined to the first i of its neighbours
@@ -57,26 +57,27 @@ module _ (p : Picture) (k x : ℕ) where
             };
       }
 
-  module _ (i r y : ℕ) (l fs m : List ℕ) (a : PixelChecking p k x i r l fs m) (b : i < length (neighboursIn p x)) (e : y ≡ getD (neighboursIn p x) i 0) where
+  module _ (i r y : ℕ) (l fs m : List ℕ) (a : PixelChecking p k x i r l fs m) (e : Edge p x i y) where
     pub checked-ready : EdgeCheckReady (p .pixels) k x r y l fs m
     checked-ready =
-        record { p = p; j = i; ok = a .ok; is = refl; edge = record { listed = b; is = e }; near = a .by-near }
+        record { p = p; j = i; ok = a .ok; is = refl; edge = e; near = a .by-near }
 
     module _ (q : ℕ) (o : List ℕ) (s : EdgeChecked (p .pixels) k x r y l fs m q o) where
       pub checked-turn : q < length o → PixelChecking p k x (i + 1) q o fs m
       checked-turn h =
           let z = s .size in
+          let b = e .listed in
           record {
             ok = a .ok;
             most = omega arith;
             by-near =
                 subst (λ (j : ℕ). NearBy p k x j q o fs m) (sym (add-one i))
-                (s .near p i (a .ok) refl (record { listed = b; is = e }) (a .by-near) (omega arith));
+                (s .near p i (a .ok) refl e (a .by-near) (omega arith));
           }
 
       pub checked-differs : length o ≤ q → Differs p fs m
       checked-differs h =
-          let z = s .size in s .differs p i (a .ok) refl (record { listed = b; is = e }) (a .by-near) (omega arith)
+          let z = s .size in s .differs p i (a .ok) refl e (a .by-near) (omega arith)
 
   pub checked-end : (i r : ℕ) (l fs m : List ℕ) → PixelChecking p k x i r l fs m → length (neighboursIn p x) ≤ i → Checking p k (x + 1) l fs m
   checked-end i r l fs m a h =

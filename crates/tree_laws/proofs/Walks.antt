@@ -14,7 +14,7 @@ use Rattle.lists.proofs.Blocks.{kept-refl, kept-trans}
 use Rattle.tree_laws.proofs.Levels.{upto-gap}
 use Rattle.tree_laws.proofs.Forests.{Found, Parents}
 use Rattle.tree_laws.proofs.Classes.{Classes, classes-upto}
-use Rattle.tree_laws.proofs.Joins.{Near, near-start, near-end}
+use Rattle.tree_laws.proofs.Joins.{Near, Edge, near-start, near-end}
 use Rattle.tree_laws.proofs.Chains.{fathersIn, mapIn, Chained, chained-same, chained-next, classes-skip, EdgeReady, EdgeDone}
 
 -- the pixels of height k before x have joined the classes; x is the next one, or beyond the picture
@@ -59,22 +59,23 @@ module _ (p : Picture) (k x : ℕ) where
         block = kept-refl (places p) (places p) w;
       }
 
-  pub edge-ready : (i r y : ℕ) (l w v : List ℕ) → Joining p k x i r l w v → i < length (neighboursIn p x) → y ≡ getD (neighboursIn p x) i 0 → EdgeReady (p .pixels) k x r y l v
-  edge-ready i r y l w v a b e =
+  pub edge-ready : (i r y : ℕ) (l w v : List ℕ) → Joining p k x i r l w v → Edge p x i y → EdgeReady (p .pixels) k x r y l v
+  edge-ready i r y l w v a e =
       record {
         p = p;
         j = i;
         ok = a .ok;
         room = a .room;
         is = refl;
-        edge = record { listed = b; is = e };
+        edge = e;
         near = a .near;
       }
 
   pub joining-turn :
-      (i r y q : ℕ) (l m w v u : List ℕ) → Joining p k x i r l w v → i < length (neighboursIn p x) → y ≡ getD (neighboursIn p x) i 0 →
-      EdgeDone (p .pixels) k x r y l v q m u → Joining p k x (i + 1) q m w u
-  joining-turn i r y q l m w v u a b e d =
+      (i r y q : ℕ) (l m w v u : List ℕ) → Joining p k x i r l w v → Edge p x i y → EdgeDone (p .pixels) k x r y l v q m u →
+      Joining p k x (i + 1) q m w u
+  joining-turn i r y q l m w v u a e d =
+      let b = e .listed in
       let block = subst (λ (n : ℕ). UntouchedOutside n n v u) (a .near .classes .size) (d .block) in
       record {
         ok = a .ok;
@@ -82,7 +83,7 @@ module _ (p : Picture) (k x : ℕ) where
         most = omega arith;
         near =
             subst (λ (j : ℕ). Near p k x j q m (fathersIn p u)) (sym (add-one i))
-            (d .near p i (a .ok) refl (record { listed = b; is = e }) (a .near));
+            (d .near p i (a .ok) refl e (a .near));
         block = kept-trans (places p) (places p) w v u (a .block) block;
       }
 

@@ -1,6 +1,7 @@
 -- `verify_pixels::check_pixel` meets its contract.
 use Rattle.picture.specs.Pictures.{pictureOf}
 use Rattle.tree_laws.proofs.Decided.{yes, never}
+use Rattle.tree_laws.proofs.Joins.{Edge}
 use Rattle.tree_laws.proofs.PixelChecks.{PixelChecking, checking-placed, checking-parents, checked-start, checked-ready, checked-turn, checked-differs, checked-end, checked-pass}
 use Rattle.picture.proofs.Neighbours.{listed-at}
 use mathlib.Core.Path.{sym, _∙_}
@@ -15,6 +16,13 @@ Inv-loop a w h pixels fathers map cells₀ k x near count root₀ i₀ cells roo
 
 abbrev μ-loop : tie.MeasureT-loop
 μ-loop a w h pixels fathers map cells₀ k x near count root₀ i₀ cells root i = count - i
+
+-- the neighbour that the loop has come to
+edge : (c : tie.After-wide Inv-loop μ-loop) → let a = c .before .before .before .before .before .before .before .before .before .before .before .before .before .before .before .before .before .before .args in Edge (pictureOf (a .a) (a .w) (a .h) (a .pixels .now)) (a .x) (c .before .before .before .loop .i) (c .wide .result)
+edge c = let s = c .before .before .before .before .before .before .before .before .before .neighbours .ensures in
+    let b = c .before .before .loop-test .taken in
+    let e = s .count in
+    record { listed = omega arith; is = c .wide .ensures ∙ listed-at _ _ _ _ s _ b }
 
 shared-slice-read-value : tie.Need-shared-slice-read-value Inv-loop μ-loop
 shared-slice-read-value c = search needs
@@ -47,23 +55,18 @@ wide-requires : tie.Need-wide-requires Inv-loop μ-loop
 wide-requires c κs = search needs
 
 check-edge-requires : tie.Need-check-edge-requires Inv-loop μ-loop
-check-edge-requires c κs = let s = c .before .before .before .before .before .before .before .before .before .neighbours .ensures in
-    let b = c .before .before .loop-test .taken in
-    let e = s .count in
+check-edge-requires c κs = let s = c .before .before .before .before .before .before .before .before .before .before .before .before .before .before .before .before .before .before .pre in
     let i = c .before .before .before .loop .inv in
     let z = i .by-near .near .classes .size in
-    let y = c .before .before .before .before .before .before .before .before .before .before .before .before .before .before .before .before .before .before .pre .0 .0 .classes .size in
-    (checked-ready _ _ _ _ _ _ _ _ _ i (omega arith) (c .wide .ensures ∙ listed-at _ _ _ _ s _ b), (omega (arith, c .before .before .before .before .before .before .before .before .before .before .before .before .before .before .before .before .before .before .pre .1 .0), omega (arith, c .before .before .before .before .before .before .before .before .before .before .before .before .before .before .before .before .before .before .pre .1 .1)))
+    let y = s .0 .0 .classes .size in
+    (checked-ready _ _ _ _ _ _ _ _ _ i (edge c), (omega (arith, s .1 .0), omega (arith, s .1 .1)))
 
 same-length : tie.Need-same-length Inv-loop μ-loop
 same-length c = c .before .before .before .check-edge .ensures .size ∙ (c .before .before .before .before .before .before .before .loop .inv .by-near .near .classes .size ∙ sym (c .before .before .before .before .before .before .before .before .before .before .before .before .before .before .before .before .before .before .before .before .before .before .pre .0 .0 .classes .size))
 
 returns-2 : tie.Need-returns-2 Inv-loop μ-loop
-returns-2 c = let s = c .before .before .before .before .before .before .before .before .before .before .before .before .before .neighbours .ensures in
-    let b = c .before .before .before .before .before .before .loop-test .taken in
-    let e = s .count in
-    never
-    (checked-differs _ _ _ _ _ _ _ _ _ (c .before .before .before .before .before .before .before .loop .inv) (omega arith) (c .before .before .before .before .wide .ensures ∙ listed-at _ _ _ _ s _ b) _ _ (c .before .before .before .check-edge .ensures) (c .if2 .taken))
+returns-2 c = let d = c .before .before .before in
+    never (checked-differs _ _ _ _ _ _ _ _ _ (d .before .before .before .before .loop .inv) (edge (d .before)) _ _ (d .check-edge .ensures) (c .if2 .taken))
 
 add-i : tie.Need-add-i Inv-loop μ-loop
 add-i c = search needs
@@ -72,10 +75,8 @@ loop-less : tie.Need-loop-less Inv-loop μ-loop
 loop-less c = search needs
 
 loop-again : tie.Need-loop-again Inv-loop μ-loop
-loop-again c = let s = c .before .before .before .before .before .before .before .before .before .before .before .before .before .neighbours .ensures in
-    let b = c .before .before .before .before .before .before .loop-test .taken in
-    let e = s .count in
-    checked-turn _ _ _ _ _ _ _ _ _ (c .before .before .before .before .before .before .before .loop .inv) (omega arith) (c .before .before .before .before .wide .ensures ∙ listed-at _ _ _ _ s _ b) _ _ (c .before .before .before .check-edge .ensures) (c .if2 .left)
+loop-again c = let d = c .before .before .before in
+    checked-turn _ _ _ _ _ _ _ _ _ (d .before .before .before .before .loop .inv) (edge (d .before)) _ _ (d .check-edge .ensures) (c .if2 .left)
 
 same-length-2 : tie.Need-same-length-2 Inv-loop μ-loop
 same-length-2 c = search needs

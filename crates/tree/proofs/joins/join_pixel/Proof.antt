@@ -1,6 +1,7 @@
 -- `tree::joins::join_pixel` meets its contract.
 use Rattle.picture.specs.Pictures.{pictureOf}
 use Rattle.picture.proofs.Neighbours.{listed-at}
+use Rattle.tree_laws.proofs.Joins.{Edge}
 use Rattle.tree_laws.proofs.Walks.{Joining, joining-start, joining-turn, joining-end, edge-ready, ready-placed, ready-parents}
 use lib.ListN.{getD}
 use mathlib.Core.Path.{ap, _∙_}
@@ -15,6 +16,13 @@ Inv-loop a w h pixels work₀ cells₀ k x near count root₀ i₀ work cells ro
 
 abbrev μ-loop : tie.MeasureT-loop
 μ-loop a w h pixels work₀ cells₀ k x near count root₀ i₀ work cells root i = count - i
+
+-- the neighbour that the loop has come to
+edge : (c : tie.After-wide Inv-loop μ-loop) → let a = c .before .before .before .before .before .before .before .before .before .before .before .before .before .before .before .args in Edge (pictureOf (a .a) (a .w) (a .h) (a .pixels .now)) (a .x) (c .before .before .before .before .loop .i) (c .wide .result)
+edge c = let s = c .before .before .before .before .before .before .before .before .before .before .neighbours .ensures in
+    let b = c .before .before .before .loop-test .taken in
+    let e = s .count in
+    record { listed = omega arith; is = c .wide .ensures ∙ listed-at _ _ _ _ s _ b }
 
 slice-aggregate-neighbours : tie.Need-slice-aggregate-neighbours Inv-loop μ-loop
 slice-aggregate-neighbours c = search needs
@@ -39,10 +47,7 @@ wide-requires : tie.Need-wide-requires Inv-loop μ-loop
 wide-requires c κs = search needs
 
 join-edge-requires : tie.Need-join-edge-requires Inv-loop μ-loop
-join-edge-requires c κs = let s = c .before .before .before .before .before .before .before .before .before .before .neighbours .ensures in
-    let b = c .before .before .before .loop-test .taken in
-    let e = s .count in
-    edge-ready _ _ _ _ _ _ _ _ _ (c .before .before .before .before .loop .inv) (omega arith) (c .wide .ensures ∙ listed-at _ _ _ _ s _ b)
+join-edge-requires c κs = edge-ready _ _ _ _ _ _ _ _ _ (c .before .before .before .before .loop .inv) (edge c)
 
 add-i : tie.Need-add-i Inv-loop μ-loop
 add-i c = search needs
@@ -51,10 +56,8 @@ loop-less : tie.Need-loop-less Inv-loop μ-loop
 loop-less c = search needs
 
 loop-again : tie.Need-loop-again Inv-loop μ-loop
-loop-again c = let s = c .before .before .before .before .before .before .before .before .before .before .before .before .before .before .before .neighbours .ensures in
-    let b = c .before .before .before .before .before .before .before .before .loop-test .taken in
-    let e = s .count in
-    joining-turn _ _ _ _ _ _ _ _ _ _ _ _ (c .before .before .before .before .before .before .before .before .before .loop .inv) (omega arith) (c .before .before .before .before .before .wide .ensures ∙ listed-at _ _ _ _ s _ b) (c .before .before .before .before .join-edge .ensures)
+loop-again c = let d = c .before .before .before .before in
+    joining-turn _ _ _ _ _ _ _ _ _ _ _ _ (d .before .before .before .before .before .loop .inv) (edge (d .before)) (d .join-edge .ensures)
 
 mul-wide-2 : tie.Need-mul-wide-2 Inv-loop μ-loop
 mul-wide-2 c = search needs
