@@ -18,6 +18,7 @@ use Rattle.tree_laws.proofs.Marks.{Names}
 use Rattle.tree_laws.proofs.Classes.{Classes}
 use Rattle.tree_laws.proofs.Joins.{Near, Edge, Linkable, edge-touch, edge-within, near-skip, near-same, near-linkable, near-linked, near-met}
 use Rattle.tree_laws.proofs.Chains.{upto-of}
+use Rattle.tree_laws.proofs.States.{firstNode, nodeState, severalState, nothingState}
 
 -- the lent entries of two lists contradict the tree: a node's father is the node of a pixel, and their entries differ
 pub record Differs (p : Picture) (fs m : List ℕ) : Type 0 where
@@ -48,29 +49,29 @@ pub record NearBy (p : Picture) (k x j r : ℕ) (l fs m : List ℕ) : Type 0 whe
 -- the entry of the node that a state names agrees with the pixel's
 unfoldable pub Agrees : ℕ → ℕ → List ℕ → List ℕ → Bool → Type 0
 Agrees s x fs m =
-    Decided ((i : ℕ) → i < 1600 → s ≡ 2048 + i → getD fs i 0 ≡ getD m x 0) ((s < 65534) × (getD fs (s - 2048) 0 ≢ getD m x 0))
+    Decided ((i : ℕ) → i < 1600 → s ≡ nodeState i → getD fs i 0 ≡ getD m x 0) ((s < severalState) × (getD fs (s - firstNode) 0 ≢ getD m x 0))
 
 -- the states a and b merged to s, the lent fathers of the nodes that meet being the lent node of x
 pub data MergedBy (x a b s : ℕ) (fs m : List ℕ) : Type 0 where
-  by-left : a ≡ 65535 → s ≡ b → MergedBy x a b s fs m
-  by-right : b ≡ 65535 → s ≡ a → MergedBy x a b s fs m
+  by-left : a ≡ nothingState → s ≡ b → MergedBy x a b s fs m
+  by-right : b ≡ nothingState → s ≡ a → MergedBy x a b s fs m
   by-both :
-      a ≢ 65535 → b ≢ 65535 → s ≡ 65534 →
-      ((i : ℕ) → i < 1600 → (a ≡ 2048 + i) ⊎ (b ≡ 2048 + i) → getD fs i 0 ≡ getD m x 0) → MergedBy x a b s fs m
+      a ≢ nothingState → b ≢ nothingState → s ≡ severalState →
+      ((i : ℕ) → i < 1600 → (a ≡ nodeState i) ⊎ (b ≡ nodeState i) → getD fs i 0 ≡ getD m x 0) → MergedBy x a b s fs m
 
 -- what a checked link of two roots leaves: the link, with the root z, or a difference, with the number of cells for z
 pub data Joint (x q r : ℕ) (l fs m : List ℕ) (o : List ℕ) (z : ℕ) : Type 0 where
-  linked : (s : ℕ) → 2048 ≤ s → Linked q r s l o z → MergedBy x (getD l q 0) (getD l r 0) s fs m → Joint x q r l fs m o z
+  linked : (s : ℕ) → firstNode ≤ s → Linked q r s l o z → MergedBy x (getD l q 0) (getD l r 0) s fs m → Joint x q r l fs m o z
   differs :
-      (i : ℕ) → i < 1600 → getD l q 0 ≢ 65535 → getD l r 0 ≢ 65535 → (getD l q 0 ≡ 2048 + i) ⊎ (getD l r 0 ≡ 2048 + i) →
+      (i : ℕ) → i < 1600 → getD l q 0 ≢ nothingState → getD l r 0 ≢ nothingState → (getD l q 0 ≡ nodeState i) ⊎ (getD l r 0 ≡ nodeState i) →
       getD fs i 0 ≢ getD m x 0 → length o ≡ length l → z ≡ length l → Joint x q r l fs m o z
 
 -- the entries with x at the node that a state names
 marked : ℕ → ℕ → (ℕ → ℕ) → ℕ → ℕ
-marked s x fa i = put fa (s - 2048) x i
+marked s x fa i = put fa (s - firstNode) x i
 
 merged-by :
-    (x a b s : ℕ) (fs m : List ℕ) (fa : ℕ → ℕ) → 2048 ≤ a → 2048 ≤ b → MergedBy x a b s fs m → Agree fa fs m →
+    (x a b s : ℕ) (fs m : List ℕ) (fa : ℕ → ℕ) → firstNode ≤ a → firstNode ≤ b → MergedBy x a b s fs m → Agree fa fs m →
     (fb : ℕ → ℕ) × Merged x a b s fa fb × Agree fb fs m
 unfolding marked
 merged-by x a b s fs m fa ra rb (by-left e q) g = (fa, left e q (λ i h. refl), g)
@@ -81,10 +82,10 @@ merged-by x a b s fs m fa ra rb (by-both da db q f) g = (
   record {
     same =
         λ i h.
-        by-cases (ℕ-discrete b (2048 + i))
+        by-cases (ℕ-discrete b (nodeState i))
         (λ e. inr (f i h (inr e) ∙ ap (λ (z : ℕ). getD m z 0) (sym (hit i h (inr e)))))
         (λ d.
-        by-cases (ℕ-discrete a (2048 + i))
+        by-cases (ℕ-discrete a (nodeState i))
         (λ e. inr (f i h (inl e) ∙ ap (λ (z : ℕ). getD m z 0) (sym (hit i h (inl e)))))
         (λ t.
         let r = miss i h t d in
@@ -92,41 +93,41 @@ merged-by x a b s fs m fa ra rb (by-both da db q f) g = (
   },
 )
   where
-    own : (s : ℕ) (fa : ℕ → ℕ) (i : ℕ) → 2048 ≤ s → s ≡ 2048 + i → marked s x fa i ≡ x
-    own s fa i r e = put-same fa (s - 2048) x i (omega arith)
+    own : (s : ℕ) (fa : ℕ → ℕ) (i : ℕ) → firstNode ≤ s → s ≡ nodeState i → marked s x fa i ≡ x
+    own s fa i r e = put-same fa (s - firstNode) x i (omega arith)
 
-    other : (s : ℕ) (fa : ℕ → ℕ) (i : ℕ) → 2048 ≤ s → s ≢ 2048 + i → marked s x fa i ≡ fa i
-    other s fa i r d = put-other fa (s - 2048) x i (λ e. d (omega arith))
+    other : (s : ℕ) (fa : ℕ → ℕ) (i : ℕ) → firstNode ≤ s → s ≢ nodeState i → marked s x fa i ≡ fa i
+    other s fa i r d = put-other fa (s - firstNode) x i (λ e. d (omega arith))
 
-    hit : (i : ℕ) → i < 1600 → (a ≡ 2048 + i) ⊎ (b ≡ 2048 + i) → marked b x (marked a x fa) i ≡ x
+    hit : (i : ℕ) → i < 1600 → (a ≡ nodeState i) ⊎ (b ≡ nodeState i) → marked b x (marked a x fa) i ≡ x
     hit i h e =
-        by-cases (ℕ-discrete b (2048 + i))
+        by-cases (ℕ-discrete b (nodeState i))
         (λ z. own b (marked a x fa) i rb z)
         (λ z. other b (marked a x fa) i rb z ∙ ⊎-elim (λ y. own a fa i ra y) (λ y. absurd (z y)) e)
 
-    miss : (i : ℕ) → i < 1600 → a ≢ 2048 + i → b ≢ 2048 + i → marked b x (marked a x fa) i ≡ fa i
+    miss : (i : ℕ) → i < 1600 → a ≢ nodeState i → b ≢ nodeState i → marked b x (marked a x fa) i ≡ fa i
     miss i h d e = other b (marked a x fa) i rb e ∙ other a fa i ra d
 
-pub agrees-none : (s x : ℕ) (fs m : List ℕ) → 65534 ≤ s → Agrees s x fs m true
+pub agrees-none : (s x : ℕ) (fs m : List ℕ) → severalState ≤ s → Agrees s x fs m true
 unfolding Agrees
 agrees-none s x fs m h = yes (λ i b q. absurd (omega arith))
 
-pub agrees-same : (s x t : ℕ) (fs m : List ℕ) → t ≡ s - 2048 → 2048 ≤ s → getD fs t 0 ≡ getD m x 0 → Agrees s x fs m true
+pub agrees-same : (s x t : ℕ) (fs m : List ℕ) → t ≡ s - firstNode → firstNode ≤ s → getD fs t 0 ≡ getD m x 0 → Agrees s x fs m true
 unfolding Agrees
 agrees-same s x t fs m e r h = yes (λ i b g. let z : i ≡ t = omega arith in ap (λ (y : ℕ). getD fs y 0) z ∙ h)
 
-pub agrees-not : (s x t : ℕ) (fs m : List ℕ) → t ≡ s - 2048 → s < 65534 → (getD fs t 0 ≡ getD m x 0 → ⊥) → Agrees s x fs m false
+pub agrees-not : (s x t : ℕ) (fs m : List ℕ) → t ≡ s - firstNode → s < severalState → (getD fs t 0 ≡ getD m x 0 → ⊥) → Agrees s x fs m false
 unfolding Agrees
 agrees-not s x t fs m e b h = never (b, λ g. h (ap (λ (y : ℕ). getD fs y 0) e ∙ g))
 
 module _ (x q r n : ℕ) (l fs m : List ℕ) (few : n ≤ 1600) (na : Names n (getD l q 0)) (nb : Names n (getD l r 0)) where
-  pub joint-left : (o : List ℕ) (z : ℕ) → getD l q 0 ≡ 65535 → Linked q r (getD l r 0) l o z → Joint x q r l fs m o z
+  pub joint-left : (o : List ℕ) (z : ℕ) → getD l q 0 ≡ nothingState → Linked q r (getD l r 0) l o z → Joint x q r l fs m o z
   joint-left o z e h = linked (getD l r 0) (nb .root) h (by-left e refl)
 
-  pub joint-right : (o : List ℕ) (z : ℕ) → getD l r 0 ≡ 65535 → Linked q r (getD l q 0) l o z → Joint x q r l fs m o z
+  pub joint-right : (o : List ℕ) (z : ℕ) → getD l r 0 ≡ nothingState → Linked q r (getD l q 0) l o z → Joint x q r l fs m o z
   joint-right o z e h = linked (getD l q 0) (na .root) h (by-right e refl)
 
-  module _ (da : getD l q 0 ≢ 65535) (db : getD l r 0 ≢ 65535) where
+  module _ (da : getD l q 0 ≢ nothingState) (db : getD l r 0 ≢ nothingState) where
     -- the state s is that of one of the two
     pub joint-differs : (s : ℕ) → (getD l q 0 ≡ s) ⊎ (getD l r 0 ≡ s) → Names n s → Agrees s x fs m false → Joint x q r l fs m l (length l)
     unfolding Agrees
@@ -134,12 +135,12 @@ module _ (x q r n : ℕ) (l fs m : List ℕ) (few : n ≤ 1600) (na : Names n (g
         let (b, d) = decided-never refl a in
         let g = names .root in
         let h = names .node b in
-        differs (s - 2048) (omega arith) da db (⊎-elim (λ t. inl (omega arith)) (λ t. inr (omega arith)) e) d refl refl
+        differs (s - firstNode) (omega arith) da db (⊎-elim (λ t. inl (omega arith)) (λ t. inr (omega arith)) e) d refl refl
 
-    pub joint-both : (o : List ℕ) (z : ℕ) → Agrees (getD l q 0) x fs m true → Agrees (getD l r 0) x fs m true → Linked q r 65534 l o z → Joint x q r l fs m o z
+    pub joint-both : (o : List ℕ) (z : ℕ) → Agrees (getD l q 0) x fs m true → Agrees (getD l r 0) x fs m true → Linked q r severalState l o z → Joint x q r l fs m o z
     unfolding Agrees
     joint-both o z a b h =
-        linked 65534 (omega arith) h
+        linked severalState (omega arith) h
         (by-both da db refl (λ i g. ⊎-elim (decided-yes refl a i g) (decided-yes refl b i g)))
 
 -- x is joined to some of its neighbours, and y is the next

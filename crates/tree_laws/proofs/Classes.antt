@@ -11,6 +11,7 @@ use Rattle.topology.proofs.Connected.{start}
 use Rattle.tree_laws.proofs.Counts.{soFar, so-none, so-places}
 use Rattle.tree_laws.proofs.Levels.{Father, nothing, Level, Upto, Edges, edges-upto, HeightJoined}
 use Rattle.tree_laws.proofs.Forests.{Forest, Found, forest-state}
+use Rattle.tree_laws.proofs.States.{firstNode, nothingState}
 
 -- the cells hold the classes at height k, with the neighbours up to x joined
 pub record Classes (p : Picture) (k x : ℕ) (l : List ℕ) (fa : ℕ → ℕ) : Type 0 where
@@ -31,12 +32,12 @@ pub record MarkedClasses (p : Picture) (k c : ℕ) (l : List ℕ) (fa : ℕ → 
   pub joined : HeightJoined p k c root st fa
 
 -- before the first height every place is alone
-pub classes-start : (p : Picture) (l : List ℕ) (fa : ℕ → ℕ) → length l ≡ places p → ((y : ℕ) → y < length l → getD l y 0 ≡ 65535) → Classes p 0 0 l fa
+pub classes-start : (p : Picture) (l : List ℕ) (fa : ℕ → ℕ) → length l ≡ places p → ((y : ℕ) → y < length l → getD l y 0 ≡ nothingState) → Classes p 0 0 l fa
 classes-start p l fa size cell =
     let none = so-none p in
     record {
       root = λ y. y;
-      st = λ y. 65535;
+      st = λ y. nothingState;
       size = size;
       forest =
           record {
@@ -119,7 +120,7 @@ module _ (p : Picture) (k c : ℕ) (l : List ℕ) (fa : ℕ → ℕ) (s : Marked
       }
 
   -- a root gets the mark v
-  abbrev pub marks-set : (r v : ℕ) → r < places p → s .root r ≡ r → 2048 ≤ v → MarkedClasses p k c (set l r v) fa
+  abbrev pub marks-set : (r v : ℕ) → r < places p → s .root r ≡ r → firstNode ≤ v → MarkedClasses p k c (set l r v) fa
   marks-set r v b e h =
       record {
         root = s .root;

@@ -20,6 +20,7 @@ use Rattle.tree_laws.proofs.Levels.{relink, relink-moved, relink-kept, 
 use Rattle.tree_laws.proofs.Forests.{Forest, Found, found-root, root-cell, Ordered, ordered-less, in-order, forest-link}
 use Rattle.tree_laws.proofs.Marks.{Names}
 use Rattle.tree_laws.proofs.Classes.{Classes, classes-cells, classes-found}
+use Rattle.tree_laws.proofs.States.{firstNode, nodeState, severalState, nothingState}
 
 -- x, with the root r, is joined to the first j of its neighbours
 pub record Near (p : Picture) (k x j r : ℕ) (l : List ℕ) (fa : ℕ → ℕ) : Type 0 where
@@ -134,7 +135,7 @@ module _ (p : Picture) (ok : Accepted p) (k x : ℕ) where
         let t = forest .state y b h in
         record { root = h; node = λ q. by (cs .level .state y s e) t q }
       where
-        by : State p k (cs .root) y (cs .st y) → getD m y 0 ≡ cs .st y → getD m y 0 < 65534 → getD m y 0 < 2048 + length m
+        by : State p k (cs .root) y (cs .st y) → getD m y 0 ≡ cs .st y → getD m y 0 < severalState → getD m y 0 < nodeState (length m)
         by (nothing a f) t q = absurd (omega arith)
         by (several z w a c d f g h) t q = absurd (omega arith)
         by (single z c d a f) t q =
@@ -206,7 +207,7 @@ module _ (p : Picture) (ok : Accepted p) (k x : ℕ) where
           hi-in : hi < length m
           hi-in = let b = conn-target joined .within in let g = cs .size in omega (arith, b, g, f .walked .size)
 
-          small : lo < 2048
+          small : lo < firstNode
           small = let b = conn-source joined .within in let g = places-bound p ok in omega arith
 
           state : (a : ℕ) → a < length m → cs .root a ≡ a → getD m a 0 ≡ cs .st a
@@ -229,13 +230,13 @@ module _ (p : Picture) (ok : Accepted p) (k x : ℕ) where
 
           -- the father of a node that one of the two roots says
           pub near-met :
-              (i : ℕ) → i < 1600 → getD m q 0 ≢ 65535 → getD m r 0 ≢ 65535 → (getD m q 0 ≡ 2048 + i) ⊎ (getD m r 0 ≡ 2048 + i) →
+              (i : ℕ) → i < 1600 → getD m q 0 ≢ nothingState → getD m r 0 ≢ nothingState → (getD m q 0 ≡ nodeState i) ⊎ (getD m r 0 ≡ nodeState i) →
               (i < length (nodes p)) × (fatherOf p (nodeAt p i) ≡ mapOf p x)
           near-met i b dq dr e =
-              let (da, db) = in-order (λ a b. (getD m a 0 ≢ 65535) × (getD m b 0 ≢ 65535)) (λ a b h. (h .1, h .0)) o (dq, dr) in
-              let g : (cs .st lo ≡ 2048 + i) ⊎ (cs .st hi ≡ 2048 + i) =
+              let (da, db) = in-order (λ a b. (getD m a 0 ≢ nothingState) × (getD m b 0 ≢ nothingState)) (λ a b h. (h .1, h .0)) o (dq, dr) in
+              let g : (cs .st lo ≡ nodeState i) ⊎ (cs .st hi ≡ nodeState i) =
               ⊎-elim (λ h. inl (sym lo-state ∙ h)) (λ h. inr (sym hi-state ∙ h))
-              (in-order (λ a b. (getD m a 0 ≡ 2048 + i) ⊎ (getD m b 0 ≡ 2048 + i)) (λ a b. ⊎-swap) o e)
+              (in-order (λ a b. (getD m a 0 ≡ nodeState i) ⊎ (getD m b 0 ≡ nodeState i)) (λ a b. ⊎-swap) o e)
               in (
                 met-number p ok k (n .low) x lo hi (cs .root) (cs .st) fa (cs .level) lower less (roots .0) (roots .1) joined (ends .0) (n .value) i b g,
                 met p ok k (n .low) x lo hi (cs .root) (cs .st) fa (cs .level) lower less (roots .0) (roots .1) joined (ends .0) (n .value) i b
@@ -244,7 +245,7 @@ module _ (p : Picture) (ok : Accepted p) (k x : ℕ) where
 
           -- the two roots are linked
           pub near-linked :
-              (s : ℕ) (fb : ℕ → ℕ) → 2048 ≤ s → Merged x (getD m q 0) (getD m r 0) s fa fb → Edge p x j y →
+              (s : ℕ) (fb : ℕ → ℕ) → firstNode ≤ s → Merged x (getD m q 0) (getD m r 0) s fa fb → Edge p x j y →
               Near p k x (suc j) lo (set (set m hi lo) lo s) fb
           near-linked s fb big merged e =
               record {

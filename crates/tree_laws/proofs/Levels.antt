@@ -14,6 +14,7 @@ use Rattle.topology.proofs.Accepted.{Accepted, places-bound}
 use Rattle.topology.proofs.Nodes.{nodes-few}
 use Rattle.tree_laws.proofs.Counts.{soFar, so-places}
 use Rattle.tree_laws.proofs.Beneath.{Low, beneath, low-at, beneath-number, beneath-joined, fork-father}
+use Rattle.tree_laws.proofs.States.{nodeState, severalState, nothingState}
 
 -- the roots after the class of hi is linked below lo
 unfoldable pub relink : (ℕ → ℕ) → ℕ → ℕ → ℕ → ℕ
@@ -33,17 +34,17 @@ relink-same root lo hi y z e = ap (put (λ y. y) hi lo) e
 
 -- the state s of a root c: no component beneath, one that goes down to a node, or several
 pub data State (p : Picture) (k : ℕ) (root : ℕ → ℕ) (c s : ℕ) : Type 0 where
-  nothing : s ≡ 65535 → ((z : ℕ) → Low p k z → root z ≡ c → ⊥) → State p k root c s
+  nothing : s ≡ nothingState → ((z : ℕ) → Low p k z → root z ≡ c → ⊥) → State p k root c s
   single :
-      (z : ℕ) → Low p k z → root z ≡ c → s ≡ 2048 + beneath p k z →
+      (z : ℕ) → Low p k z → root z ≡ c → s ≡ nodeState (beneath p k z) →
       ((w : ℕ) → Low p k w → root w ≡ c → beneath p k w ≡ beneath p k z) → State p k root c s
   several :
-      (z w : ℕ) → s ≡ 65534 → Low p k z → Low p k w → root z ≡ c → root w ≡ c → beneath p k z ≢ beneath p k w →
+      (z w : ℕ) → s ≡ severalState → Low p k z → Low p k w → root z ≡ c → root w ≡ c → beneath p k z ≢ beneath p k w →
       State p k root c s
 
 -- the entry f for the father of the node i: 65535 while its root says i, then a pixel that the father is the node of
 pub data Father (p : Picture) (k : ℕ) (root st : ℕ → ℕ) (f i : ℕ) : Type 0 where
-  unmet : (z : ℕ) → f ≡ 65535 → Low p k z → beneath p k z ≡ i → st (root z) ≡ 2048 + i → Father p k root st f i
+  unmet : (z : ℕ) → f ≡ 65535 → Low p k z → beneath p k z ≡ i → st (root z) ≡ nodeState i → Father p k root st f i
   known : f < places p → fatherOf p (nodeAt p i) ≡ mapOf p f → Father p k root st f i
 
 -- the classes at height k
@@ -51,7 +52,7 @@ pub record Level (p : Picture) (k : ℕ) (root st fa : ℕ → ℕ) : Type 0 whe
   pub own : (y : ℕ) → At p k y → Joined p k y (root y)
   pub fixed : (y : ℕ) → y < places p → root (root y) ≡ root y
   pub first : (y : ℕ) → y < places p → root y ≤ y
-  pub later : (y : ℕ) → y < places p → k < valueAt p y → (root y ≡ y) × (st y ≡ 65535)
+  pub later : (y : ℕ) → y < places p → k < valueAt p y → (root y ≡ y) × (st y ≡ nothingState)
   pub state : (y : ℕ) → At p k y → root y ≡ y → State p k root y (st y)
   pub fathers : (i : ℕ) → i < soFar p k → Father p k root st (fa i) i
 
@@ -116,9 +117,9 @@ pub data Merged (x a b s : ℕ) (fa fb : ℕ → ℕ) : Type 0 where
   left : a ≡ 65535 → s ≡ b → ((i : ℕ) → i < 1600 → fb i ≡ fa i) → Merged x a b s fa fb
   right : b ≡ 65535 → s ≡ a → ((i : ℕ) → i < 1600 → fb i ≡ fa i) → Merged x a b s fa fb
   both :
-      a ≢ 65535 → b ≢ 65535 → s ≡ 65534 →
-      ((i : ℕ) → i < 1600 → (a ≡ 2048 + i) ⊎ (b ≡ 2048 + i) → fb i ≡ x) →
-      ((i : ℕ) → i < 1600 → a ≢ 2048 + i → b ≢ 2048 + i → fb i ≡ fa i) → Merged x a b s fa fb
+      a ≢ nothingState → b ≢ nothingState → s ≡ severalState →
+      ((i : ℕ) → i < 1600 → (a ≡ nodeState i) ⊎ (b ≡ nodeState i) → fb i ≡ x) →
+      ((i : ℕ) → i < 1600 → a ≢ nodeState i → b ≢ nodeState i → fb i ≡ fa i) → Merged x a b s fa fb
 
 -- the two states exchanged
 pub merged-exchange : {x a b s : ℕ} {fa fb : ℕ → ℕ} → Merged x a b s fa fb → Merged x b a s fa fb
@@ -143,7 +144,7 @@ edges-lower p (suc j) x root b e z w l m q =
     (beneath-joined p j z w b l m q)
 
 -- a root with a state is a class that holds a lower place
-pub member : {p : Picture} {k : ℕ} {root : ℕ → ℕ} {c s : ℕ} → State p k root c s → s ≢ 65535 → (z : ℕ) × Low p k z × (root z ≡ c)
+pub member : {p : Picture} {k : ℕ} {root : ℕ → ℕ} {c s : ℕ} → State p k root c s → s ≢ nothingState → (z : ℕ) × Low p k z × (root z ≡ c)
 member (nothing e f) d = absurd (d e)
 member (single z l r e f) d = (z, l, r)
 member (several z w e l m r q g) d = (z, l, r)
@@ -164,13 +165,13 @@ module _ (p : Picture) (ok : Accepted p) (k : ℕ) (low : k ≤ 255) where
   state-joined f g (single z l r e h) = single z l (g z r) e (λ w m q. h w m (f w m q))
   state-joined f g (several z w e l m r q h) = several z w e l m (g z r) (g w q) h
 
-  state-empty : {root : ℕ → ℕ} {c s : ℕ} → s ≡ 65535 → State p k root c s → (z : ℕ) → Low p k z → root z ≡ c → ⊥
+  state-empty : {root : ℕ → ℕ} {c s : ℕ} → s ≡ nothingState → State p k root c s → (z : ℕ) → Low p k z → root z ≡ c → ⊥
   state-empty h (nothing e f) = f
   state-empty h (single z l r e f) = absurd (let b = number-few z l in omega arith)
   state-empty h (several z w e l m r q g) = absurd (omega arith)
 
   -- a root that says a node holds a place that goes down to it
-  state-named : {root : ℕ → ℕ} {c s i : ℕ} → i < 1600 → s ≡ 2048 + i → State p k root c s → (z : ℕ) × Low p k z × (root z ≡ c) × (beneath p k z ≡ i)
+  state-named : {root : ℕ → ℕ} {c s i : ℕ} → i < 1600 → s ≡ nodeState i → State p k root c s → (z : ℕ) × Low p k z × (root z ≡ c) × (beneath p k z ≡ i)
   state-named b h (nothing e f) = absurd (omega arith)
   state-named b h (single z l r e f) = (z, l, r, omega arith)
   state-named b h (several z w e l m r q g) = absurd (omega arith)
@@ -193,7 +194,7 @@ module _ (p : Picture) (ok : Accepted p) (k : ℕ) (low : k ≤ 255) where
     state-hi = v .state hi (conn-target joins) at-hi
 
     -- the father of a node that one of the two classes says
-    pub met : (i : ℕ) → i < 1600 → st lo ≢ 65535 → st hi ≢ 65535 → (st lo ≡ 2048 + i) ⊎ (st hi ≡ 2048 + i) → fatherOf p (nodeAt p i) ≡ mapOf p x
+    pub met : (i : ℕ) → i < 1600 → st lo ≢ nothingState → st hi ≢ nothingState → (st lo ≡ nodeState i) ⊎ (st hi ≡ nodeState i) → fatherOf p (nodeAt p i) ≡ mapOf p x
     met i b da db (inl e) =
         let (z, l, r, q) = state-named b e state-lo in
         let (w, m, t) = member state-hi db in
@@ -205,7 +206,7 @@ module _ (p : Picture) (ok : Accepted p) (k : ℕ) (low : k ≤ 255) where
         ap (λ (j : ℕ). fatherOf p (nodeAt p j)) (sym q) ∙
         fork-father p k x z w low value l m (own-joined z l (inr r)) (own-joined w m (inl t)) (λ g. apart w z m l t r (sym g))
 
-    pub met-number : (i : ℕ) → i < 1600 → (st lo ≡ 2048 + i) ⊎ (st hi ≡ 2048 + i) → i < length (nodes p)
+    pub met-number : (i : ℕ) → i < 1600 → (st lo ≡ nodeState i) ⊎ (st hi ≡ nodeState i) → i < length (nodes p)
     met-number i b (inl e) =
         let (z, l, r, q) = state-named b e state-lo in let h = beneath-number p k z (omega arith) l in omega arith
     met-number i b (inr e) =
@@ -262,7 +263,7 @@ module _ (p : Picture) (ok : Accepted p) (k : ℕ) (low : k ≤ 255) where
           several z w q l m (new-lo z r) (new-hi w t) (apart z w l m r t)
 
       -- an entry that stays
-      stays : (i : ℕ) → i < 1600 → fb i ≡ fa i → (st lo ≡ 2048 + i → s ≡ 2048 + i) → (st hi ≡ 2048 + i → s ≡ 2048 + i) → Father p k root st (fa i) i → Father p k new kept (fb i) i
+      stays : (i : ℕ) → i < 1600 → fb i ≡ fa i → (st lo ≡ nodeState i → s ≡ nodeState i) → (st hi ≡ nodeState i → s ≡ nodeState i) → Father p k root st (fa i) i → Father p k new kept (fb i) i
       stays i b e f g (known n h) = known (subst (λ (j : ℕ). j < places p) (sym e) n) (h ∙ ap (mapOf p) (sym e))
       stays i b e f g (unmet z n l q h) =
           unmet z (e ∙ n) l q
@@ -277,14 +278,14 @@ module _ (p : Picture) (ok : Accepted p) (k : ℕ) (low : k ≤ 255) where
       father-merged (left e q f) i b h = stays i b (f i b) (λ g. absurd (omega arith)) (λ g. q ∙ g) h
       father-merged (right e q f) i b h = stays i b (f i b) (λ g. q ∙ g) (λ g. absurd (omega arith)) h
       father-merged (both da db q f g) i b h =
-          by-cases (ℕ-discrete (st lo) (2048 + i))
+          by-cases (ℕ-discrete (st lo) (nodeState i))
           (λ e. hit (inl e))
           (λ d.
-          by-cases (ℕ-discrete (st hi) (2048 + i))
+          by-cases (ℕ-discrete (st hi) (nodeState i))
           (λ e. hit (inr e))
           (λ t. stays i b (g i b d t) (λ w. absurd (d w)) (λ w. absurd (t w)) h))
         where
-          hit : (st lo ≡ 2048 + i) ⊎ (st hi ≡ 2048 + i) → Father p k new kept (fb i) i
+          hit : (st lo ≡ nodeState i) ⊎ (st hi ≡ nodeState i) → Father p k new kept (fb i) i
           hit w =
               let e = f i b w in
               known (subst (λ (j : ℕ). j < places p) (sym e) (conn-source near .within)) (met i b da db w ∙ ap (mapOf p) (sym e))

@@ -1,5 +1,6 @@
 -- The component tree, built and checked a height at a time: union-find, the classes of places, the lists of new nodes.
 pub mod Decided
+pub mod States
 pub mod Beneath
 pub mod Levels
 pub mod Counts

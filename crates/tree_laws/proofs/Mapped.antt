@@ -23,6 +23,7 @@ use Rattle.tree_laws.proofs.Walks.{WalkReady}
 use Rattle.tree_laws.proofs.Listing.{firstsIn, NodesIn, nodes-block, Listing, list-start}
 use Rattle.tree_laws.proofs.ListWalks.{ListFrom, ListReady}
 use Rattle.tree_laws.proofs.Naming.{Naming, Mapping, naming-start, naming-turn, naming-few, naming-end}
+use Rattle.tree_laws.proofs.States.{firstNode, nodeState}
 
 -- the heights below k are done: c nodes, their heights, first places and entries of fathers, the map below, the chains above
 pub record Between (p : Picture) (k c : ℕ) (l w : List ℕ) : Type 0 where
@@ -40,7 +41,7 @@ pub record NameReady (k c d : ℕ) (l w : List ℕ) : Type 0 where
 
 -- the root listed at i has its number
 pub record NamedOne (k i : ℕ) (l w m v : List ℕ) : Type 0 where
-  pub cells : m ≡ set l (getD w (3 * length l + i) 0) (2048 + i)
+  pub cells : m ≡ set l (getD w (3 * length l + i) 0) (nodeState i)
   pub work : v ≡ set (set w i k) (length l + i) 65535
 
 -- the listed roots from c on, before i, have their numbers
@@ -88,16 +89,16 @@ name-turn k c d i l w m v o u s h t =
     record {
       from = omega arith;
       most = omega arith;
-      size = ap length (t .cells) ∙ (length-set m (getD v (3 * length m + i) 0) (2048 + i) ∙ s .size);
+      size = ap length (t .cells) ∙ (length-set m (getD v (3 * length m + i) 0) (nodeState i) ∙ s .size);
       same = ap length (t .work) ∙ (length-set (set v i k) (length m + i) 65535 ∙ (length-set v i k ∙ s .same));
       naming =
           λ p g.
           let n = s .naming p g in
           let at : getD v (3 * length m + i) 0 ≡ firstsIn p v i = ap (λ (z : ℕ). getD v (3 * z + i) 0) (n .cells .size) in
           subst (λ (a : List ℕ). Naming p k c d (i + 1) a w u) (sym (t .cells))
-          (subst (λ (a : List ℕ). Naming p k c d (i + 1) (set m (getD v (3 * length m + i) 0) (2048 + i)) w a) (sym (t .work))
+          (subst (λ (a : List ℕ). Naming p k c d (i + 1) (set m (getD v (3 * length m + i) 0) (nodeState i)) w a) (sym (t .work))
           (subst
-          (λ (z : ℕ). Naming p k c d (i + 1) (set m (getD v (3 * length m + i) 0) (2048 + i)) w (set (set v i k) (z + i) 65535))
+          (λ (z : ℕ). Naming p k c d (i + 1) (set m (getD v (3 * length m + i) 0) (nodeState i)) w (set (set v i k) (z + i) 65535))
           (sym (n .cells .size))
           (naming-turn p k c d i (getD v (3 * length m + i) 0) m w v n (s .from) h at)));
     }
@@ -118,7 +119,7 @@ pub record MapReady (x : ℕ) (l w : List ℕ) : Type 0 where
 pub record MappedOne (x q : ℕ) (l w m v : List ℕ) : Type 0 where
   pub r : ℕ
   pub found : Found l x r m
-  pub work : v ≡ set w (2 * length l + x) (getD m r 0 - 2048)
+  pub work : v ≡ set w (2 * length l + x) (getD m r 0 - firstNode)
   pub next : q ≡ getD w (2 * length l + x) 0
 
 -- the walk from x has come to y
@@ -152,8 +153,8 @@ module _ (p : Picture) (k d x q : ℕ) (l w m v : List ℕ) (s : MapFrom p k d x
   next : NextOfValue p k (suc x) q
   next = chained-next p k x x q (mapIn p w) (g .chained) (omega arith) b value (t .next ∙ ap (λ (z : ℕ). getD w z 0) at)
 
-  work : v ≡ set w (2 * places p + x) (getD m (t .r) 0 - 2048)
-  work = t .work ∙ ap (λ (z : ℕ). set w z (getD m (t .r) 0 - 2048)) at
+  work : v ≡ set w (2 * places p + x) (getD m (t .r) 0 - firstNode)
+  work = t .work ∙ ap (λ (z : ℕ). set w z (getD m (t .r) 0 - firstNode)) at
 
   room : 2 * places p + x < length w
   room = let e = g .room in omega (arith, b)
@@ -161,7 +162,7 @@ module _ (p : Picture) (k d x q : ℕ) (l w m v : List ℕ) (s : MapFrom p k d x
   cs : Classes p (suc k) 0 m (fathersIn p w)
   cs = classes-found p (suc k) 0 l (fathersIn p w) (g .classes) (t .found)
 
-  says-x : getD m (t .r) 0 - 2048 ≡ mapOf p x
+  says-x : getD m (t .r) 0 - firstNode ≡ mapOf p x
   says-x =
       let f = t .found in
       let r = found-root f (g .classes .forest) in
@@ -174,15 +175,15 @@ module _ (p : Picture) (k d x q : ℕ) (l w m v : List ℕ) (s : MapFrom p k d x
   mapped-x : mapIn p v x ≡ mapOf p x
   mapped-x =
       ap (λ (a : List ℕ). getD a (2 * places p + x) 0) work ∙
-      (getD-set-same w (2 * places p + x) (getD m (t .r) 0 - 2048) 0 room ∙ says-x)
+      (getD-set-same w (2 * places p + x) (getD m (t .r) 0 - firstNode) 0 room ∙ says-x)
 
   block : UntouchedOutside (2 * places p) (places p) w v
-  block = subst (UntouchedOutside (2 * places p) (places p) w) (sym work) (kept-set (2 * places p) (places p) x (getD m (t .r) 0 - 2048) w w b (kept-refl (2 * places p) (places p) w))
+  block = subst (UntouchedOutside (2 * places p) (places p) w) (sym work) (kept-set (2 * places p) (places p) x (getD m (t .r) 0 - firstNode) w w b (kept-refl (2 * places p) (places p) w))
 
   mapped-other : (y : ℕ) → y ≢ x → mapIn p v y ≡ mapIn p w y
   mapped-other y e =
       ap (λ (a : List ℕ). getD a (2 * places p + y) 0) work ∙
-      getD-set-other w (2 * places p + x) (2 * places p + y) (getD m (t .r) 0 - 2048) 0 (λ z. e (omega arith))
+      getD-set-other w (2 * places p + x) (2 * places p + y) (getD m (t .r) 0 - firstNode) 0 (λ z. e (omega arith))
 
   pub map-rises : x < q
   map-rises = let f = next .from in omega arith
@@ -229,7 +230,7 @@ pub map-more : (x y q : ℕ) (l w m v o u : List ℕ) → MapWalk x l w y m v �
 map-more x y q l w m v o u s b t =
     record {
       size = t .found .walked .size ∙ s .size;
-      same = ap length (t .work) ∙ (length-set v (2 * length m + y) (getD o (t .r) 0 - 2048) ∙ s .same);
+      same = ap length (t .work) ∙ (length-set v (2 * length m + y) (getD o (t .r) 0 - firstNode) ∙ s .same);
       from =
           λ p k d a.
           let g = s .from p k d a in

@@ -18,6 +18,7 @@ use Rattle.tree_laws.proofs.Numbering.{Member, RootsListed, Numbered, n
 use Rattle.tree_laws.proofs.Classes.{Classes, MarkedClasses, marks-set}
 use Rattle.tree_laws.proofs.Chains.{fathersIn, mapIn, NextOfValue, Chained, after-mono, chained-same, upto-skip}
 use Rattle.tree_laws.proofs.Listing.{firstsIn, NodesIn, Listing, list-end}
+use Rattle.tree_laws.proofs.States.{nodeState}
 
 -- the listed roots from c on, before i, have their numbers; w is the work before
 pub record Naming (p : Picture) (k c d i : ℕ) (l w v : List ℕ) : Type 0 where
@@ -26,7 +27,7 @@ pub record Naming (p : Picture) (k c d i : ℕ) (l w v : List ℕ) : Type 0 wher
   pub nodes : NodesIn p c w
   pub chained : Chained p k 0 (mapIn p w)
   pub listed : RootsListed p k c d (firstsIn p w) (cells .root) (cells .st)
-  pub named : (j : ℕ) → c ≤ j → j < i → cells .marks (firstsIn p w j) ≡ 2048 + j
+  pub named : (j : ℕ) → c ≤ j → j < i → cells .marks (firstsIn p w j) ≡ nodeState j
   pub others : (y : ℕ) → y < places p → cells .root y ≡ y → (Member (firstsIn p w) c d y → ⊥) → cells .marks y ≡ cells .st y
   pub heights : (j : ℕ) → c ≤ j → j < i → getD v j 0 ≡ k
   pub fresh : (j : ℕ) → c ≤ j → j < i → getD v (places p + j) 0 ≡ 65535
@@ -40,7 +41,7 @@ pub record Mapping (p : Picture) (k d x : ℕ) (l w : List ℕ) : Type 0 where
   pub count : d ≡ soFar p (suc k)
   pub nodes : NodesIn p d w
   pub classes : Classes p (suc k) 0 l (fathersIn p w)
-  pub says : (y : ℕ) → At p k y → classes .st (classes .root y) ≡ 2048 + under p k y
+  pub says : (y : ℕ) → At p k y → classes .st (classes .root y) ≡ nodeState (under p k y)
   pub chained : Chained p k x (mapIn p w)
 
 module _ (p : Picture) (k c d : ℕ) where
@@ -71,7 +72,7 @@ module _ (p : Picture) (k c d : ℕ) where
 
   pub naming-turn :
       (i r : ℕ) (l w v : List ℕ) → Naming p k c d i l w v → c ≤ i → i < d → r ≡ firstsIn p v i →
-      Naming p k c d (i + 1) (set l r (2048 + i)) w (set (set v i k) (places p + i) 65535)
+      Naming p k c d (i + 1) (set l r (nodeState i)) w (set (set v i k) (places p + i) 65535)
   naming-turn i r l w v s a b e =
       record {
         cells = cells′;
@@ -82,7 +83,7 @@ module _ (p : Picture) (k c d : ℕ) where
         named =
             λ j g h.
             by-cases (ℕ-discrete j i)
-            (λ q. own (firstsIn p w j) (ap (firstsIn p w) q ∙ sym is-r) ∙ ap (λ (z : ℕ). 2048 + z) (sym q))
+            (λ q. own (firstsIn p w j) (ap (firstsIn p w) q ∙ sym is-r) ∙ ap (λ (z : ℕ). nodeState z) (sym q))
             (λ q. other (firstsIn p w j) (λ z. differ j g (omega arith) (z ∙ is-r)) ∙ s .named j g (omega arith));
         others = λ y g h t. other y (λ q. t (record { at = i; from = a; to = b; is = sym (q ∙ is-r) })) ∙ s .others y g h t;
         heights =
@@ -111,18 +112,18 @@ module _ (p : Picture) (k c d : ℕ) where
       is-r : r ≡ firstsIn p w i
       is-r = e ∙ naming-first i l w v s i (omega (arith, few))
 
-      cells′ : MarkedClasses p k c (set l r (2048 + i)) (fathersIn p w)
+      cells′ : MarkedClasses p k c (set l r (nodeState i)) (fathersIn p w)
       cells′ =
-          marks-set p k c l (fathersIn p w) (s .cells) r (2048 + i)
+          marks-set p k c l (fathersIn p w) (s .cells) r (nodeState i)
           (subst (λ (z : ℕ). z < places p) (sym is-r) (s .listed .roots .place i a b .within))
           (ap (s .cells .root) is-r ∙ (s .listed .roots .fixed i a b ∙ sym is-r))
           (omega arith)
 
-      own : (y : ℕ) → y ≡ r → put (s .cells .marks) r (2048 + i) y ≡ 2048 + i
-      own y q = put-same (s .cells .marks) r (2048 + i) y q
+      own : (y : ℕ) → y ≡ r → put (s .cells .marks) r (nodeState i) y ≡ nodeState i
+      own y q = put-same (s .cells .marks) r (nodeState i) y q
 
-      other : (y : ℕ) → y ≢ r → put (s .cells .marks) r (2048 + i) y ≡ s .cells .marks y
-      other y q = put-other (s .cells .marks) r (2048 + i) y q
+      other : (y : ℕ) → y ≢ r → put (s .cells .marks) r (nodeState i) y ≡ s .cells .marks y
+      other y q = put-other (s .cells .marks) r (nodeState i) y q
 
       differ : (j : ℕ) → c ≤ j → j < i → firstsIn p w j ≢ firstsIn p w i
       differ j g h q = let o = s .listed .roots .rising j i g h b in omega arith

@@ -26,6 +26,7 @@ use Rattle.topology.proofs.Descent.{under, under-same, under-fork}
 use Rattle.tree_laws.proofs.Counts.{soFar, so-few, so-places, so-next, so-at}
 use Rattle.tree_laws.proofs.Beneath.{low-at, at-low, low-at-below, beneath-next, none-fork, many-fork, one-branch}
 use Rattle.tree_laws.proofs.Levels.{State, nothing, single, several, Father, unmet, known, Level, class-joined, Edges, HeightJoined, upto-all, upto-next, edges-upto, edges-joined, number-few}
+use Rattle.tree_laws.proofs.States.{nodeState, listedState, severalState}
 
 -- y stands in f from c on, before d
 pub record Member (f : ℕ → ℕ) (c d y : ℕ) : Type 0 where
@@ -40,12 +41,12 @@ pub record NewRoots (p : Picture) (k c d : ℕ) (f root st : ℕ → ℕ) : Type
   pub rising : (i j : ℕ) → c ≤ i → i < j → j < d → f i < f j
   pub place : (i : ℕ) → c ≤ i → i < d → At p k (f i)
   pub fixed : (i : ℕ) → c ≤ i → i < d → root (f i) ≡ f i
-  pub free : (i : ℕ) → c ≤ i → i < d → 65534 ≤ st (f i)
+  pub free : (i : ℕ) → c ≤ i → i < d → severalState ≤ st (f i)
 
 -- all of them
 pub record RootsListed (p : Picture) (k c d : ℕ) (f root st : ℕ → ℕ) : Type 0 where
   pub roots : NewRoots p k c d f root st
-  pub complete : (y : ℕ) → At p k y → root y ≡ y → 65534 ≤ st y → Member f c d y
+  pub complete : (y : ℕ) → At p k y → root y ≡ y → severalState ≤ st y → Member f c d y
 
 pub roots-none : (p : Picture) (k c : ℕ) (f root st : ℕ → ℕ) → NewRoots p k c c f root st
 roots-none p k c f root st =
@@ -59,7 +60,7 @@ roots-none p k c f root st =
 
 -- the listed roots have their numbers, the other states and fathers are as they were
 pub record Numbered (p : Picture) (c d : ℕ) (f root st new fa fb : ℕ → ℕ) : Type 0 where
-  pub named : (i : ℕ) → c ≤ i → i < d → new (f i) ≡ 2048 + i
+  pub named : (i : ℕ) → c ≤ i → i < d → new (f i) ≡ nodeState i
   pub others : (y : ℕ) → y < places p → root y ≡ y → (Member f c d y → ⊥) → new y ≡ st y
   pub fresh : (i : ℕ) → c ≤ i → i < d → fb i ≡ 65535
   pub old : (i : ℕ) → i < c → fb i ≡ fa i
@@ -87,8 +88,8 @@ module _ (p : Picture) (k c : ℕ) (root st fa : ℕ → ℕ) (whole : HeightJoi
 
   -- and its state says whether the component is a branch, and of which node
   data Ended (y : ℕ) : Type 0 where
-    new : 65534 ≤ st y → isBranch p k (componentAt p k y) ≡ false → Ended y
-    old : st y ≡ 2048 + under p k y → st y < 65533 → Ended y
+    new : severalState ≤ st y → isBranch p k (componentAt p k y) ≡ false → Ended y
+    old : st y ≡ nodeState (under p k y) → st y < listedState → Ended y
 
   ended : (y : ℕ) → At p k y → root y ≡ y → Ended y
   ended y s r = by (v .state y s r)
@@ -110,31 +111,31 @@ module _ (p : Picture) (k c : ℕ) (root st fa : ℕ → ℕ) (whole : HeightJoi
           let h = number-few p (whole .ok) k low z l in
           old (omega arith) (omega arith)
 
-  pub free-fork : (y : ℕ) → At p k y → root y ≡ y → 65534 ≤ st y → isBranch p k (componentAt p k y) ≡ false
+  pub free-fork : (y : ℕ) → At p k y → root y ≡ y → severalState ≤ st y → isBranch p k (componentAt p k y) ≡ false
   free-fork y s r h = by (ended y s r)
     where
       by : Ended y → isBranch p k (componentAt p k y) ≡ false
       by (new a b) = b
       by (old a b) = absurd (omega arith)
 
-  pub fork-free : (y : ℕ) → At p k y → isBranch p k (componentAt p k y) ≡ false → root y ≡ y → 65534 ≤ st y
+  pub fork-free : (y : ℕ) → At p k y → isBranch p k (componentAt p k y) ≡ false → root y ≡ y → severalState ≤ st y
   fork-free y s h r = by (v .state y s r)
     where
-      by : State p k root y (st y) → 65534 ≤ st y
+      by : State p k root y (st y) → severalState ≤ st y
       by (nothing q f) = omega arith
       by (several z w q l m a b d) = omega arith
       by (single z l a q f) =
           let j = joined-sym p k (class-joined v (low-at p l) a) in
           absurd (clash (one-branch p k y z (omega (arith, low)) l j (λ w m i. f w m (sym (joined-root i) ∙ r)) .0) h)
 
-  node-test : (y : ℕ) → At p k y → root y ≡ y → 65534 ≤ st y → isNode p k y ≡ true
+  node-test : (y : ℕ) → At p k y → root y ≡ y → severalState ≤ st y → isNode p k y ≡ true
   unfolding isNode
   node-test y s r h =
       and-both
       (is-first p k y s (sym (root-first y s) ∙ r))
       (not-of-false (isBranch p k (componentAt p k y)) (free-fork y s r h))
 
-  test-node : (y : ℕ) → y < places p → isNode p k y ≡ true → At p k y × (root y ≡ y) × (65534 ≤ st y)
+  test-node : (y : ℕ) → y < places p → isNode p k y ≡ true → At p k y × (root y ≡ y) × (severalState ≤ st y)
   unfolding isNode
   test-node y b h =
       let (s, q) = first-is p k y b (and-left (isFirst p k y) (not (isBranch p k (componentAt p k y))) h) in
@@ -144,7 +145,7 @@ module _ (p : Picture) (k c : ℕ) (root st fa : ℕ → ℕ) (whole : HeightJoi
   -- a list of some new roots that lacks one is shorter than the definition's
   pub nodes-more :
       (d : ℕ) (f : ℕ → ℕ) → NewRoots p k c d f root st →
-      (r : ℕ) → At p k r → root r ≡ r → 65534 ≤ st r → (Member f c d r → ⊥) → d - c < length (nodesAt p k)
+      (r : ℕ) → At p k r → root r ≡ r → severalState ≤ st r → (Member f c d r → ⊥) → d - c < length (nodesAt p k)
   nodes-more d f l r s q g lacks =
       let order = l .order in
       let all = range 0 (places p) in
@@ -275,10 +276,10 @@ module _ (p : Picture) (k c : ℕ) (root st fa : ℕ → ℕ) (whole : HeightJoi
           under-fork p k y h ∙
           node-equal p (numberOf p k (componentAt p k y)) i a b (g ∙ (ap (node k) (sym (root-first y s) ∙ r) ∙ sym q))
 
-      named-root : (y : ℕ) → At p k y → root y ≡ y → new-st y ≡ 2048 + under p k y
+      named-root : (y : ℕ) → At p k y → root y ≡ y → new-st y ≡ nodeState (under p k y)
       named-root y s r = by (ended y s r)
         where
-          by : Ended y → new-st y ≡ 2048 + under p k y
+          by : Ended y → new-st y ≡ nodeState (under p k y)
           by (new h b) =
               let t = l .complete y s r h in
               let few = so-few p (suc k) (let z = low in omega arith) in
@@ -292,15 +293,15 @@ module _ (p : Picture) (k c : ℕ) (root st fa : ℕ → ℕ) (whole : HeightJoi
               m .others y (s .within) r (λ t. let g = l .roots .free (t .at) (t .from) (t .to) in let q = ap st (t .is) in omega arith) ∙ h
 
       -- every place of the section has a root that says its node
-      pub named-all : (y : ℕ) → At p k y → new-st (root y) ≡ 2048 + under p k y
+      pub named-all : (y : ℕ) → At p k y → new-st (root y) ≡ nodeState (under p k y)
       named-all y s =
-          named-root (root y) (root-at y s) (v .fixed y (s .within)) ∙ ap (λ (i : ℕ). 2048 + i) (sym (under-same p (v .own y s)))
+          named-root (root y) (root-at y s) (v .fixed y (s .within)) ∙ ap (λ (i : ℕ). nodeState i) (sym (under-same p (v .own y s)))
 
       father-next : (i : ℕ) → i < c → Father p k root st (fa i) i → Father p (suc k) root new-st (fb i) i
       father-next i b (known h g) = let q = m .old i b in known (omega arith) (g ∙ ap (mapOf p) (sym q))
       father-next i b (unmet z h g q t) =
           let bound : i < 1600 = let a = count-few in let u = l .roots .order in let w = places-bound p (whole .ok) in omega arith in
-          let stays : new-st (root z) ≡ 2048 + i =
+          let stays : new-st (root z) ≡ nodeState i =
           m .others (root z) (root-at z (low-at p g) .within) (v .fixed z (g .within))
           (λ r. let u = l .roots .free (r .at) (r .from) (r .to) in let w = ap st (r .is) in omega arith) ∙
           t
@@ -311,7 +312,7 @@ module _ (p : Picture) (k c : ℕ) (root st fa : ℕ → ℕ) (whole : HeightJoi
       father-fresh : (i : ℕ) → c ≤ i → i < d → Father p (suc k) root new-st (fb i) i
       father-fresh i a b =
           let s = l .roots .place i a b in
-          let says : new-st (root (f i)) ≡ 2048 + i = ap new-st (l .roots .fixed i a b) ∙ m .named i a b in
+          let says : new-st (root (f i)) ≡ nodeState i = ap new-st (l .roots .fixed i a b) ∙ m .named i a b in
           let all = named-all (f i) s in
           unmet (f i) (m .fresh i a b) (at-low p s) (beneath-next p k (f i) ∙ omega arith) says
 
@@ -347,7 +348,7 @@ module _ (p : Picture) (k c : ℕ) (root st fa : ℕ → ℕ) (whole : HeightJoi
                 omega arith))
                 (λ q.
                 let t : At p k y = record { within = b; low = omega arith } in
-                single y (at-low p t) r (named-root y t r ∙ ap (λ (i : ℕ). 2048 + i) (sym (beneath-next p k y)))
+                single y (at-low p t) r (named-root y t r ∙ ap (λ (i : ℕ). nodeState i) (sym (beneath-next p k y)))
                 (λ w g z.
                 beneath-next p k w ∙
                 (under-same p (class-joined v (low-at-below p g) z) ∙ sym (beneath-next p k y))));

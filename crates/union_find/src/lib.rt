@@ -8,7 +8,7 @@ ghost use Rattle.tree_laws.proofs.Chains.{Comes};
 ghost use Rattle.tree_laws.proofs.Forests.{Parents, Split, Found, Linked};
 ghost use Rattle.tree_laws.proofs.Marks.{Marked, Names, MergedIn, LinkedIn};
 
-// The states of a root: FIRST_NODE + i where one node i is beneath, and three marks. The laws write the numbers.
+// The states of a root: FIRST_NODE + i where one node i is beneath, and three marks.
 pub const FIRST_NODE: u16 = 2048;
 
 // The root of a new node, in the list of its height.

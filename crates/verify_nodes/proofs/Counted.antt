@@ -22,6 +22,7 @@ use Rattle.tree_laws.proofs.Classes.{MarkedClasses, marks-set}
 use Rattle.tree_laws.proofs.Checks.{Checking}
 use Rattle.lent_tree.specs.Lent.{HoldsTree}
 use Rattle.verify_nodes.specs.NodeChecks.{SameHeights, Counted, NodeFits}
+use Rattle.tree_laws.proofs.States.{nodeState, severalState}
 
 pub counted-start : (p : Picture) (k c : ℕ) (l fs ss m : List ℕ) → k ≤ 255 → c ≡ soFar p k → Checking p k (places p) l fs m → Counted p k c c l fs ss m
 counted-start p k c l fs ss m low e s =
@@ -46,13 +47,13 @@ module _ (p : Picture) (k c i : ℕ) (l fs ss m : List ℕ) (s : Counted p k c i
   abbrev cs : MarkedClasses p k c l (s .fa)
   cs = s .cells
 
-  pub counted-turn : i < 1600 → NodeFits p k c i l ss → Counted p k c (i + 1) (set l (getD ss i 0) (2048 + i)) fs ss m
+  pub counted-turn : i < 1600 → NodeFits p k c i l ss → Counted p k c (i + 1) (set l (getD ss i 0) (nodeState i)) fs ss m
   counted-turn few t =
-      subst (λ (z : ℕ). Counted p k c z (set l r (2048 + i)) fs ss m) (sym (add-one i))
+      subst (λ (z : ℕ). Counted p k c z (set l r (nodeState i)) fs ss m) (sym (add-one i))
       (record {
         fa = s .fa;
         agree = s .agree;
-        cells = marks-set p k c l (s .fa) cs r (2048 + i) (t .within) root-r (omega arith);
+        cells = marks-set p k c l (s .fa) cs r (nodeState i) (t .within) root-r (omega arith);
         roots =
             record {
               order = let o = s .roots .order in omega arith;
@@ -63,15 +64,15 @@ module _ (p : Picture) (k c i : ℕ) (l fs ss m : List ℕ) (s : Counted p k c i
                   (λ e. s .roots .rising a b h g (omega arith));
               place = each (At p k) (record { within = t .within; low = t .low }) (s .roots .place);
               fixed = each (λ y. cs .root y ≡ y) root-r (s .roots .fixed);
-              free = each (λ y. 65534 ≤ cs .st y) free-r (s .roots .free);
+              free = each (λ y. severalState ≤ cs .st y) free-r (s .roots .free);
             };
         named =
             λ j h g.
             by-cases (ℕ-discrete j i)
-            (λ e. put-same (cs .marks) r (2048 + i) (getD ss j 0) (ap (λ (z : ℕ). getD ss z 0) e) ∙ ap (λ (z : ℕ). 2048 + z) (sym e))
+            (λ e. put-same (cs .marks) r (nodeState i) (getD ss j 0) (ap (λ (z : ℕ). getD ss z 0) e) ∙ ap (λ (z : ℕ). nodeState z) (sym e))
             (λ e.
             let q = below j h (omega arith) in
-            put-other (cs .marks) r (2048 + i) (getD ss j 0) (λ z. omega (arith, q, z)) ∙ s .named j h (omega arith));
+            put-other (cs .marks) r (nodeState i) (getD ss j 0) (λ z. omega (arith, q, z)) ∙ s .named j h (omega arith));
         either =
             λ y b q.
             by-cases (ℕ-discrete y r)
@@ -79,7 +80,7 @@ module _ (p : Picture) (k c i : ℕ) (l fs ss m : List ℕ) (s : Counted p k c i
             (λ e.
             ⊎-elim
             (λ z. let to = z .to in inl (record { at = z .at; from = z .from; to = omega arith; is = z .is }))
-            (λ z. inr (put-other (cs .marks) r (2048 + i) y e ∙ z))
+            (λ z. inr (put-other (cs .marks) r (nodeState i) y e ∙ z))
             (s .either y b q));
       })
     where
@@ -92,10 +93,10 @@ module _ (p : Picture) (k c i : ℕ) (l fs ss m : List ℕ) (s : Counted p k c i
       root-r : cs .root (getD ss i 0) ≡ getD ss i 0
       root-r = cs .forest .top (getD ss i 0) inside (let a = t .free in omega arith)
 
-      new-r : 65534 ≤ cs .marks (getD ss i 0)
+      new-r : severalState ≤ cs .marks (getD ss i 0)
       new-r = let a = t .free in let b = cs .forest .state (getD ss i 0) inside (omega arith) in omega arith
 
-      free-r : 65534 ≤ cs .st (getD ss i 0)
+      free-r : severalState ≤ cs .st (getD ss i 0)
       free-r =
           let a = new-r in
           ⊎-elim
@@ -156,7 +157,7 @@ module _ (p : Picture) (k c i : ℕ) (l fs ss m : List ℕ) (s : Counted p k c i
             let e = first-is i below in
             omega arith
 
-        cell : At p k (getD ss i 0) → cs .root (getD ss i 0) ≡ getD ss i 0 → 65534 ≤ cs .st (getD ss i 0) → 65534 ≤ getD l (getD ss i 0) 0
+        cell : At p k (getD ss i 0) → cs .root (getD ss i 0) ≡ getD ss i 0 → severalState ≤ cs .st (getD ss i 0) → severalState ≤ getD l (getD ss i 0) 0
         cell at r f =
             let inside : getD ss i 0 < length l = let a = at .within in let b = cs .size in omega arith in
             let e = cs .forest .state (getD ss i 0) inside (root-cell (cs .forest) (getD ss i 0) inside r) in

@@ -25,6 +25,7 @@ use Rattle.tree_laws.proofs.Classes.{MarkedClasses, marks-found}
 use Rattle.tree_laws.proofs.Checks.{Checking}
 use Rattle.lent_tree.specs.Lent.{HoldsTree}
 use Rattle.verify_nodes.specs.NodeChecks.{SameHeights, Counted, Matched}
+use Rattle.tree_laws.proofs.States.{nodeState, severalState}
 
 pub matched-start : (p : Picture) (k c d : ℕ) (l fs ss m : List ℕ) → Counted p k c d l fs ss m → Matched p k c d 0 l fs ss m
 matched-start p k c d l fs ss m s =
@@ -59,7 +60,7 @@ module _ (p : Picture) (k c d x r : ℕ) (l o fs ss m : List ℕ) (s : Matched p
   cell =
       let g = s .counted .cells in found-state f (g .forest) ∙ ap (g .marks) (sym (found-root f (g .forest)))
 
-  pub matched-turn : getD o r 0 < 65534 → getD o r 0 ≡ 2048 + getD m x 0 → Matched p k c d (x + 1) o fs ss m
+  pub matched-turn : getD o r 0 < severalState → getD o r 0 ≡ nodeState (getD m x 0) → Matched p k c d (x + 1) o fs ss m
   unfolding moved
   matched-turn h e =
       record {
@@ -67,12 +68,12 @@ module _ (p : Picture) (k c d x r : ℕ) (l o fs ss m : List ℕ) (s : Matched p
         few =
             λ y a v g.
             by-cases (ℕ-discrete y x)
-            (λ q. subst (λ (z : ℕ). s .counted .cells .marks (s .counted .cells .root z) < 65534) (sym q) (let i = cell in omega arith))
+            (λ q. subst (λ (z : ℕ). s .counted .cells .marks (s .counted .cells .root z) < severalState) (sym q) (let i = cell in omega arith))
             (λ q. s .few y a v (omega arith));
         same =
             λ y a v g.
             by-cases (ℕ-discrete y x)
-            (λ q. subst (λ (z : ℕ). s .counted .cells .marks (s .counted .cells .root z) ≡ 2048 + getD m z 0) (sym q) (sym cell ∙ e))
+            (λ q. subst (λ (z : ℕ). s .counted .cells .marks (s .counted .cells .root z) ≡ nodeState (getD m z 0)) (sym q) (sym cell ∙ e))
             (λ q. s .same y a v (omega arith));
       }
 
@@ -99,11 +100,11 @@ module _ (p : Picture) (k c d : ℕ) (l fs ss m : List ℕ) (s : Counted p k c d
         old = now-old;
       }
 
-  listed : ((y : ℕ) → At p k y → cs .root y ≡ y → 65534 ≤ cs .st y → Member (λ j. getD ss j 0) c d y) → RootsListed p k c d (λ j. getD ss j 0) (cs .root) (cs .st)
+  listed : ((y : ℕ) → At p k y → cs .root y ≡ y → severalState ≤ cs .st y → Member (λ j. getD ss j 0) c d y) → RootsListed p k c d (λ j. getD ss j 0) (cs .root) (cs .st)
   listed f = record { roots = s .roots; complete = f }
 
-  module _ (complete : (y : ℕ) → At p k y → cs .root y ≡ y → 65534 ≤ cs .st y → Member (λ j. getD ss j 0) c d y) where
-    pub says : (y : ℕ) → At p k y → cs .marks (cs .root y) ≡ 2048 + under p k y
+  module _ (complete : (y : ℕ) → At p k y → cs .root y ≡ y → severalState ≤ cs .st y → Member (λ j. getD ss j 0) c d y) where
+    pub says : (y : ℕ) → At p k y → cs .marks (cs .root y) ≡ nodeState (under p k y)
     says =
         named-all p k c (cs .root) (cs .st) (s .fa) (cs .joined) d (λ j. getD ss j 0) (listed complete)
         (cs .marks) (fathersNow c (s .fa)) numbered
@@ -147,7 +148,7 @@ module _ (p : Picture) (k c d : ℕ) (l fs ss m : List ℕ) (s : Counted p k c d
 -- the tree's own lists are complete
 pub tree-complete :
     (p : Picture) (k c d count : ℕ) (l hs fs ss m : List ℕ) (s : Counted p k c d l fs ss m) → SameHeights k c d count hs → HoldsTree p count hs fs ss m →
-    (y : ℕ) → At p k y → s .cells .root y ≡ y → 65534 ≤ s .cells .st y → Member (λ j. getD ss j 0) c d y
+    (y : ℕ) → At p k y → s .cells .root y ≡ y → severalState ≤ s .cells .st y → Member (λ j. getD ss j 0) c d y
 tree-complete p k c d count l hs fs ss m s run tree y at r h =
     let cs = s .cells in
     let fork = free-fork p k c (cs .root) (cs .st) (s .fa) (cs .joined) y at r h in
@@ -182,7 +183,7 @@ tree-complete p k c d count l hs fs ss m s run tree y at r h =
 -- under the tree a pixel's root says its lent node
 pub matched-cell :
     (p : Picture) (k c d x r : ℕ) (l o fs ss m : List ℕ) (s : Matched p k c d x l fs ss m) (f : Found l x r o) (b : x < places p) (value : valueAt p x ≡ k) →
-    (count : ℕ) (hs : List ℕ) → SameHeights k c d count hs → HoldsTree p count hs fs ss m → (getD o r 0 ≡ 2048 + getD m x 0) × (getD m x 0 < 1600)
+    (count : ℕ) (hs : List ℕ) → SameHeights k c d count hs → HoldsTree p count hs fs ss m → (getD o r 0 ≡ nodeState (getD m x 0)) × (getD m x 0 < 1600)
 matched-cell p k c d x r l o fs ss m s f b value count hs run tree =
     let g = s .counted in
     let e = says p k c d l fs ss m g (tree-complete p k c d count l hs fs ss m g run tree) x (record { within = b; low = omega arith }) in

@@ -14,6 +14,7 @@ use Rattle.lent_tree.specs.Lent.{HoldsTree}
 use Rattle.verify_nodes.specs.NodeChecks.{SameHeights, Counted, Matched, NodeFits, SamePicture, FitAnswer, CountReady, NodesChecked, LentMapReady, MapChecked}
 use Rattle.verify_nodes.proofs.Counted.{counted-turn, tree-fits}
 use Rattle.verify_nodes.proofs.Matched.{matched-pass, matched-turn, matched-cell}
+use Rattle.tree_laws.proofs.States.{firstNode, nodeState, severalState}
 
 -- the run of the height k from c on goes at least to i
 pub record RunTo (k c i : ℕ) (hs : List ℕ) : Type 0 where
@@ -49,13 +50,13 @@ module _ (pixels : List ℕ) (k c i f : ℕ) (l ss : List ℕ) (e : f ≡ getD s
   unfit-high v g h =
       never (λ p r t. let a = t .low in let z = value-of p r v g in omega arith)
 
-  pub unfit-taken : getD l f 0 < 65534 → FitAnswer pixels k c i l ss false
+  pub unfit-taken : getD l f 0 < severalState → FitAnswer pixels k c i l ss false
   unfit-taken h = never (λ p r t. let a = t .free in let z = ap (λ (u : ℕ). getD l u 0) e in omega arith)
 
   pub unfit-order : (g : ℕ) → g ≡ getD ss (i - 1) 0 → c < i → f ≤ g → FitAnswer pixels k c i l ss false
   unfit-order g q a h = never (λ p r t. let b = t .above a in omega arith)
 
-  pub fit-yes : (v : ℕ) → f < length l → v ≡ getD pixels f 0 → v ≤ k → 65534 ≤ getD l f 0 → (c < i → getD ss (i - 1) 0 < f) → FitAnswer pixels k c i l ss true
+  pub fit-yes : (v : ℕ) → f < length l → v ≡ getD pixels f 0 → v ≤ k → severalState ≤ getD l f 0 → (c < i → getD ss (i - 1) 0 < f) → FitAnswer pixels k c i l ss true
   fit-yes v b g h free above =
       yes
       (λ p r.
@@ -77,16 +78,16 @@ numbered-start pixels k c l ss = record { order = omega arith; size = refl; from
 
 pub numbered-turn :
     (pixels : List ℕ) (k c i f : ℕ) (o ss l : List ℕ) → NodesNumbered pixels k c i o ss l → i < 1600 → (t : (p : Picture) → SamePicture p pixels l → NodeFits p k c i l ss) → f ≡ getD ss i 0 →
-    NodesNumbered pixels k c (i + 1) o ss (set l f (2048 + i))
+    NodesNumbered pixels k c (i + 1) o ss (set l f (nodeState i))
 numbered-turn pixels k c i f o ss l s b t e =
     let a = s .order in
     record {
       order = omega arith;
-      size = length-set l f (2048 + i) ∙ s .size;
+      size = length-set l f (nodeState i) ∙ s .size;
       from =
           λ p fs m q g.
           let h = s .from p fs m q g in
-          subst (λ (z : ℕ). Counted p k c (i + 1) (set l z (2048 + i)) fs ss m) (sym e)
+          subst (λ (z : ℕ). Counted p k c (i + 1) (set l z (nodeState i)) fs ss m) (sym e)
           (counted-turn p k c i l fs ss m h b (t p (record { is = q; size = h .cells .size })));
     }
 
@@ -118,7 +119,7 @@ module _ (pixels : List ℕ) (k x v : ℕ) (l m : List ℕ) (b : x < length l) (
     value-at : (p : Picture) → p .pixels ≡ pixels → valueAt p x ≡ k
     value-at p g = ap (λ (u : List ℕ). getD u x 0) g ∙ (sym e ∙ same)
 
-    pub map-yes : getD o r 0 - 2048 ≡ getD m x 0 → getD o r 0 < 65534 → MapChecked pixels k x (x + 1) l m o true
+    pub map-yes : getD o r 0 - firstNode ≡ getD m x 0 → getD o r 0 < severalState → MapChecked pixels k x (x + 1) l m o true
     map-yes q h =
         yes
         (λ p c d fs ss g s.
@@ -129,18 +130,18 @@ module _ (pixels : List ℕ) (k x v : ℕ) (l m : List ℕ) (b : x < length l) (
     -- under the tree the cell says the lent node
     tree-cell :
         (p : Picture) (c d : ℕ) (fs ss : List ℕ) → p .pixels ≡ pixels → Matched p k c d x l fs ss m → (count : ℕ) (hs : List ℕ) → SameHeights k c d count hs →
-        HoldsTree p count hs fs ss m → (getD o r 0 ≡ 2048 + getD m x 0) × (getD m x 0 < 1600)
+        HoldsTree p count hs fs ss m → (getD o r 0 ≡ nodeState (getD m x 0)) × (getD m x 0 < 1600)
     tree-cell p c d fs ss g s count hs run tree =
         let size = s .counted .cells .size in
         let inside : x < places p = omega arith in
         let value = value-at p g in
         matched-cell p k c d x r l o fs ss m s f inside value count hs run tree
 
-    pub map-free : 65534 ≤ getD o r 0 → MapChecked pixels k x (x + 1) l m o false
+    pub map-free : severalState ≤ getD o r 0 → MapChecked pixels k x (x + 1) l m o false
     map-free h =
         never (λ p c d fs ss g s count hs run tree. let (i, j) = tree-cell p c d fs ss g s count hs run tree in omega arith)
 
-    pub map-differs : (getD o r 0 - 2048 ≡ getD m x 0 → ⊥) → MapChecked pixels k x (x + 1) l m o false
+    pub map-differs : (getD o r 0 - firstNode ≡ getD m x 0 → ⊥) → MapChecked pixels k x (x + 1) l m o false
     map-differs d =
         never (λ p c d′ fs ss g s count hs run tree. let a = tree-cell p c d′ fs ss g s count hs run tree .0 in d (omega arith))
 

@@ -12,6 +12,7 @@ use Rattle.tree_laws.proofs.Numbering.{Member, NewRoots}
 use Rattle.tree_laws.proofs.Classes.{MarkedClasses}
 use Rattle.tree_laws.proofs.Checks.{Agree}
 use Rattle.lent_tree.specs.Lent.{HoldsTree}
+use Rattle.tree_laws.proofs.States.{nodeState, severalState}
 
 -- the lent heights from c on, before d, are k, and d is the count or has another
 pub record SameHeights (k c d count : ℕ) (hs : List ℕ) : Type 0 where
@@ -26,7 +27,7 @@ pub record Counted (p : Picture) (k c i : ℕ) (l fs ss m : List ℕ) : Type 0 w
   pub agree : Agree fa fs m
   pub cells : MarkedClasses p k c l fa
   pub roots : NewRoots p k c i (λ j. getD ss j 0) (cells .root) (cells .st)
-  pub named : (j : ℕ) → c ≤ j → j < i → cells .marks (getD ss j 0) ≡ 2048 + j
+  pub named : (j : ℕ) → c ≤ j → j < i → cells .marks (getD ss j 0) ≡ nodeState j
   pub either : (y : ℕ) → y < places p → cells .root y ≡ y → Member (λ j. getD ss j 0) c i y ⊎ (cells .marks y ≡ cells .st y)
 
 -- the tests that the lent first place of the node i passes: a place of value at most k, above the one before it, a root without a number
@@ -34,13 +35,13 @@ pub record NodeFits (p : Picture) (k c i : ℕ) (l ss : List ℕ) : Type 0 where
   pub within : getD ss i 0 < places p
   pub low : valueAt p (getD ss i 0) ≤ k
   pub above : c < i → getD ss (i - 1) 0 < getD ss i 0
-  pub free : 65534 ≤ getD l (getD ss i 0) 0
+  pub free : severalState ≤ getD l (getD ss i 0) 0
 
 -- the lent map of the pixels of height k before x agrees with the numbers
 pub record Matched (p : Picture) (k c d x : ℕ) (l fs ss m : List ℕ) : Type 0 where
   pub counted : Counted p k c d l fs ss m
-  pub few : (y : ℕ) → y < places p → valueAt p y ≡ k → y < x → counted .cells .marks (counted .cells .root y) < 65534
-  pub same : (y : ℕ) → y < places p → valueAt p y ≡ k → y < x → counted .cells .marks (counted .cells .root y) ≡ 2048 + getD m y 0
+  pub few : (y : ℕ) → y < places p → valueAt p y ≡ k → y < x → counted .cells .marks (counted .cells .root y) < severalState
+  pub same : (y : ℕ) → y < places p → valueAt p y ≡ k → y < x → counted .cells .marks (counted .cells .root y) ≡ nodeState (getD m y 0)
 
 -- p is the picture with these pixels, with a cell for each place
 pub record SamePicture (p : Picture) (pixels l : List ℕ) : Type 0 where
