@@ -1,5 +1,5 @@
 -- The lent map of a height is checked against the numbers of its roots; then the next height.
-use mathlib.Core.Path.{_≡_, sym, ap, subst, _∙_}
+use mathlib.Core.Path.{_≡_, sym, ap, _∙_}
 use mathlib.Core.Bool.{Bool}
 use mathlib.Core.Logic.{inl, inr, ⊎-elim, by-cases, _≢_}
 use mathlib.Core.List.{List}
@@ -9,6 +9,7 @@ use native.Mathlib.Omega.{arith}
 use lib.Dec.{ltb}
 use lib.ListN.{length, getD}
 use borrow.Author.Tests.{lt-ltb, le-ltb}
+use borrow.Author.Count.{below-more}
 use Rattle.lists.specs.Lists.{pick}
 use Rattle.picture.specs.Pictures.{Picture, places, valueAt}
 use Rattle.picture.specs.Components.{componentAt}
@@ -67,14 +68,12 @@ module _ (p : Picture) (k c d x r : ℕ) (l o fs ss m : List ℕ) (s : Matched p
         counted = moved;
         few =
             λ y a v g.
-            by-cases (ℕ-discrete y x)
-            (λ q. subst (λ (z : ℕ). s .counted .cells .marks (s .counted .cells .root z) < severalState) (sym q) (let i = cell in omega arith))
-            (λ q. s .few y a v (omega arith));
+            below-more (λ z. z < places p → valueAt p z ≡ k → s .counted .cells .marks (s .counted .cells .root z) < severalState) x
+            (λ z i b u. s .few z b u i) (λ b u. let i = cell in omega arith) y g a v;
         same =
             λ y a v g.
-            by-cases (ℕ-discrete y x)
-            (λ q. subst (λ (z : ℕ). s .counted .cells .marks (s .counted .cells .root z) ≡ nodeState (getD m z 0)) (sym q) (sym cell ∙ e))
-            (λ q. s .same y a v (omega arith));
+            below-more (λ z. z < places p → valueAt p z ≡ k → s .counted .cells .marks (s .counted .cells .root z) ≡ nodeState (getD m z 0)) x
+            (λ z i b u. s .same z b u i) (λ b u. sym cell ∙ e) y g a v;
       }
 
 -- the numbering that the check has seen

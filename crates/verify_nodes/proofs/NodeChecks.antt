@@ -1,12 +1,11 @@
 -- What the checks of nodes and map say, whatever the picture is.
 use mathlib.Core.Path.{_≡_, refl, sym, ap, subst, _∙_}
 use mathlib.Core.Bool.{Bool, true, false}
-use mathlib.Core.Logic.{by-cases}
 use mathlib.Core.List.{List}
 use Prim.Native.Nat.{ℕ, _+_, _-_, _≤_, _<_}
-use native.Mathlib.Decide.{ℕ-discrete}
 use native.Mathlib.Omega.{arith}
 use lib.ListN.{length, getD, set, length-set}
+use borrow.Author.Count.{below-more}
 use Rattle.picture.specs.Pictures.{Picture, places, valueAt}
 use Rattle.tree_laws.proofs.Decided.{yes, never, decided-yes, decided-never}
 use Rattle.tree_laws.proofs.Forests.{Found, Parents}
@@ -29,7 +28,7 @@ run-turn k c i v hs s e q =
     let o = s .order in
     record {
       order = omega arith;
-      same = λ j a b. by-cases (ℕ-discrete j i) (λ z. ap (λ (y : ℕ). getD hs y 0) z ∙ (sym e ∙ q)) (λ z. s .same j a (omega arith));
+      same = λ j a b. below-more (λ z. c ≤ z → getD hs z 0 ≡ k) i (λ z h g. s .same z g h) (λ g. sym e ∙ q) j b a;
     }
 
 pub run-stop : (k c i v count : ℕ) (hs : List ℕ) → RunTo k c i hs → i < count → v ≡ getD hs i 0 → (v ≡ k → ⊥) → SameHeights k c i count hs
