@@ -4,6 +4,7 @@ pub mod States
 pub mod Beneath
 pub mod Levels
 pub mod Counts
+pub mod NewRoots
 pub mod Numbering
 pub mod LastFathers
 pub mod Forests

@@ -14,7 +14,8 @@ use Rattle.topology.proofs.Accepted.{Accepted}
 use Rattle.topology.proofs.Descent.{under}
 use Rattle.lists.proofs.Updates.{put, put-same, put-other}
 use Rattle.tree_laws.proofs.Counts.{soFar}
-use Rattle.tree_laws.proofs.Numbering.{Member, RootsListed, Numbered, number-new, count-next, count-few, next-level, named-all, edges-next}
+use Rattle.tree_laws.proofs.NewRoots.{Member, RootsListed, number-new, count-next, count-few}
+use Rattle.tree_laws.proofs.Numbering.{Numbered, next-level, named-all, edges-next}
 use Rattle.tree_laws.proofs.Classes.{Classes, MarkedClasses, marks-set}
 use Rattle.tree_laws.proofs.Chains.{fathersIn, mapIn, NextOfValue, Chained, after-mono, chained-same, upto-skip}
 use Rattle.tree_laws.proofs.Listing.{firstsIn, NodesIn, Listing, list-end}

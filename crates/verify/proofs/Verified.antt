@@ -17,7 +17,7 @@ use Rattle.topology.proofs.Nodes.{nodes-few}
 use Rattle.topology.proofs.Descent.{under, map-under, under-is}
 use Rattle.topology.proofs.Climb.{root-is, last-root}
 use Rattle.tree_laws.proofs.Counts.{so-all}
-use Rattle.tree_laws.proofs.Numbering.{Member, joined-root, free-fork}
+use Rattle.tree_laws.proofs.NewRoots.{Member, joined-root, free-fork}
 use Rattle.tree_laws.proofs.LastFathers.{LastFather, missing, pixel, last-father}
 use Rattle.tree_laws.proofs.Checks.{Differs}
 use Rattle.lent_tree.specs.Lent.{HoldsTree}

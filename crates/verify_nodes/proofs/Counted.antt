@@ -16,7 +16,7 @@ use Rattle.topology.proofs.Reached.{firstAt}
 use Rattle.topology.proofs.Nodes.{node-is}
 use Rattle.lists.proofs.Updates.{put-same, put-other}
 use Rattle.tree_laws.proofs.Counts.{soFar, firsts-rise}
-use Rattle.tree_laws.proofs.Numbering.{roots-none, root-first, fork-free}
+use Rattle.tree_laws.proofs.NewRoots.{roots-none, root-first, fork-free}
 use Rattle.tree_laws.proofs.Forests.{root-cell}
 use Rattle.tree_laws.proofs.Classes.{MarkedClasses, marks-set}
 use Rattle.tree_laws.proofs.Checks.{Checking}

@@ -20,7 +20,8 @@ use Rattle.topology.proofs.Nodes.{node, number-found, nodes-few, heights-rise}
 use Rattle.topology.proofs.Descent.{under, map-under}
 use Rattle.topology.proofs.Fathers.{map-found}
 use Rattle.tree_laws.proofs.Counts.{soFar, height-least, height-below}
-use Rattle.tree_laws.proofs.Numbering.{Member, RootsListed, Numbered, root-first, free-fork, number-new, count-next, next-level, named-all, edges-next}
+use Rattle.tree_laws.proofs.NewRoots.{Member, RootsListed, root-first, free-fork, number-new, count-next}
+use Rattle.tree_laws.proofs.Numbering.{Numbered, next-level, named-all, edges-next}
 use Rattle.tree_laws.proofs.Forests.{Found, found-root, found-state}
 use Rattle.tree_laws.proofs.Classes.{MarkedClasses, marks-found}
 use Rattle.tree_laws.proofs.Checks.{Checking}

@@ -8,7 +8,7 @@ use Prim.Native.Nat.{ℕ, _-_, _≤_, _<_}
 use lib.ListN.{length, getD}
 use Rattle.picture.specs.Pictures.{Picture, places, valueAt}
 use Rattle.tree_laws.proofs.Decided.{Decided}
-use Rattle.tree_laws.proofs.Numbering.{Member, NewRoots}
+use Rattle.tree_laws.proofs.NewRoots.{Member, NewRoots}
 use Rattle.tree_laws.proofs.Classes.{MarkedClasses}
 use Rattle.tree_laws.proofs.Checks.{Agree}
 use Rattle.lent_tree.specs.Lent.{HoldsTree}
