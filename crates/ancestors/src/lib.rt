@@ -8,7 +8,7 @@ ghost use Rattle.ancestors.specs.Ancestors.{Climbing};
 pub const NO_FATHER: u16 = 65535;
 
 // The nearest common ancestor of two nodes: a father's number is greater than its sons'.
-pub fn meet(fathers: &[u16], a: usize, b: usize) -> usize
+pub fn nearest_common_ancestor(fathers: &[u16], a: usize, b: usize) -> usize
     requires { ⌜ Climbing (now fathers) a b ⌝ }
     ensures { λ r. ⌜ Meet (λ i. getD (now (fathers .entry)) i 0) a b r ⌝ }
 {

@@ -17,9 +17,9 @@ use Rattle.topology.proofs.Accepted.{accepted-is}
 use Rattle.topology.proofs.Nodes.{nodes-few}
 use Rattle.topology.proofs.Passes.{pass-byte}
 use Rattle.topology.proofs.TreeLists.{length-heights, length-fathers, length-firsts, length-map-of, heights-at, fathers-at, firsts-at, map-at}
-use Rattle.tree_lists.specs.Lists.{Rooms}
+use Rattle.tree_lists.specs.Lists.{ListsRoom}
 use Rattle.lent_tree.specs.Lent.{HoldsTree}
-use Rattle.verify.specs.Checked.{Says}
+use Rattle.verify.specs.Checked.{IsTreeAnswer, decided-yes, decided-never}
 use Rattle.lent_tree.specs.Passes.{PassReady}
 use Rattle.faults.specs.Faults.{outputFault, Admitted}
 use Rattle.board.specs.Trees.{begins, isTree, shortest, treeFaultOf, placesFaultOf, checkedFault}
@@ -79,10 +79,10 @@ module _ (p : Picture) (count : ℕ) (hs fs ss m : List ℕ) where
         (begun (treeOf p .map) m (places p) (length-map-of p) (lent .map) (λ x h. t .map x h ∙ sym (map-at p x h))))))
 
     -- the answer of the check is the test
-    pub answer-tree : (b : Bool) → Says p count hs fs ss m b → b ≡ isTree p count hs fs ss m
-    answer-tree true s = sym (entries-tree (s .yes refl))
+    pub answer-tree : (b : Bool) → IsTreeAnswer p count hs fs ss m b → b ≡ isTree p count hs fs ss m
+    answer-tree true s = sym (entries-tree (decided-yes refl s))
     answer-tree false s =
-        on-test (isTree p count hs fs ss m) (λ e. absurd (s .never refl (tree-entries e))) (λ e. sym e)
+        on-test (isTree p count hs fs ss m) (λ e. absurd (decided-never refl s (tree-entries e))) (λ e. sym e)
 
   -- the returns of the fault of a lent tree
   pub tree-unchecked : (f : ℕ) → f ≢ 0 → f ≡ checkedFault f p count hs fs ss m
@@ -173,7 +173,7 @@ pub pass-low : (p : Picture) (x y : ℕ) → isPicture p ≡ true → x < places
 pass-low p x y ok bx by = pass-byte p (accepted-is p ok) x y bx by
 
 -- the lists and the work of a call with no fault have room for the tree
-pub tree-rooms : (p : Picture) (hs fs ss m q : List ℕ) → Admitted p (length q) → places p ≤ shortest hs fs ss m → Rooms (places p) hs fs ss m q
+pub tree-rooms : (p : Picture) (hs fs ss m q : List ℕ) → Admitted p (length q) → places p ≤ shortest hs fs ss m → ListsRoom (places p) hs fs ss m q
 tree-rooms p hs fs ss m q a l =
     record {
       heights = omega arith;

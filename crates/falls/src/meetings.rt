@@ -1,5 +1,5 @@
 // Where climbs meet in the cells of a tree: heights, fathers and the map, n cells each.
-use ancestors::meet;
+use ancestors::nearest_common_ancestor;
 use cells::wide;
 ghost use Prim.Native.Nat.{_≤_, _<_};
 ghost use Rattle.watershed_laws.proofs.Stopping.{Climbs, Meets};
@@ -12,6 +12,6 @@ pub fn meeting_height(tree: &[u16], n: usize, y: usize, z: usize) -> usize
     let e = 2 * n;
     let a = wide(tree[e + y]);
     let b = wide(tree[e + z]);
-    let top = meet(&tree[n..e], a, b);
+    let top = nearest_common_ancestor(&tree[n..e], a, b);
     wide(tree[top])
 }

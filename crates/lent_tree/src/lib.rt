@@ -1,5 +1,5 @@
 // The pass between two places: the largest of both values and the height of their nodes' nearest common ancestor in a lent tree.
-use ancestors::meet;
+use ancestors::nearest_common_ancestor;
 use cells::value;
 use cells::wide;
 ghost use mathlib.Core.Path.{_≡_};
@@ -30,7 +30,7 @@ pub fn pass(
 {
     let a = wide(map[x]);
     let b = wide(map[y]);
-    let top = meet(fathers, a, b);
+    let top = nearest_common_ancestor(fathers, a, b);
     let values = larger(value(pixels[x]), value(pixels[y]));
     larger(values, value(heights[top]))
 }

@@ -8,12 +8,12 @@ use lib.Seq.{length-take-le, drop-at}
 use Rattle.picture.specs.Pictures.{Picture, places}
 use Rattle.picture.specs.Trees.{nodes}
 use Rattle.topology.proofs.Nodes.{nodes-few}
-use Rattle.tree_laws.proofs.Settling.{Settling}
+use Rattle.tree_laws.proofs.Resolving.{Resolving}
 use Rattle.tree.specs.Arrays.{TreeIn}
 use Rattle.tree.specs.Built.{Built}
 
-pub tree-settled : (p : Picture) (w : List ℕ) → Settling p (length (nodes p)) w → TreeIn p w
-tree-settled p w s =
+pub tree-resolved : (p : Picture) (w : List ℕ) → Resolving p (length (nodes p)) w → TreeIn p w
+tree-resolved p w s =
     record {
       heights = λ i h. let e : 0 + i ≡ i = omega arith in ap (λ (j : ℕ). getD w j 0) e ∙ s .listed .heights i h;
       fathers = λ i h. s .done i h h;

@@ -1,6 +1,6 @@
 // The component tree of a picture: the heights one after the other, then the fathers.
 use crate::buckets::NO_PLACE;
-use crate::buckets::thread;
+use crate::buckets::chain;
 use crate::levels::levels;
 use ancestors::NO_FATHER;
 use cells::wide;
@@ -10,14 +10,14 @@ ghost use Prim.Native.Nat.{_<_, _≤_, _+_, _*_};
 ghost use lib.ListN.{length};
 ghost use Rattle.picture.specs.Pictures.{isPicture, pictureOf};
 ghost use Rattle.picture.specs.Trees.{nodes};
-ghost use Rattle.tree_laws.proofs.Settling.{SettledOne, SettleBounds, SettleReady, SettleWalk};
+ghost use Rattle.tree_laws.proofs.Resolving.{ResolvedOne, ResolveBounds, ResolveReady, ResolveWalk};
 ghost use Rattle.tree.specs.Arrays.{TreeIn};
 ghost use Rattle.tree.specs.Built.{Built};
 
 // The entry of the node i, if it is a pixel, is replaced by the node of the pixel.
-fn settle_one(work: &mut [u16], n: usize, i: usize)
-    requires { ⌜ SettleBounds n i (now work) ⌝ }
-    ensures { λ _. ⌜ SettledOne n i (now (work .entry)) (now (work .exit)) ⌝ }
+fn resolve_father(work: &mut [u16], n: usize, i: usize)
+    requires { ⌜ ResolveBounds n i (now work) ⌝ }
+    ensures { λ _. ⌜ ResolvedOne n i (now (work .entry)) (now (work .exit)) ⌝ }
 {
     let f = work[n + i];
     if f == NO_FATHER {
@@ -27,13 +27,13 @@ fn settle_one(work: &mut [u16], n: usize, i: usize)
 }
 
 // The fathers of the c nodes.
-fn settle(work: &mut [u16], n: usize, c: usize)
-    requires { ⌜ SettleReady n c (now work) ⌝ }
-    ensures { λ _. ⌜ SettleWalk n c c (now (work .entry)) (now (work .exit)) ⌝ }
+fn resolve_fathers(work: &mut [u16], n: usize, c: usize)
+    requires { ⌜ ResolveReady n c (now work) ⌝ }
+    ensures { λ _. ⌜ ResolveWalk n c c (now (work .entry)) (now (work .exit)) ⌝ }
 {
     let mut i = 0;
     while i < c {
-        settle_one(work, n, i);
+        resolve_father(work, n, i);
         i += 1;
     }
 }
@@ -52,9 +52,9 @@ fn build_exactly(
     ensures { λ r. ⌜ (r ≡ length (nodes (pictureOf a w h (now (pixels .entry))))) × TreeIn (pictureOf a w h (now (pixels .entry))) (now (work .exit)) ⌝ }
 {
     let mut heads = [NO_PLACE; 256];
-    thread(pixels, work, cells, &mut heads);
+    chain(pixels, work, cells, &mut heads);
     let c = levels(a, w, h, pixels, work, cells, &heads);
-    settle(work, cells.len(), c);
+    resolve_fathers(work, cells.len(), c);
     c
 }
 

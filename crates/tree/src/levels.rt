@@ -1,9 +1,9 @@
 // The heights one after the other: the pixels join, the new roots are listed and numbered, the pixels are mapped.
-use crate::absorb::absorb_level;
+use crate::joins::join_pixels;
 use crate::list::list_level;
 use ancestors::NO_FATHER;
 use cells::wide;
-use union_find::NODES;
+use union_find::FIRST_NODE;
 use union_find::find;
 ghost use mathlib.Core.Path.{_≡_};
 ghost use Prim.Native.Nat.{_<_, _+_, _*_};
@@ -23,7 +23,7 @@ fn number_one(work: &mut [u16], cells: &mut [u16], k: usize, i: usize)
     let r = wide(work[3 * n + i]);
     work[i] = k as u16;
     work[n + i] = NO_FATHER;
-    cells[r] = NODES + i as u16;
+    cells[r] = FIRST_NODE + i as u16;
 }
 
 // The nodes from c on, before d, of height k get their numbers.
@@ -46,7 +46,7 @@ fn map_one(work: &mut [u16], cells: &mut [u16], x: usize) -> usize
     let at = 2 * cells.len() + x;
     let next = wide(work[at]);
     let r = find(cells, x);
-    work[at] = cells[r] - NODES;
+    work[at] = cells[r] - FIRST_NODE;
     next
 }
 
@@ -76,7 +76,7 @@ fn level(
     requires { ⌜ Between (pictureOf a w h (now pixels)) k c (now cells) (now work) × NextOfValue (pictureOf a w h (now pixels)) k 0 head × (k < 256) ⌝ }
     ensures { λ d. ⌜ Between (pictureOf a w h (now (pixels .entry))) (k + 1) d (now (cells .exit)) (now (work .exit)) ⌝ }
 {
-    absorb_level(a, w, h, pixels, work, cells, k, head);
+    join_pixels(a, w, h, pixels, work, cells, k, head);
     let d = list_level(work, cells, head, c);
     number_level(work, cells, k, c, d);
     map_level(work, cells, head);

@@ -1,6 +1,6 @@
 // The component tree.
-pub mod absorb;
 pub mod buckets;
 pub mod build;
+pub mod joins;
 pub mod levels;
 pub mod list;

@@ -3,20 +3,22 @@ use mathlib.Core.Path.{_≡_, refl, sym, ap, subst, _∙_}
 use mathlib.Core.Bool.{Bool, true, false}
 use mathlib.Core.Logic.{_⊎_, inl, inr, ⊎-elim, by-cases, _≢_}
 use mathlib.Core.List.{List}
-use Prim.Native.Nat.{ℕ, suc, _+_, _-_, _≤_, _<_}
+use Prim.Native.Nat.{ℕ, suc, _-_, _≤_, _<_}
 use native.Mathlib.Decide.{ℕ-discrete}
 use native.Mathlib.Omega.{arith}
 use lib.ListN.{length, getD}
 use Rattle.picture.specs.Pictures.{Picture, places}
 use Rattle.picture.specs.Trees.{nodes, nodeAt, fatherOf, mapOf}
-use Rattle.lists.proofs.Tests.{clash}
 use Rattle.topology.proofs.Accepted.{Accepted}
 use Rattle.lists.proofs.Updates.{put, put-same, put-other}
-use Rattle.tree_laws.proofs.Levels.{Merged, left, right, both}
-use Rattle.tree_laws.proofs.Forests.{Found, ordered, ordered-most, Hung, hung-size, Parents, forest-parents}
+use Rattle.tree_laws.proofs.Decided.{Decided, yes, never, decided-yes, decided-never}
+use Rattle.tree_laws.proofs.Levels.{Earlier, Merged, left, right, both}
+use Rattle.tree_laws.proofs.Forests.{Found, ordered, ordered-most, Linked, linked-size, Parents}
 use Rattle.tree_laws.proofs.Marks.{Names}
-use Rattle.tree_laws.proofs.Absorbing.{Classes, Near, Edge, Linkable, edge-touch, edge-within, near-skip, near-same, near-linkable, near-linked, near-met}
-use Rattle.tree_laws.proofs.Chains.{Comes, upto-of}
+use Rattle.tree_laws.proofs.Classes.{Classes}
+use Rattle.tree_laws.proofs.Joins.{Near, Edge, Linkable, edge-touch, edge-within, near-skip, near-same, near-linkable, near-linked, near-met}
+use Rattle.tree_laws.proofs.Chains.{upto-of}
+use Rattle.tree_laws.proofs.States.{firstNode, nodeState, severalState, nothingState}
 
 -- the lent entries of two lists contradict the tree: a node's father is the node of a pixel, and their entries differ
 pub record Differs (p : Picture) (fs m : List ℕ) : Type 0 where
@@ -45,31 +47,31 @@ pub record NearBy (p : Picture) (k x j r : ℕ) (l fs m : List ℕ) : Type 0 whe
   pub agree : Agree fa fs m
 
 -- the entry of the node that a state names agrees with the pixel's
-pub record Agrees (s x : ℕ) (fs m : List ℕ) (b : Bool) : Type 0 where
-  pub yes : b ≡ true → (i : ℕ) → i < 1600 → s ≡ 2048 + i → getD fs i 0 ≡ getD m x 0
-  pub never : b ≡ false → (s < 65534) × (getD fs (s - 2048) 0 ≢ getD m x 0)
+unfoldable pub Agrees : ℕ → ℕ → List ℕ → List ℕ → Bool → Type 0
+Agrees s x fs m =
+    Decided ((i : ℕ) → i < 1600 → s ≡ nodeState i → getD fs i 0 ≡ getD m x 0) ((s < severalState) × (getD fs (s - firstNode) 0 ≢ getD m x 0))
 
 -- the states a and b merged to s, the lent fathers of the nodes that meet being the lent node of x
 pub data MergedBy (x a b s : ℕ) (fs m : List ℕ) : Type 0 where
-  by-left : a ≡ 65535 → s ≡ b → MergedBy x a b s fs m
-  by-right : b ≡ 65535 → s ≡ a → MergedBy x a b s fs m
+  by-left : a ≡ nothingState → s ≡ b → MergedBy x a b s fs m
+  by-right : b ≡ nothingState → s ≡ a → MergedBy x a b s fs m
   by-both :
-      a ≢ 65535 → b ≢ 65535 → s ≡ 65534 →
-      ((i : ℕ) → i < 1600 → (a ≡ 2048 + i) ⊎ (b ≡ 2048 + i) → getD fs i 0 ≡ getD m x 0) → MergedBy x a b s fs m
+      a ≢ nothingState → b ≢ nothingState → s ≡ severalState →
+      ((i : ℕ) → i < 1600 → (a ≡ nodeState i) ⊎ (b ≡ nodeState i) → getD fs i 0 ≡ getD m x 0) → MergedBy x a b s fs m
 
 -- what a checked link of two roots leaves: the link, with the root z, or a difference, with the number of cells for z
 pub data Joint (x q r : ℕ) (l fs m : List ℕ) (o : List ℕ) (z : ℕ) : Type 0 where
-  linked : (s : ℕ) → 2048 ≤ s → Hung q r s l o z → MergedBy x (getD l q 0) (getD l r 0) s fs m → Joint x q r l fs m o z
+  linked : (s : ℕ) → firstNode ≤ s → Linked q r s l o z → MergedBy x (getD l q 0) (getD l r 0) s fs m → Joint x q r l fs m o z
   differs :
-      (i : ℕ) → i < 1600 → getD l q 0 ≢ 65535 → getD l r 0 ≢ 65535 → (getD l q 0 ≡ 2048 + i) ⊎ (getD l r 0 ≡ 2048 + i) →
+      (i : ℕ) → i < 1600 → getD l q 0 ≢ nothingState → getD l r 0 ≢ nothingState → (getD l q 0 ≡ nodeState i) ⊎ (getD l r 0 ≡ nodeState i) →
       getD fs i 0 ≢ getD m x 0 → length o ≡ length l → z ≡ length l → Joint x q r l fs m o z
 
 -- the entries with x at the node that a state names
 marked : ℕ → ℕ → (ℕ → ℕ) → ℕ → ℕ
-marked s x fa i = put fa (s - 2048) x i
+marked s x fa i = put fa (s - firstNode) x i
 
 merged-by :
-    (x a b s : ℕ) (fs m : List ℕ) (fa : ℕ → ℕ) → 2048 ≤ a → 2048 ≤ b → MergedBy x a b s fs m → Agree fa fs m →
+    (x a b s : ℕ) (fs m : List ℕ) (fa : ℕ → ℕ) → firstNode ≤ a → firstNode ≤ b → MergedBy x a b s fs m → Agree fa fs m →
     (fb : ℕ → ℕ) × Merged x a b s fa fb × Agree fb fs m
 unfolding marked
 merged-by x a b s fs m fa ra rb (by-left e q) g = (fa, left e q (λ i h. refl), g)
@@ -80,10 +82,10 @@ merged-by x a b s fs m fa ra rb (by-both da db q f) g = (
   record {
     same =
         λ i h.
-        by-cases (ℕ-discrete b (2048 + i))
+        by-cases (ℕ-discrete b (nodeState i))
         (λ e. inr (f i h (inr e) ∙ ap (λ (z : ℕ). getD m z 0) (sym (hit i h (inr e)))))
         (λ d.
-        by-cases (ℕ-discrete a (2048 + i))
+        by-cases (ℕ-discrete a (nodeState i))
         (λ e. inr (f i h (inl e) ∙ ap (λ (z : ℕ). getD m z 0) (sym (hit i h (inl e)))))
         (λ t.
         let r = miss i h t d in
@@ -91,61 +93,58 @@ merged-by x a b s fs m fa ra rb (by-both da db q f) g = (
   },
 )
   where
-    own : (s : ℕ) (fa : ℕ → ℕ) (i : ℕ) → 2048 ≤ s → s ≡ 2048 + i → marked s x fa i ≡ x
-    own s fa i r e = put-same fa (s - 2048) x i (omega arith)
+    own : (s : ℕ) (fa : ℕ → ℕ) (i : ℕ) → firstNode ≤ s → s ≡ nodeState i → marked s x fa i ≡ x
+    own s fa i r e = put-same fa (s - firstNode) x i (omega arith)
 
-    other : (s : ℕ) (fa : ℕ → ℕ) (i : ℕ) → 2048 ≤ s → s ≢ 2048 + i → marked s x fa i ≡ fa i
-    other s fa i r d = put-other fa (s - 2048) x i (λ e. d (omega arith))
+    other : (s : ℕ) (fa : ℕ → ℕ) (i : ℕ) → firstNode ≤ s → s ≢ nodeState i → marked s x fa i ≡ fa i
+    other s fa i r d = put-other fa (s - firstNode) x i (λ e. d (omega arith))
 
-    hit : (i : ℕ) → i < 1600 → (a ≡ 2048 + i) ⊎ (b ≡ 2048 + i) → marked b x (marked a x fa) i ≡ x
+    hit : (i : ℕ) → i < 1600 → (a ≡ nodeState i) ⊎ (b ≡ nodeState i) → marked b x (marked a x fa) i ≡ x
     hit i h e =
-        by-cases (ℕ-discrete b (2048 + i))
+        by-cases (ℕ-discrete b (nodeState i))
         (λ z. own b (marked a x fa) i rb z)
         (λ z. other b (marked a x fa) i rb z ∙ ⊎-elim (λ y. own a fa i ra y) (λ y. absurd (z y)) e)
 
-    miss : (i : ℕ) → i < 1600 → a ≢ 2048 + i → b ≢ 2048 + i → marked b x (marked a x fa) i ≡ fa i
+    miss : (i : ℕ) → i < 1600 → a ≢ nodeState i → b ≢ nodeState i → marked b x (marked a x fa) i ≡ fa i
     miss i h d e = other b (marked a x fa) i rb e ∙ other a fa i ra d
 
-pub agrees-none : (s x : ℕ) (fs m : List ℕ) → 65534 ≤ s → Agrees s x fs m true
-agrees-none s x fs m h = record { yes = λ e i b q. absurd (omega arith); never = λ e. absurd (clash refl e) }
+pub agrees-none : (s x : ℕ) (fs m : List ℕ) → severalState ≤ s → Agrees s x fs m true
+unfolding Agrees
+agrees-none s x fs m h = yes (λ i b q. absurd (omega arith))
 
-pub agrees-same : (s x t : ℕ) (fs m : List ℕ) → t ≡ s - 2048 → 2048 ≤ s → getD fs t 0 ≡ getD m x 0 → Agrees s x fs m true
-agrees-same s x t fs m e r h =
-    record {
-      yes = λ q i b g. let z : i ≡ t = omega arith in ap (λ (y : ℕ). getD fs y 0) z ∙ h;
-      never = λ q. absurd (clash refl q);
-    }
+pub agrees-same : (s x t : ℕ) (fs m : List ℕ) → t ≡ s - firstNode → firstNode ≤ s → getD fs t 0 ≡ getD m x 0 → Agrees s x fs m true
+unfolding Agrees
+agrees-same s x t fs m e r h = yes (λ i b g. let z : i ≡ t = omega arith in ap (λ (y : ℕ). getD fs y 0) z ∙ h)
 
-pub agrees-not : (s x t : ℕ) (fs m : List ℕ) → t ≡ s - 2048 → s < 65534 → (getD fs t 0 ≡ getD m x 0 → ⊥) → Agrees s x fs m false
-agrees-not s x t fs m e b h =
-    record {
-      yes = λ q. absurd (clash q refl);
-      never = λ q. (b, λ g. h (ap (λ (y : ℕ). getD fs y 0) e ∙ g));
-    }
+pub agrees-not : (s x t : ℕ) (fs m : List ℕ) → t ≡ s - firstNode → s < severalState → (getD fs t 0 ≡ getD m x 0 → ⊥) → Agrees s x fs m false
+unfolding Agrees
+agrees-not s x t fs m e b h = never (b, λ g. h (ap (λ (y : ℕ). getD fs y 0) e ∙ g))
 
 module _ (x q r n : ℕ) (l fs m : List ℕ) (few : n ≤ 1600) (na : Names n (getD l q 0)) (nb : Names n (getD l r 0)) where
-  pub joint-left : (o : List ℕ) (z : ℕ) → getD l q 0 ≡ 65535 → Hung q r (getD l r 0) l o z → Joint x q r l fs m o z
+  pub joint-left : (o : List ℕ) (z : ℕ) → getD l q 0 ≡ nothingState → Linked q r (getD l r 0) l o z → Joint x q r l fs m o z
   joint-left o z e h = linked (getD l r 0) (nb .root) h (by-left e refl)
 
-  pub joint-right : (o : List ℕ) (z : ℕ) → getD l r 0 ≡ 65535 → Hung q r (getD l q 0) l o z → Joint x q r l fs m o z
+  pub joint-right : (o : List ℕ) (z : ℕ) → getD l r 0 ≡ nothingState → Linked q r (getD l q 0) l o z → Joint x q r l fs m o z
   joint-right o z e h = linked (getD l q 0) (na .root) h (by-right e refl)
 
-  module _ (da : getD l q 0 ≢ 65535) (db : getD l r 0 ≢ 65535) where
+  module _ (da : getD l q 0 ≢ nothingState) (db : getD l r 0 ≢ nothingState) where
     -- the state s is that of one of the two
     pub joint-differs : (s : ℕ) → (getD l q 0 ≡ s) ⊎ (getD l r 0 ≡ s) → Names n s → Agrees s x fs m false → Joint x q r l fs m l (length l)
+    unfolding Agrees
     joint-differs s e names a =
-        let (b, d) = a .never refl in
+        let (b, d) = decided-never refl a in
         let g = names .root in
         let h = names .node b in
-        differs (s - 2048) (omega arith) da db (⊎-elim (λ t. inl (omega arith)) (λ t. inr (omega arith)) e) d refl refl
+        differs (s - firstNode) (omega arith) da db (⊎-elim (λ t. inl (omega arith)) (λ t. inr (omega arith)) e) d refl refl
 
-    pub joint-both : (o : List ℕ) (z : ℕ) → Agrees (getD l q 0) x fs m true → Agrees (getD l r 0) x fs m true → Hung q r 65534 l o z → Joint x q r l fs m o z
+    pub joint-both : (o : List ℕ) (z : ℕ) → Agrees (getD l q 0) x fs m true → Agrees (getD l r 0) x fs m true → Linked q r severalState l o z → Joint x q r l fs m o z
+    unfolding Agrees
     joint-both o z a b h =
-        linked 65534 (omega arith) h
-        (by-both da db refl (λ i g. ⊎-elim (λ e. a .yes refl i g e) (λ e. b .yes refl i g e)))
+        linked severalState (omega arith) h
+        (by-both da db refl (λ i g. ⊎-elim (decided-yes refl a i g) (decided-yes refl b i g)))
 
 -- x is joined to some of its neighbours, and y is the next
-pub record LookReady (pixels : List ℕ) (k x r y : ℕ) (l fs m : List ℕ) : Type 0 where
+pub record EdgeCheckReady (pixels : List ℕ) (k x r y : ℕ) (l fs m : List ℕ) : Type 0 where
   pub p : Picture
   pub j : ℕ
   pub ok : Accepted p
@@ -154,7 +153,7 @@ pub record LookReady (pixels : List ℕ) (k x r y : ℕ) (l fs m : List ℕ) : T
   pub near : NearBy p k x j r l fs m
 
 -- then x is joined to y too, or the lent lists differ from the tree: q is the root, or the number of cells
-pub record Looked (pixels : List ℕ) (k x r y : ℕ) (l fs m : List ℕ) (q : ℕ) (o : List ℕ) : Type 0 where
+pub record EdgeChecked (pixels : List ℕ) (k x r y : ℕ) (l fs m : List ℕ) (q : ℕ) (o : List ℕ) : Type 0 where
   pub size : length o ≡ length l
   pub near :
       (p : Picture) (j : ℕ) → Accepted p → p .pixels ≡ pixels → Edge p x j y → NearBy p k x j r l fs m → q < length l →
@@ -165,20 +164,20 @@ pub record Looked (pixels : List ℕ) (k x r y : ℕ) (l fs m : List ℕ) (q : �
 module _ (pixels : List ℕ) (k x r y : ℕ) (l fs m : List ℕ) where
   root-in : (p : Picture) (j : ℕ) → Accepted p → NearBy p k x j r l fs m → r < length l
   root-in p j ok n =
-      let f = n .near .level .first x (n .near .within) in
+      let f = n .near .classes .level .first x (n .near .within) in
       let e = n .near .is in
       let b = n .near .within in
-      let s = n .near .size in
+      let s = n .near .classes .size in
       omega arith
 
-  pub look-bounds : LookReady pixels k x r y l fs m → (y < length pixels) × (y < length l)
-  look-bounds e = edge-within (e .p) (e .ok) k x (e .j) y pixels l (e .edge) (e .is) (e .near .near .size)
+  pub checked-bounds : EdgeCheckReady pixels k x r y l fs m → (y < length pixels) × (y < length l)
+  checked-bounds e = edge-within (e .p) (e .ok) k x (e .j) y pixels l (e .edge) (e .is) (e .near .near .classes .size)
 
-  pub look-parents : LookReady pixels k x r y l fs m → Parents l
-  look-parents e = forest-parents (e .near .near .forest)
+  pub checked-parents : EdgeCheckReady pixels k x r y l fs m → Parents l
+  checked-parents e = e .near .near .classes .forest .parents
 
-  pub look-skip : Comes k x y (getD pixels y 0) false → Looked pixels k x r y l fs m r l
-  look-skip c =
+  pub checked-skip : (Earlier k x y (getD pixels y 0) → ⊥) → EdgeChecked pixels k x r y l fs m r l
+  checked-skip c =
       record {
         size = refl;
         near =
@@ -187,17 +186,17 @@ module _ (pixels : List ℕ) (k x r y : ℕ) (l fs m : List ℕ) where
               fa = n .fa;
               near =
                   near-skip p ok k x j r l (n .fa) (n .near) y g
-                  (λ u. c .never refl (subst (λ (v : List ℕ). (getD v y 0 < k) ⊎ ((getD v y 0 ≡ k) × (y < x))) e (u .passed)));
+                  (λ u. c (subst (λ (v : List ℕ). Earlier k x y (getD v y 0)) e (u .passed)));
               agree = n .agree;
             };
         differs = λ p j ok e g n b. absurd (let h = root-in p j ok n in omega arith);
       }
 
-  module _ (c : Comes k x y (getD pixels y 0) true) (o : List ℕ) (q : ℕ) (f : Found l y q o) where
-    pub look-same : q ≡ r → Looked pixels k x r y l fs m r o
-    look-same h =
+  module _ (c : Earlier k x y (getD pixels y 0)) (o : List ℕ) (q : ℕ) (f : Found l y q o) where
+    pub checked-same : q ≡ r → EdgeChecked pixels k x r y l fs m r o
+    checked-same h =
         record {
-          size = f .size;
+          size = f .walked .size;
           near =
               λ p j ok e g n b.
               let (s, t) = edge-touch p ok k x j y g in
@@ -210,14 +209,14 @@ module _ (pixels : List ℕ) (k x r y : ℕ) (l fs m : List ℕ) where
         let (s, t) = edge-touch p ok k x j y g in
         near-linkable p ok k x j r l (n .fa) (n .near) y (upto-of p e s c) t f
 
-    pub look-join : LookReady pixels k x r y l fs m → Linkable x q r o
-    look-join e = linkable (e .p) (e .j) (e .ok) (e .is) (e .edge) (e .near)
+    pub checked-join : EdgeCheckReady pixels k x r y l fs m → Linkable x q r o
+    checked-join e = linkable (e .p) (e .j) (e .ok) (e .is) (e .edge) (e .near)
 
     -- the two roots are linked, or the lent lists differ
-    pub look-joined : (u : List ℕ) (z : ℕ) → q ≢ r → Joint x q r o fs m u z → Looked pixels k x r y l fs m z u
-    look-joined u z d (linked s big h g) =
+    pub checked-joined : (u : List ℕ) (z : ℕ) → q ≢ r → Joint x q r o fs m u z → EdgeChecked pixels k x r y l fs m z u
+    checked-joined u z d (linked s big h g) =
         record {
-          size = hung-size h ∙ f .size;
+          size = linked-size h ∙ f .walked .size;
           near =
               λ p j ok i a n b.
               let (w, t) = edge-touch p ok k x j y a in
@@ -234,10 +233,10 @@ module _ (pixels : List ℕ) (k x r y : ℕ) (l fs m : List ℕ) where
               };
           differs = λ p j ok i a n b. absurd (let w = root-in p j ok n in omega (arith, ordered-most (h .order)));
         }
-    look-joined u z d (differs i b dq dr a e s is) =
+    checked-joined u z d (differs i b dq dr a e s is) =
         record {
-          size = s ∙ f .size;
-          near = λ p j ok i a n v. absurd (let g = f .size in omega arith);
+          size = s ∙ f .walked .size;
+          near = λ p j ok i a n v. absurd (let g = f .walked .size in omega arith);
           differs =
               λ p j ok g t n v.
               let (w, touch) = edge-touch p ok k x j y t in

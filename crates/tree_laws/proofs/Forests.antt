@@ -1,4 +1,4 @@
--- Union-find in a list of cells: a cell below 2048 is a parent, a smaller place; a greater one marks a root with its state.
+-- Union-find in a list of cells: a cell below firstNode is a parent, a smaller place; a greater one marks a root with its state.
 use mathlib.Core.Path.{_≡_, refl, sym, ap, subst, _∙_}
 use mathlib.Core.Logic.{by-cases, _≢_}
 use mathlib.Core.List.{List}
@@ -9,29 +9,27 @@ use lib.ListN.{length, getD, set, length-set}
 use lib.Seq.{getD-set-same, getD-set-other}
 use Rattle.lists.proofs.Updates.{put, put-same, put-other}
 use Rattle.tree_laws.proofs.Levels.{relink, relink-moved, relink-kept, relink-same}
+use Rattle.tree_laws.proofs.States.{firstNode}
 
 -- every parent is a smaller place
 pub record Parents (l : List ℕ) : Type 0 where
-  pub less : (x : ℕ) → x < length l → getD l x 0 < 2048 → getD l x 0 < x
+  pub less : (x : ℕ) → x < length l → getD l x 0 < firstNode → getD l x 0 < x
 
 -- the cells hold the roots of a forest and their states
 pub record Forest (l : List ℕ) (root st : ℕ → ℕ) : Type 0 where
+  pub parents : Parents l
   pub below : (x : ℕ) → x < length l → root x ≤ x
-  pub less : (x : ℕ) → x < length l → getD l x 0 < 2048 → getD l x 0 < x
-  pub up : (x : ℕ) → x < length l → getD l x 0 < 2048 → root (getD l x 0) ≡ root x
-  pub top : (x : ℕ) → x < length l → 2048 ≤ getD l x 0 → root x ≡ x
-  pub state : (x : ℕ) → x < length l → 2048 ≤ getD l x 0 → getD l x 0 ≡ st x
-
-pub forest-parents : {l : List ℕ} {root st : ℕ → ℕ} → Forest l root st → Parents l
-forest-parents f = record { less = f .less }
+  pub up : (x : ℕ) → x < length l → getD l x 0 < firstNode → root (getD l x 0) ≡ root x
+  pub top : (x : ℕ) → x < length l → firstNode ≤ getD l x 0 → root x ≡ x
+  pub state : (x : ℕ) → x < length l → firstNode ≤ getD l x 0 → getD l x 0 ≡ st x
 
 -- a root's cell is no parent
-pub root-cell : {l : List ℕ} {root st : ℕ → ℕ} → Forest l root st → (x : ℕ) → x < length l → root x ≡ x → 2048 ≤ getD l x 0
+pub root-cell : {l : List ℕ} {root st : ℕ → ℕ} → Forest l root st → (x : ℕ) → x < length l → root x ≡ x → firstNode ≤ getD l x 0
 root-cell {l} f x b e =
-    by-cases (decLt (getD l x 0) 2048)
+    by-cases (decLt (getD l x 0) firstNode)
     (λ h.
     absurd
-    (let a = f .less x b h in
+    (let a = f .parents .less x b h in
     let c = f .up x b h in
     let d = f .below (getD l x 0) (omega arith) in
     omega arith))
@@ -52,12 +50,18 @@ pub record Split (l : List ℕ) (x r : ℕ) (m : List ℕ) : Type 0 where
 
 -- r is the root of x
 pub record Found (l : List ℕ) (x r : ℕ) (m : List ℕ) : Type 0 where
-  pub size : length m ≡ length l
-  pub within : r < length l
-  pub parents : Parents m
-  pub top : 2048 ≤ getD m r 0
-  pub keeps : (root st : ℕ → ℕ) → Forest l root st → Forest m root st
-  pub is : (root st : ℕ → ℕ) → Forest l root st → root x ≡ r
+  pub walked : Walked l x r m
+  pub top : firstNode ≤ getD m r 0
+
+module _ {l m : List ℕ} {x r : ℕ} {root st : ℕ → ℕ} (f : Found l x r m) (forest : Forest l root st) where
+  inside : r < length m
+  inside = let w = f .walked in let s = w .size in let b = w .within in omega arith
+
+  pub found-root : root x ≡ r
+  found-root = f .walked .same root st forest ∙ f .walked .keeps root st forest .top r inside (f .top)
+
+  pub found-state : getD m r 0 ≡ st r
+  found-state = f .walked .keeps root st forest .state r inside (f .top)
 
 pub walk-start : (l : List ℕ) (x : ℕ) → x < length l → Parents l → Walked l x x l
 walk-start l x b h =
@@ -75,20 +79,10 @@ walk-turn l m o x i r a b =
       same = λ root st f. a .same root st f ∙ b .same root st (a .keeps root st f);
     }
 
-pub walk-end : (l m : List ℕ) (x r : ℕ) → Walked l x r m → 2048 ≤ getD m r 0 → Found l x r m
-walk-end l m x r a h =
-    let s = a .size in
-    let b = a .within in
-    record {
-      size = a .size;
-      within = a .within;
-      parents = a .parents;
-      top = h;
-      keeps = a .keeps;
-      is = λ root st f. a .same root st f ∙ a .keeps root st f .top r (omega arith) h;
-    }
+pub walk-end : (l m : List ℕ) (x r : ℕ) → Walked l x r m → firstNode ≤ getD m r 0 → Found l x r m
+walk-end l m x r a h = record { walked = a; top = h }
 
-module _ (l : List ℕ) (x : ℕ) (b : x < length l) (h : Parents l) (low : getD l x 0 < 2048) where
+module _ (l : List ℕ) (x : ℕ) (b : x < length l) (h : Parents l) (low : getD l x 0 < firstNode) where
   -- to the parent, with no cell changed
   split-stay : Split l x (getD l x 0) l
   split-stay =
@@ -106,7 +100,7 @@ module _ (l : List ℕ) (x : ℕ) (b : x < length l) (h : Parents l) (low : getD
       }
 
   -- to the parent, with the grandparent as the new parent
-  split-move : getD l (getD l x 0) 0 < 2048 → Split l x (getD l x 0) (set l x (getD l (getD l x 0) 0))
+  split-move : getD l (getD l x 0) 0 < firstNode → Split l x (getD l x 0) (set l x (getD l (getD l x 0) 0))
   split-move mid =
       let g = h .less x b low in
       record {
@@ -114,7 +108,7 @@ module _ (l : List ℕ) (x : ℕ) (b : x < length l) (h : Parents l) (low : getD
             record {
               size = length-set l x grand;
               within = omega arith;
-              parents = record { less = λ y c. smaller y (subst (λ (n : ℕ). y < n) (length-set l x grand) c) };
+              parents = parents;
               keeps = kept;
               same = λ root st f. sym (f .up x b low);
             };
@@ -124,7 +118,7 @@ module _ (l : List ℕ) (x : ℕ) (b : x < length l) (h : Parents l) (low : getD
       grand : ℕ
       grand = getD l (getD l x 0) 0
 
-      smaller : (y : ℕ) → y < length l → getD (set l x grand) y 0 < 2048 → getD (set l x grand) y 0 < y
+      smaller : (y : ℕ) → y < length l → getD (set l x grand) y 0 < firstNode → getD (set l x grand) y 0 < y
       smaller y c =
           by-cases (ℕ-discrete y x)
           (λ e q.
@@ -134,27 +128,30 @@ module _ (l : List ℕ) (x : ℕ) (b : x < length l) (h : Parents l) (low : getD
           omega (arith, s, e, t))
           (λ d q. let s = getD-set-other l x y grand 0 d in let t = h .less y c (omega arith) in omega arith)
 
+      parents : Parents (set l x grand)
+      parents = record { less = λ y c. smaller y (subst (λ (n : ℕ). y < n) (length-set l x grand) c) }
+
       kept : (root st : ℕ → ℕ) → Forest l root st → Forest (set l x grand) root st
       kept root st f =
           record {
             below = λ y c. f .below y (subst (λ (n : ℕ). y < n) (length-set l x grand) c);
-            less = λ y c. smaller y (subst (λ (n : ℕ). y < n) (length-set l x grand) c);
+            parents = parents;
             up = λ y c q. up y (subst (λ (n : ℕ). y < n) (length-set l x grand) c) q;
             top = λ y c q. f .top y (subst (λ (n : ℕ). y < n) (length-set l x grand) c) (other y q .1);
             state = λ y c q. other y q .0 ∙ f .state y (subst (λ (n : ℕ). y < n) (length-set l x grand) c) (other y q .1);
           }
         where
-          other : (y : ℕ) → 2048 ≤ getD (set l x grand) y 0 → (getD (set l x grand) y 0 ≡ getD l y 0) × (2048 ≤ getD l y 0)
+          other : (y : ℕ) → firstNode ≤ getD (set l x grand) y 0 → (getD (set l x grand) y 0 ≡ getD l y 0) × (firstNode ≤ getD l y 0)
           other y q =
               by-cases (ℕ-discrete y x)
               (λ e.
               absurd
               (let s : getD (set l x grand) y 0 ≡ grand = ap (λ (z : ℕ). getD (set l x grand) z 0) e ∙ getD-set-same l x grand 0 b in
-              let t : grand < 2048 = mid in
+              let t : grand < firstNode = mid in
               omega (arith, s, t, q)))
               (λ d. let s = getD-set-other l x y grand 0 d in (s, omega arith))
 
-          up : (y : ℕ) → y < length l → getD (set l x grand) y 0 < 2048 → root (getD (set l x grand) y 0) ≡ root y
+          up : (y : ℕ) → y < length l → getD (set l x grand) y 0 < firstNode → root (getD (set l x grand) y 0) ≡ root y
           up y c q =
               by-cases (ℕ-discrete y x)
               (λ e.
@@ -166,9 +163,9 @@ module _ (l : List ℕ) (x : ℕ) (b : x < length l) (h : Parents l) (low : getD
   pub split-end : (u : ℕ) → u ≡ getD l x 0 → Split l x u l
   split-end u e = subst (λ (v : ℕ). Split l x v l) (sym e) split-stay
 
-  pub split-up : (u : ℕ) → u ≡ getD l x 0 → getD l u 0 < 2048 → Split l x u (set l x (getD l u 0))
+  pub split-up : (u : ℕ) → u ≡ getD l x 0 → getD l u 0 < firstNode → Split l x u (set l x (getD l u 0))
   split-up u e h =
-      subst (λ (v : ℕ). Split l x v (set l x (getD l v 0))) (sym e) (split-move (subst (λ (v : ℕ). getD l v 0 < 2048) e h))
+      subst (λ (v : ℕ). Split l x v (set l x (getD l v 0))) (sym e) (split-move (subst (λ (v : ℕ). getD l v 0 < firstNode) e h))
 
 -- two roots, the smaller first
 pub data Ordered (q r : ℕ) : ℕ → ℕ → Type 0 where
@@ -191,30 +188,30 @@ pub in-order : {q r lo hi : ℕ} (P : ℕ → ℕ → Type 0) → ((a b : ℕ) �
 in-order P exchange (below h) f = f
 in-order {q} {r} P exchange (above h) f = exchange q r f
 
--- the greater of two roots hung below the smaller, lo, which gets the state s
-pub record Hung (q r s : ℕ) (l m : List ℕ) (lo : ℕ) : Type 0 where
+-- the greater of two roots linked below the smaller, lo, which gets the state s
+pub record Linked (q r s : ℕ) (l m : List ℕ) (lo : ℕ) : Type 0 where
   pub hi : ℕ
   pub order : Ordered q r lo hi
   pub cells : m ≡ set (set l hi lo) lo s
 
-pub hung-size : {q r s lo : ℕ} {l m : List ℕ} → Hung q r s l m lo → length m ≡ length l
-hung-size {s = s} {lo = lo} {l = l} h =
+pub linked-size : {q r s lo : ℕ} {l m : List ℕ} → Linked q r s l m lo → length m ≡ length l
+linked-size {s = s} {lo = lo} {l = l} h =
     ap length (h .cells) ∙ (length-set (set l (h .hi) lo) lo s ∙ length-set l (h .hi) lo)
 
-pub hung-below : (q r s : ℕ) (l : List ℕ) → q < r → Hung q r s l (set (set l r q) q s) q
-hung-below q r s l h = record { hi = r; order = below h; cells = refl }
+pub linked-below : (q r s : ℕ) (l : List ℕ) → q < r → Linked q r s l (set (set l r q) q s) q
+linked-below q r s l h = record { hi = r; order = below h; cells = refl }
 
-pub hung-above : (q r s : ℕ) (l : List ℕ) → r < q → Hung q r s l (set (set l q r) r s) r
-hung-above q r s l h = record { hi = q; order = above h; cells = refl }
+pub linked-above : (q r s : ℕ) (l : List ℕ) → r < q → Linked q r s l (set (set l q r) r s) r
+linked-above q r s l h = record { hi = q; order = above h; cells = refl }
 
--- the class of hi hung below lo, which gets the state s
+-- the class of hi linked below lo, which gets the state s
 pub forest-link :
-    (l : List ℕ) (lo hi s : ℕ) (root st : ℕ → ℕ) → Forest l root st → lo < hi → hi < length l → lo < 2048 → root lo ≡ lo → root hi ≡ hi → 2048 ≤ s →
+    (l : List ℕ) (lo hi s : ℕ) (root st : ℕ → ℕ) → Forest l root st → lo < hi → hi < length l → lo < firstNode → root lo ≡ lo → root hi ≡ hi → firstNode ≤ s →
     Forest (set (set l hi lo) lo s) (relink root lo hi) (put st lo s)
 forest-link l lo hi s root st f less b small at-lo at-hi big =
     record {
       below = λ y c. below y (bound y c);
-      less = λ y c. by y (bound y c) .0;
+      parents = record { less = λ y c. by y (bound y c) .0 };
       up = λ y c. by y (bound y c) .1;
       top = λ y c q. high y (bound y c) q .0;
       state = λ y c q. high y (bound y c) q .1;
@@ -243,8 +240,8 @@ forest-link l lo hi s root st f less b small at-lo at-hi big =
     lo-other e = omega arith
 
     by : (y : ℕ) → y < length l →
-        (getD (set (set l hi lo) lo s) y 0 < 2048 → getD (set (set l hi lo) lo s) y 0 < y) ×
-        (getD (set (set l hi lo) lo s) y 0 < 2048 → relink root lo hi (getD (set (set l hi lo) lo s) y 0) ≡ relink root lo hi y)
+        (getD (set (set l hi lo) lo s) y 0 < firstNode → getD (set (set l hi lo) lo s) y 0 < y) ×
+        (getD (set (set l hi lo) lo s) y 0 < firstNode → relink root lo hi (getD (set (set l hi lo) lo s) y 0) ≡ relink root lo hi y)
     by y c =
         by-cases (ℕ-discrete y lo)
         (λ e.
@@ -261,11 +258,11 @@ forest-link l lo hi s root st f less b small at-lo at-hi big =
         ))
         (λ e.
         let g = cell-other y d e in (
-          λ q. let t = f .less y c (omega arith) in omega arith,
+          λ q. let t = f .parents .less y c (omega arith) in omega arith,
           λ q. ap (relink root lo hi) g ∙ relink-same root lo hi (getD l y 0) y (f .up y c (omega arith)),
         )))
 
-    high : (y : ℕ) → y < length l → 2048 ≤ getD (set (set l hi lo) lo s) y 0 →
+    high : (y : ℕ) → y < length l → firstNode ≤ getD (set (set l hi lo) lo s) y 0 →
         (relink root lo hi y ≡ y) × (getD (set (set l hi lo) lo s) y 0 ≡ put st lo s y)
     high y c q =
         by-cases (ℕ-discrete y lo)
@@ -285,11 +282,11 @@ forest-link l lo hi s root st f less b small at-lo at-hi big =
 
 -- a root gets the state s
 pub forest-state :
-    (l : List ℕ) (r s : ℕ) (root st : ℕ → ℕ) → Forest l root st → r < length l → root r ≡ r → 2048 ≤ s → Forest (set l r s) root (put st r s)
+    (l : List ℕ) (r s : ℕ) (root st : ℕ → ℕ) → Forest l root st → r < length l → root r ≡ r → firstNode ≤ s → Forest (set l r s) root (put st r s)
 forest-state l r s root st f b at-r big =
     record {
       below = λ y c. f .below y (bound y c);
-      less = λ y c q. let g = low y q in let t = f .less y (bound y c) (omega arith) in omega arith;
+      parents = record { less = λ y c q. let g = low y q in let t = f .parents .less y (bound y c) (omega arith) in omega arith };
       up = λ y c q. let g = low y q in ap root g ∙ f .up y (bound y c) (omega arith);
       top = λ y c q. high y (bound y c) q .0;
       state = λ y c q. high y (bound y c) q .1;
@@ -298,13 +295,13 @@ forest-state l r s root st f b at-r big =
     bound : (y : ℕ) → y < length (set l r s) → y < length l
     bound y c = let a = length-set l r s in omega arith
 
-    low : (y : ℕ) → getD (set l r s) y 0 < 2048 → getD (set l r s) y 0 ≡ getD l y 0
+    low : (y : ℕ) → getD (set l r s) y 0 < firstNode → getD (set l r s) y 0 ≡ getD l y 0
     low y q =
         by-cases (ℕ-discrete y r)
         (λ e. absurd (let g : getD (set l r s) y 0 ≡ s = ap (λ (z : ℕ). getD (set l r s) z 0) e ∙ getD-set-same l r s 0 b in omega arith))
         (λ d. getD-set-other l r y s 0 d)
 
-    high : (y : ℕ) → y < length l → 2048 ≤ getD (set l r s) y 0 → (root y ≡ y) × (getD (set l r s) y 0 ≡ put st r s y)
+    high : (y : ℕ) → y < length l → firstNode ≤ getD (set l r s) y 0 → (root y ≡ y) × (getD (set l r s) y 0 ≡ put st r s y)
     high y c q =
         by-cases (ℕ-discrete y r)
         (λ e. (

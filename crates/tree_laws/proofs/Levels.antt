@@ -1,82 +1,125 @@
 -- The classes of places while the pixels of one height are joined: what their roots say of the components beneath, and what a link keeps.
 use mathlib.Core.Path.{_≡_, refl, sym, ap, subst, _∙_}
 use mathlib.Core.Logic.{_⊎_, inl, inr, ⊎-elim, by-cases, _≢_, ⊎-swap}
-use Prim.Native.Nat.{ℕ, zero, suc, _+_, _≤_, _<_}
-use native.Mathlib.Decide.{ℕ-discrete}
+use Prim.Native.Nat.{ℕ, zero, suc, _≤_, _<_}
+use native.Mathlib.Decide.{ℕ-discrete, decLt}
 use native.Mathlib.Omega.{arith}
-use lib.Dec.{eqb}
 use lib.ListN.{length}
-use Rattle.lists.specs.Lists.{pick}
 use Rattle.picture.specs.Pictures.{Picture, places, valueAt}
 use Rattle.picture.specs.Trees.{nodes, nodeAt, fatherOf, mapOf}
-use Rattle.lists.proofs.Tests.{pick-in, pick-out}
 use Rattle.lists.proofs.Updates.{put, put-same, put-other}
 use Rattle.topology.proofs.Connected.{conn-source, conn-target, conn-trans, conn-closed}
 use Rattle.topology.proofs.Adjacency.{Adj, At, Joined, joined-sym}
 use Rattle.topology.proofs.Accepted.{Accepted, places-bound}
 use Rattle.topology.proofs.Nodes.{nodes-few}
+use Rattle.tree_laws.proofs.Counts.{soFar, so-places}
 use Rattle.tree_laws.proofs.Beneath.{Low, beneath, low-at, beneath-number, beneath-joined, fork-father}
+use Rattle.tree_laws.proofs.States.{nodeState, severalState, nothingState}
 
--- the roots after the class of hi is hung below lo
+-- the roots after the class of hi is linked below lo
 unfoldable pub relink : (ℕ → ℕ) → ℕ → ℕ → ℕ → ℕ
-relink root lo hi z = pick (eqb (root z) hi) lo (root z)
+relink root lo hi z = put (λ y. y) hi lo (root z)
 
 pub relink-moved : (root : ℕ → ℕ) (lo hi z : ℕ) → root z ≡ hi → relink root lo hi z ≡ lo
 unfolding relink
-relink-moved root lo hi z e = pick-in (root z) hi lo (root z) e
+relink-moved root lo hi z e = put-same (λ y. y) hi lo (root z) e
 
 pub relink-kept : (root : ℕ → ℕ) (lo hi z : ℕ) → root z ≢ hi → relink root lo hi z ≡ root z
 unfolding relink
-relink-kept root lo hi z d = pick-out (root z) hi lo (root z) d
+relink-kept root lo hi z d = put-other (λ y. y) hi lo (root z) d
 
 pub relink-same : (root : ℕ → ℕ) (lo hi y z : ℕ) → root y ≡ root z → relink root lo hi y ≡ relink root lo hi z
-relink-same root lo hi y z e =
-    by-cases (ℕ-discrete (root z) hi)
-    (λ g. relink-moved root lo hi y (e ∙ g) ∙ sym (relink-moved root lo hi z g))
-    (λ d. relink-kept root lo hi y (λ g. d (sym e ∙ g)) ∙ (e ∙ sym (relink-kept root lo hi z d)))
+unfolding relink
+relink-same root lo hi y z e = ap (put (λ y. y) hi lo) e
 
 -- the state s of a root c: no component beneath, one that goes down to a node, or several
 pub data State (p : Picture) (k : ℕ) (root : ℕ → ℕ) (c s : ℕ) : Type 0 where
-  nothing : s ≡ 65535 → ((z : ℕ) → Low p k z → root z ≡ c → ⊥) → State p k root c s
+  nothing : s ≡ nothingState → ((z : ℕ) → Low p k z → root z ≡ c → ⊥) → State p k root c s
   single :
-      (z : ℕ) → Low p k z → root z ≡ c → s ≡ 2048 + beneath p k z →
+      (z : ℕ) → Low p k z → root z ≡ c → s ≡ nodeState (beneath p k z) →
       ((w : ℕ) → Low p k w → root w ≡ c → beneath p k w ≡ beneath p k z) → State p k root c s
   several :
-      (z w : ℕ) → s ≡ 65534 → Low p k z → Low p k w → root z ≡ c → root w ≡ c → beneath p k z ≢ beneath p k w →
+      (z w : ℕ) → s ≡ severalState → Low p k z → Low p k w → root z ≡ c → root w ≡ c → beneath p k z ≢ beneath p k w →
       State p k root c s
 
 -- the entry f for the father of the node i: 65535 while its root says i, then a pixel that the father is the node of
 pub data Father (p : Picture) (k : ℕ) (root st : ℕ → ℕ) (f i : ℕ) : Type 0 where
-  unmet : (z : ℕ) → f ≡ 65535 → Low p k z → beneath p k z ≡ i → st (root z) ≡ 2048 + i → Father p k root st f i
+  unmet : (z : ℕ) → f ≡ 65535 → Low p k z → beneath p k z ≡ i → st (root z) ≡ nodeState i → Father p k root st f i
   known : f < places p → fatherOf p (nodeAt p i) ≡ mapOf p f → Father p k root st f i
 
--- the classes at height k, with c nodes below it
-pub record Level (p : Picture) (k c : ℕ) (root st fa : ℕ → ℕ) : Type 0 where
+-- the classes at height k
+pub record Level (p : Picture) (k : ℕ) (root st fa : ℕ → ℕ) : Type 0 where
   pub own : (y : ℕ) → At p k y → Joined p k y (root y)
   pub fixed : (y : ℕ) → y < places p → root (root y) ≡ root y
   pub first : (y : ℕ) → y < places p → root y ≤ y
-  pub later : (y : ℕ) → y < places p → k < valueAt p y → (root y ≡ y) × (st y ≡ 65535)
+  pub later : (y : ℕ) → y < places p → k < valueAt p y → (root y ≡ y) × (st y ≡ nothingState)
   pub state : (y : ℕ) → At p k y → root y ≡ y → State p k root y (st y)
-  pub fathers : (i : ℕ) → i < c → Father p k root st (fa i) i
-  pub few : c ≤ length (nodes p)
+  pub fathers : (i : ℕ) → i < soFar p k → Father p k root st (fa i) i
 
--- y has a value below k, or the value k and a place before x
+-- what is in one class is joined
+pub class-joined : {p : Picture} {k : ℕ} {root st fa : ℕ → ℕ} → Level p k root st fa → {y c : ℕ} → At p k y → root y ≡ c → Joined p k y c
+class-joined {p} {k} v {y} s e = subst (λ (z : ℕ). Joined p k y z) e (v .own y s)
+
+-- a place y of value v comes before x at height k: by value, then by place
+abbrev pub Earlier : ℕ → ℕ → ℕ → ℕ → Type 0
+Earlier k x y v = (v < k) ⊎ ((v ≡ k) × (y < x))
+
+-- y is a place that comes before x at height k
 pub record Upto (p : Picture) (k x y : ℕ) : Type 0 where
   pub within : y < places p
-  pub passed : (valueAt p y < k) ⊎ ((valueAt p y ≡ k) × (y < x))
+  pub passed : Earlier k x y (valueAt p y)
 
 -- neighbours up to x are in one class
 pub record Edges (p : Picture) (k x : ℕ) (root : ℕ → ℕ) : Type 0 where
   pub same : (y z : ℕ) → Upto p k x y → Upto p k x z → Adj p y z → root y ≡ root z
+
+-- all pixels of height k have joined the classes, with c nodes below it
+pub record HeightJoined (p : Picture) (k c : ℕ) (root st fa : ℕ → ℕ) : Type 0 where
+  pub ok : Accepted p
+  pub low : k ≤ 255
+  pub count : c ≡ soFar p k
+  pub level : Level p k root st fa
+  pub edges : Edges p k (places p) root
+
+module _ (p : Picture) (k : ℕ) where
+  -- the places passed do not change where none of value k lies between
+  pub upto-gap : (a x y : ℕ) → ((z : ℕ) → a ≤ z → z < x → z < places p → valueAt p z ≢ k) → Upto p k x y → Upto p k a y
+  upto-gap a x y n u =
+      record {
+        within = u .within;
+        passed =
+            ⊎-elim (λ h. inl h)
+            (λ h. by-cases (decLt y a) (λ b. inr (h .0, b)) (λ b. absurd (n y (omega arith) (h .1) (u .within) (h .0))))
+            (u .passed);
+      }
+
+  pub upto-before : (x y : ℕ) → y ≢ x → Upto p k (suc x) y → Upto p k x y
+  upto-before x y d u =
+      record { within = u .within; passed = ⊎-elim (λ h. inl h) (λ h. let g = h .1 in inr (h .0, omega arith)) (u .passed) }
+
+  -- at the end of a height all its places are passed
+  pub upto-all : (x y : ℕ) → places p ≤ x → At p k y → Upto p k x y
+  upto-all x y b s =
+      let w = s .within in
+      let h = s .low in
+      record { within = w; passed = by-cases (decLt (valueAt p y) k) (λ g. inl g) (λ d. inr (omega arith, omega arith)) }
+
+  -- and the next height begins
+  pub upto-next : (y : ℕ) → Upto p (suc k) 0 y → At p k y
+  upto-next y u =
+      record { within = u .within; low = ⊎-elim (λ h. omega arith) (λ h. absurd (let g = h .1 in omega arith)) (u .passed) }
+
+  pub edges-upto : (a j x : ℕ) (root : ℕ → ℕ) → ((y : ℕ) → Upto p j x y → Upto p k a y) → Edges p k a root → Edges p j x root
+  edges-upto a j x root f e = record { same = λ y z u v t. e .same y z (f y u) (f z v) t }
 
 -- what a link at the pixel x makes of the states a and b: the new state s, and the fathers' entries
 pub data Merged (x a b s : ℕ) (fa fb : ℕ → ℕ) : Type 0 where
   left : a ≡ 65535 → s ≡ b → ((i : ℕ) → i < 1600 → fb i ≡ fa i) → Merged x a b s fa fb
   right : b ≡ 65535 → s ≡ a → ((i : ℕ) → i < 1600 → fb i ≡ fa i) → Merged x a b s fa fb
   both :
-      a ≢ 65535 → b ≢ 65535 → s ≡ 65534 →
-      ((i : ℕ) → i < 1600 → (a ≡ 2048 + i) ⊎ (b ≡ 2048 + i) → fb i ≡ x) →
-      ((i : ℕ) → i < 1600 → a ≢ 2048 + i → b ≢ 2048 + i → fb i ≡ fa i) → Merged x a b s fa fb
+      a ≢ nothingState → b ≢ nothingState → s ≡ severalState →
+      ((i : ℕ) → i < 1600 → (a ≡ nodeState i) ⊎ (b ≡ nodeState i) → fb i ≡ x) →
+      ((i : ℕ) → i < 1600 → a ≢ nodeState i → b ≢ nodeState i → fb i ≡ fa i) → Merged x a b s fa fb
 
 -- the two states exchanged
 pub merged-exchange : {x a b s : ℕ} {fa fb : ℕ → ℕ} → Merged x a b s fa fb → Merged x b a s fa fb
@@ -101,7 +144,7 @@ edges-lower p (suc j) x root b e z w l m q =
     (beneath-joined p j z w b l m q)
 
 -- a root with a state is a class that holds a lower place
-pub member : {p : Picture} {k : ℕ} {root : ℕ → ℕ} {c s : ℕ} → State p k root c s → s ≢ 65535 → (z : ℕ) × Low p k z × (root z ≡ c)
+pub member : {p : Picture} {k : ℕ} {root : ℕ → ℕ} {c s : ℕ} → State p k root c s → s ≢ nothingState → (z : ℕ) × Low p k z × (root z ≡ c)
 member (nothing e f) d = absurd (d e)
 member (single z l r e f) d = (z, l, r)
 member (several z w e l m r q g) d = (z, l, r)
@@ -114,15 +157,7 @@ module _ (p : Picture) (ok : Accepted p) (k : ℕ) (low : k ≤ 255) where
       let c = places-bound p ok in
       omega arith
 
-  -- a class whose places are the same keeps its state
-  state-same :
-      {root new : ℕ → ℕ} {c d s : ℕ} → ((z : ℕ) → new z ≡ d → root z ≡ c) → ((z : ℕ) → root z ≡ c → new z ≡ d) →
-      State p k root c s → State p k new d s
-  state-same f g (nothing e h) = nothing e (λ z l r. h z l (f z r))
-  state-same f g (single z l r e h) = single z l (g z r) e (λ w m q. h w m (f w q))
-  state-same f g (several z w e l m r q h) = several z w e l m (g z r) (g w q) h
-
-  -- joined to a class without lower places, a class keeps its state
+  -- a class whose lower places are the same keeps its state
   state-joined :
       {root new : ℕ → ℕ} {c d s : ℕ} → ((z : ℕ) → Low p k z → new z ≡ d → root z ≡ c) → ((z : ℕ) → root z ≡ c → new z ≡ d) →
       State p k root c s → State p k new d s
@@ -130,18 +165,18 @@ module _ (p : Picture) (ok : Accepted p) (k : ℕ) (low : k ≤ 255) where
   state-joined f g (single z l r e h) = single z l (g z r) e (λ w m q. h w m (f w m q))
   state-joined f g (several z w e l m r q h) = several z w e l m (g z r) (g w q) h
 
-  state-empty : {root : ℕ → ℕ} {c s : ℕ} → s ≡ 65535 → State p k root c s → (z : ℕ) → Low p k z → root z ≡ c → ⊥
+  state-empty : {root : ℕ → ℕ} {c s : ℕ} → s ≡ nothingState → State p k root c s → (z : ℕ) → Low p k z → root z ≡ c → ⊥
   state-empty h (nothing e f) = f
   state-empty h (single z l r e f) = absurd (let b = number-few z l in omega arith)
   state-empty h (several z w e l m r q g) = absurd (omega arith)
 
   -- a root that says a node holds a place that goes down to it
-  state-named : {root : ℕ → ℕ} {c s i : ℕ} → i < 1600 → s ≡ 2048 + i → State p k root c s → (z : ℕ) × Low p k z × (root z ≡ c) × (beneath p k z ≡ i)
+  state-named : {root : ℕ → ℕ} {c s i : ℕ} → i < 1600 → s ≡ nodeState i → State p k root c s → (z : ℕ) × Low p k z × (root z ≡ c) × (beneath p k z ≡ i)
   state-named b h (nothing e f) = absurd (omega arith)
   state-named b h (single z l r e f) = (z, l, r, omega arith)
   state-named b h (several z w e l m r q g) = absurd (omega arith)
 
-  module _ (c x lo hi : ℕ) (root st fa : ℕ → ℕ) (v : Level p k c root st fa)
+  module _ (x lo hi : ℕ) (root st fa : ℕ → ℕ) (v : Level p k root st fa)
       (lower : (z w : ℕ) → Low p k z → Low p k w → beneath p k z ≡ beneath p k w → root z ≡ root w)
       (less : lo < hi) (at-lo : root lo ≡ lo) (at-hi : root hi ≡ hi) (joins : Joined p k lo hi) (near : Joined p k x lo) (value : valueAt p x ≡ k) where
     -- a lower place of each class: they go down to different nodes
@@ -149,10 +184,8 @@ module _ (p : Picture) (ok : Accepted p) (k : ℕ) (low : k ≤ 255) where
     apart z w l m a b e = let h : lo ≡ hi = sym a ∙ (lower z w l m e ∙ b) in omega arith
 
     own-joined : (z : ℕ) → Low p k z → (root z ≡ lo) ⊎ (root z ≡ hi) → Joined p k x z
-    own-joined z l (inl e) =
-        conn-trans near (joined-sym p k (subst (λ (y : ℕ). Joined p k z y) e (v .own z (low-at p l))))
-    own-joined z l (inr e) =
-        conn-trans near (conn-trans joins (joined-sym p k (subst (λ (y : ℕ). Joined p k z y) e (v .own z (low-at p l)))))
+    own-joined z l (inl e) = conn-trans near (joined-sym p k (class-joined v (low-at p l) e))
+    own-joined z l (inr e) = conn-trans near (conn-trans joins (joined-sym p k (class-joined v (low-at p l) e)))
 
     state-lo : State p k root lo (st lo)
     state-lo = v .state lo (conn-source joins) at-lo
@@ -161,7 +194,7 @@ module _ (p : Picture) (ok : Accepted p) (k : ℕ) (low : k ≤ 255) where
     state-hi = v .state hi (conn-target joins) at-hi
 
     -- the father of a node that one of the two classes says
-    pub met : (i : ℕ) → i < 1600 → st lo ≢ 65535 → st hi ≢ 65535 → (st lo ≡ 2048 + i) ⊎ (st hi ≡ 2048 + i) → fatherOf p (nodeAt p i) ≡ mapOf p x
+    pub met : (i : ℕ) → i < 1600 → st lo ≢ nothingState → st hi ≢ nothingState → (st lo ≡ nodeState i) ⊎ (st hi ≡ nodeState i) → fatherOf p (nodeAt p i) ≡ mapOf p x
     met i b da db (inl e) =
         let (z, l, r, q) = state-named b e state-lo in
         let (w, m, t) = member state-hi db in
@@ -173,7 +206,7 @@ module _ (p : Picture) (ok : Accepted p) (k : ℕ) (low : k ≤ 255) where
         ap (λ (j : ℕ). fatherOf p (nodeAt p j)) (sym q) ∙
         fork-father p k x z w low value l m (own-joined z l (inr r)) (own-joined w m (inl t)) (λ g. apart w z m l t r (sym g))
 
-    pub met-number : (i : ℕ) → i < 1600 → (st lo ≡ 2048 + i) ⊎ (st hi ≡ 2048 + i) → i < length (nodes p)
+    pub met-number : (i : ℕ) → i < 1600 → (st lo ≡ nodeState i) ⊎ (st hi ≡ nodeState i) → i < length (nodes p)
     met-number i b (inl e) =
         let (z, l, r, q) = state-named b e state-lo in let h = beneath-number p k z (omega arith) l in omega arith
     met-number i b (inr e) =
@@ -230,7 +263,7 @@ module _ (p : Picture) (ok : Accepted p) (k : ℕ) (low : k ≤ 255) where
           several z w q l m (new-lo z r) (new-hi w t) (apart z w l m r t)
 
       -- an entry that stays
-      stays : (i : ℕ) → i < 1600 → fb i ≡ fa i → (st lo ≡ 2048 + i → s ≡ 2048 + i) → (st hi ≡ 2048 + i → s ≡ 2048 + i) → Father p k root st (fa i) i → Father p k new kept (fb i) i
+      stays : (i : ℕ) → i < 1600 → fb i ≡ fa i → (st lo ≡ nodeState i → s ≡ nodeState i) → (st hi ≡ nodeState i → s ≡ nodeState i) → Father p k root st (fa i) i → Father p k new kept (fb i) i
       stays i b e f g (known n h) = known (subst (λ (j : ℕ). j < places p) (sym e) n) (h ∙ ap (mapOf p) (sym e))
       stays i b e f g (unmet z n l q h) =
           unmet z (e ∙ n) l q
@@ -245,19 +278,19 @@ module _ (p : Picture) (ok : Accepted p) (k : ℕ) (low : k ≤ 255) where
       father-merged (left e q f) i b h = stays i b (f i b) (λ g. absurd (omega arith)) (λ g. q ∙ g) h
       father-merged (right e q f) i b h = stays i b (f i b) (λ g. q ∙ g) (λ g. absurd (omega arith)) h
       father-merged (both da db q f g) i b h =
-          by-cases (ℕ-discrete (st lo) (2048 + i))
+          by-cases (ℕ-discrete (st lo) (nodeState i))
           (λ e. hit (inl e))
           (λ d.
-          by-cases (ℕ-discrete (st hi) (2048 + i))
+          by-cases (ℕ-discrete (st hi) (nodeState i))
           (λ e. hit (inr e))
           (λ t. stays i b (g i b d t) (λ w. absurd (d w)) (λ w. absurd (t w)) h))
         where
-          hit : (st lo ≡ 2048 + i) ⊎ (st hi ≡ 2048 + i) → Father p k new kept (fb i) i
+          hit : (st lo ≡ nodeState i) ⊎ (st hi ≡ nodeState i) → Father p k new kept (fb i) i
           hit w =
               let e = f i b w in
               known (subst (λ (j : ℕ). j < places p) (sym e) (conn-source near .within)) (met i b da db w ∙ ap (mapOf p) (sym e))
 
-      linked-new : Level p k c new kept fb
+      linked-new : Level p k new kept fb
       linked-new =
           record {
             own =
@@ -265,7 +298,7 @@ module _ (p : Picture) (ok : Accepted p) (k : ℕ) (low : k ≤ 255) where
                 by-cases (ℕ-discrete (root y) hi)
                 (λ e.
                 subst (λ (z : ℕ). Joined p k y z) (sym (new-hi y e))
-                (conn-trans (subst (λ (z : ℕ). Joined p k y z) e (v .own y t)) (joined-sym p k joins)))
+                (conn-trans (class-joined v t e) (joined-sym p k joins)))
                 (λ d. subst (λ (z : ℕ). Joined p k y z) (sym (new-other y d)) (v .own y t));
             fixed =
                 λ y b.
@@ -295,8 +328,8 @@ module _ (p : Picture) (ok : Accepted p) (k : ℕ) (low : k ≤ 255) where
                 (subst (State p k new lo) (sym (kept-lo lo refl)) (state-merged merged)))
                 (λ n.
                 subst (State p k new y) (sym (kept-other y n))
-                (state-same
-                (λ z g.
+                (state-joined
+                (λ z l g.
                 by-cases (ℕ-discrete (root z) hi)
                 (λ h. absurd (n (sym g ∙ new-hi z h)))
                 (λ h. sym (new-other z h) ∙ g))
@@ -304,14 +337,12 @@ module _ (p : Picture) (ok : Accepted p) (k : ℕ) (low : k ≤ 255) where
                 (v .state y t r)));
             fathers =
                 λ i b.
-                let few = v .few in
-                let a = nodes-few p in
+                let few = so-places p k (omega arith) in
                 let n = places-bound p ok in
                 father-merged merged i (omega arith) (v .fathers i b);
-            few = v .few;
           }
 
       -- linking two roots whose classes are joined keeps what the classes say
-      pub linked : Level p k c (relink root lo hi) (put st lo s) fb
+      pub linked : Level p k (relink root lo hi) (put st lo s) fb
       unfolding new kept
       linked = linked-new

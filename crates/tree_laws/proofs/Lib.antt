@@ -1,12 +1,16 @@
 -- The component tree, built and checked a height at a time: union-find, the classes of places, the lists of new nodes.
+pub mod Decided
+pub mod States
 pub mod Beneath
 pub mod Levels
 pub mod Counts
+pub mod NewRoots
 pub mod Numbering
 pub mod LastFathers
 pub mod Forests
 pub mod Marks
-pub mod Absorbing
+pub mod Classes
+pub mod Joins
 pub mod Chains
 pub mod Walks
 pub mod Insertion
@@ -15,6 +19,6 @@ pub mod ListWalks
 pub mod Naming
 pub mod Mapped
 pub mod Buckets
-pub mod Settling
+pub mod Resolving
 pub mod Checks
-pub mod Looks
+pub mod PixelChecks

@@ -1,390 +1,130 @@
--- The nodes of a height get their numbers: the rising list of the new roots is the definition's, and the classes go on to the next height.
-use mathlib.Core.Path.{_≡_, refl, sym, ap, subst, _∙_}
-use mathlib.Core.Bool.{Bool, true, false, not}
-use mathlib.Core.Logic.{inl, inr, ⊎-elim, by-cases}
-use mathlib.Core.List.{List, map, map-map, List·Memᴰ, Memᴰ·map, Memᴰ·of-map}
-use Prim.Native.Nat.{ℕ, suc, _+_, _-_, _≤_, _<_}
-use native.Mathlib.Decide.{ℕ-discrete, decLt}
+-- The listed roots of a height get their numbers, and the classes go on to the next height.
+use mathlib.Core.Path.{_≡_, sym, ap, subst, _∙_}
+use mathlib.Core.Bool.{false}
+use mathlib.Core.Logic.{by-cases}
+use Prim.Native.Nat.{ℕ, suc, _-_, _≤_, _<_}
+use native.Mathlib.Decide.{decLt}
 use native.Mathlib.Omega.{arith}
-use lib.ListN.{length, getD, length-map}
-use Rattle.lists.specs.Lists.{tally, select, range, isIn}
+use lib.ListN.{length}
 use Rattle.picture.specs.Pictures.{Picture, places, valueAt}
 use Rattle.picture.specs.Components.{componentAt}
-use Rattle.picture.specs.Trees.{Node, isBranch, nodesAt, nodes, nodeAt, numberOf, mapOf}
-use Rattle.lists.proofs.Tests.{and-left, and-right, and-both, same-test, not-of-false, clash}
-use Rattle.lists.proofs.Lists.{select-mem, mem-select, length-select, tally-stronger, tally-equal, in-mem, mem-in, length-range, range-mem, mem-range, getD-map-range}
-use Rattle.lists.proofs.Rising.{rising-select, rising-equal, rising-map}
-use borrow.Author.Tests.{not-true}
+use Rattle.picture.specs.Trees.{isBranch, nodes, nodeAt, numberOf, mapOf}
 use Rattle.topology.proofs.Connected.{start, conn-target}
-use Rattle.topology.proofs.Adjacency.{At, Joined, joined-sym, joined-mono}
-use Rattle.topology.proofs.Reached.{firstAt, first-joined, first-least, first-at}
-use Rattle.topology.proofs.Parts.{isFirst, first-is, is-first}
-use Rattle.topology.proofs.Accepted.{Accepted, places-bound}
-use Rattle.topology.proofs.Nodes.{node, isNode, nodes-at, node-equal, number-found, nodes-few}
+use Rattle.topology.proofs.Adjacency.{At, Joined, joined-mono}
+use Rattle.topology.proofs.Accepted.{places-bound}
+use Rattle.topology.proofs.Nodes.{node, node-equal, number-found}
 use Rattle.topology.proofs.Descent.{under, under-same, under-fork}
-use Rattle.tree_laws.proofs.Counts.{soFar, so-few, so-next, so-at}
-use Rattle.tree_laws.proofs.Beneath.{low-at, at-low, low-at-below, beneath-next, none-fork, many-fork, one-branch}
-use Rattle.tree_laws.proofs.Levels.{State, nothing, single, several, Father, unmet, known, Level, Upto, Edges, edges-joined, number-few}
-
--- y stands in f from c on, before d
-pub record Member (f : ℕ → ℕ) (c d y : ℕ) : Type 0 where
-  pub at : ℕ
-  pub from : c ≤ at
-  pub to : at < d
-  pub is : f at ≡ y
-
--- from c on, before d, f has roots that no branch has, rising
-pub record NewRoots (p : Picture) (k c d : ℕ) (f root st : ℕ → ℕ) : Type 0 where
-  pub order : c ≤ d
-  pub rising : (i j : ℕ) → c ≤ i → i < j → j < d → f i < f j
-  pub place : (i : ℕ) → c ≤ i → i < d → At p k (f i)
-  pub fixed : (i : ℕ) → c ≤ i → i < d → root (f i) ≡ f i
-  pub free : (i : ℕ) → c ≤ i → i < d → 65534 ≤ st (f i)
-
--- all of them
-pub record RootsListed (p : Picture) (k c d : ℕ) (f root st : ℕ → ℕ) : Type 0 where
-  pub roots : NewRoots p k c d f root st
-  pub complete : (y : ℕ) → At p k y → root y ≡ y → 65534 ≤ st y → Member f c d y
-
-pub roots-none : (p : Picture) (k c : ℕ) (f root st : ℕ → ℕ) → NewRoots p k c c f root st
-roots-none p k c f root st =
-    record {
-      order = omega arith;
-      rising = λ i j a b h. absurd (omega arith);
-      place = λ i a b. absurd (omega arith);
-      fixed = λ i a b. absurd (omega arith);
-      free = λ i a b. absurd (omega arith);
-    }
+use Rattle.tree_laws.proofs.Counts.{so-few}
+use Rattle.tree_laws.proofs.Beneath.{low-at, at-low, low-at-below, beneath-next}
+use Rattle.tree_laws.proofs.Levels.{nothing, single, Father, unmet, known, Level, class-joined, Edges, HeightJoined, upto-all, upto-next, edges-upto}
+use Rattle.tree_laws.proofs.States.{nodeState}
+use Rattle.tree_laws.proofs.NewRoots.{Member, RootsListed, root-first, Ended, new, old, ended, count-next, number-new, count-few}
 
 -- the listed roots have their numbers, the other states and fathers are as they were
 pub record Numbered (p : Picture) (c d : ℕ) (f root st new fa fb : ℕ → ℕ) : Type 0 where
-  pub named : (i : ℕ) → c ≤ i → i < d → new (f i) ≡ 2048 + i
+  pub named : (i : ℕ) → c ≤ i → i < d → new (f i) ≡ nodeState i
   pub others : (y : ℕ) → y < places p → root y ≡ y → (Member f c d y → ⊥) → new y ≡ st y
   pub fresh : (i : ℕ) → c ≤ i → i < d → fb i ≡ 65535
   pub old : (i : ℕ) → i < c → fb i ≡ fa i
 
-module _ (p : Picture) (ok : Accepted p) (k c : ℕ) (low : k ≤ 255) (root st fa : ℕ → ℕ) (v : Level p k c root st fa) (e : Edges p k (places p) root) where
-  all-upto : (y : ℕ) → At p k y → Upto p k (places p) y
-  all-upto y s =
-      record {
-        within = s .within;
-        passed =
-            let h = s .low in
-            by-cases (decLt (valueAt p y) k) (λ b. inl b) (λ d. inr (omega arith, s .within));
-      }
+module _ (p : Picture) (k c : ℕ) (root st fa : ℕ → ℕ) (whole : HeightJoined p k c root st fa) (d : ℕ) (f : ℕ → ℕ) (l : RootsListed p k c d f root st)
+    (new-st fb : ℕ → ℕ) (m : Numbered p c d f root st new-st fa fb) where
+  abbrev v : Level p k root st fa
+  v = whole .level
 
-  pub joined-root : {y z : ℕ} → Joined p k y z → root y ≡ root z
-  joined-root j = edges-joined p k (places p) root e k all-upto j
+  low : k ≤ 255
+  low = whole .low
 
-  -- at the end of a height the root of a class is the first place of the component
-  pub root-first : (y : ℕ) → At p k y → root y ≡ firstAt p k y
-  root-first y s =
-      let a = joined-root (first-joined p k y s) in
-      let b = v .first (firstAt p k y) (first-at p k y s .within) in
-      let g = first-least p k (v .own y s) in
-      omega arith
+  node-under : (i y : ℕ) → i < length (nodes p) → At p k y → isBranch p k (componentAt p k y) ≡ false → root y ≡ y → nodeAt p i ≡ node k y → under p k y ≡ i
+  node-under i y b s h r q =
+      let (a, g) = number-found p k y low s h in
+      under-fork p k y h ∙
+      node-equal p (numberOf p k (componentAt p k y)) i a b (g ∙ (ap (node k) (sym (root-first p k c root st fa whole y s) ∙ r) ∙ sym q))
 
-  root-at : (y : ℕ) → At p k y → At p k (root y)
-  root-at y s = conn-target (v .own y s)
-
-  -- and its state says whether the component is a branch, and of which node
-  data Ended (y : ℕ) : Type 0 where
-    new : 65534 ≤ st y → isBranch p k (componentAt p k y) ≡ false → Ended y
-    old : st y ≡ 2048 + under p k y → st y < 65533 → Ended y
-
-  ended : (y : ℕ) → At p k y → root y ≡ y → Ended y
-  ended y s r = by (v .state y s r)
+  named-root : (y : ℕ) → At p k y → root y ≡ y → new-st y ≡ nodeState (under p k y)
+  named-root y s r = by (ended p k c root st fa whole y s r)
     where
-      in-class : (z : ℕ) → Joined p k y z → root z ≡ y
-      in-class z j = sym (joined-root j) ∙ r
-
-      by : State p k root y (st y) → Ended y
-      by (nothing q f) = new (omega arith) (none-fork p k y s (λ z l j. f z l (in-class z j)))
-      by (several z w q l m a b d) =
-          new (omega arith)
-          (many-fork p k y z w l m
-          (joined-sym p k (subst (λ (u : ℕ). Joined p k z u) a (v .own z (low-at p l))))
-          (joined-sym p k (subst (λ (u : ℕ). Joined p k w u) b (v .own w (low-at p m))))
-          d)
-      by (single z l a q f) =
-          let j = joined-sym p k (subst (λ (u : ℕ). Joined p k z u) a (v .own z (low-at p l))) in
-          let (t, g) = one-branch p k y z (omega arith) l j (λ w m i. f w m (in-class w i)) in
-          let h = number-few p ok k low z l in
-          old (omega arith) (omega arith)
-
-  pub free-fork : (y : ℕ) → At p k y → root y ≡ y → 65534 ≤ st y → isBranch p k (componentAt p k y) ≡ false
-  free-fork y s r h = by (ended y s r)
-    where
-      by : Ended y → isBranch p k (componentAt p k y) ≡ false
-      by (new a b) = b
-      by (old a b) = absurd (omega arith)
-
-  pub fork-free : (y : ℕ) → At p k y → isBranch p k (componentAt p k y) ≡ false → root y ≡ y → 65534 ≤ st y
-  fork-free y s h r = by (v .state y s r)
-    where
-      by : State p k root y (st y) → 65534 ≤ st y
-      by (nothing q f) = omega arith
-      by (several z w q l m a b d) = omega arith
-      by (single z l a q f) =
-          let j = joined-sym p k (subst (λ (u : ℕ). Joined p k z u) a (v .own z (low-at p l))) in
-          absurd (clash (one-branch p k y z (omega arith) l j (λ w m i. f w m (sym (joined-root i) ∙ r)) .0) h)
-
-  node-test : (y : ℕ) → At p k y → root y ≡ y → 65534 ≤ st y → isNode p k y ≡ true
-  unfolding isNode
-  node-test y s r h =
-      and-both
-      (is-first p k y s (sym (root-first y s) ∙ r))
-      (not-of-false (isBranch p k (componentAt p k y)) (free-fork y s r h))
-
-  test-node : (y : ℕ) → y < places p → isNode p k y ≡ true → At p k y × (root y ≡ y) × (65534 ≤ st y)
-  unfolding isNode
-  test-node y b h =
-      let (s, q) = first-is p k y b (and-left (isFirst p k y) (not (isBranch p k (componentAt p k y))) h) in
-      let r = root-first y s ∙ q in
-      (s, r, fork-free y s (not-true (isBranch p k (componentAt p k y)) (and-right (isFirst p k y) (not (isBranch p k (componentAt p k y))) h)) r)
-
-  -- a list of some new roots that lacks one is shorter than the definition's
-  pub nodes-more :
-      (d : ℕ) (f : ℕ → ℕ) → NewRoots p k c d f root st →
-      (r : ℕ) → At p k r → root r ≡ r → 65534 ≤ st r → (Member f c d r → ⊥) → d - c < length (nodesAt p k)
-  nodes-more d f l r s q g lacks =
-      let order = l .order in
-      let all = range 0 (places p) in
-      let size = ap length (nodes-at p k) ∙ (length-map defined (node k) ∙ length-select (isNode p k) all) in
-      let part = sym (length-range c (d - c)) ∙ (sym (length-map (range c (d - c)) f) ∙ (ap length as-select ∙ length-select here all)) in
-      let less = tally-stronger here (isNode p k) all sound in
-      by-cases (ℕ-discrete (tally here all) (tally (isNode p k) all))
-      (λ e.
-      absurd
-      (lacks
-      (member-of r
-      (in-mem r listed
-      (tally-equal here (isNode p k) all sound e
-      (mem-range 0 (places p) (omega arith) (omega (arith, s .within)))
-      (node-test r s q g))))))
-      (λ e. omega arith)
-    where
-      defined : List ℕ
-      defined = select (isNode p k) (range 0 (places p))
-
-      listed : List ℕ
-      listed = map f (range c (d - c))
-
-      here : ℕ → Bool
-      here y = isIn y listed
-
-      member-of : (y : ℕ) → List·Memᴰ y listed → Member f c d y
-      member-of y m =
-          let order = l .order in
-          let (i, n, e) = Memᴰ·of-map f (range c (d - c)) m in
-          let (a, b) = range-mem c (d - c) n in
-          record { at = i; from = a; to = omega arith; is = e }
-
-      sound : (y : ℕ) → here y ≡ true → isNode p k y ≡ true
-      sound y h =
-          let t = member-of y (in-mem y listed h) in
-          subst (λ (z : ℕ). isNode p k z ≡ true) (t .is)
-          (node-test (f (t .at)) (l .place (t .at) (t .from) (t .to)) (l .fixed (t .at) (t .from) (t .to)) (l .free (t .at) (t .from) (t .to)))
-
-      within : (y : ℕ) → here y ≡ true → y < places p
-      within y h =
-          let t = member-of y (in-mem y listed h) in
-          subst (λ (z : ℕ). z < places p) (t .is) (l .place (t .at) (t .from) (t .to) .within)
-
-      as-select : listed ≡ select here (range 0 (places p))
-      as-select =
-          let order = l .order in
-          rising-equal
-          (rising-map f 0 c (d - c) (λ i a b. omega arith) (λ i j a b h. l .rising i j a b (omega arith)))
-          (rising-select here 0 (places p))
-          (λ y.
-          same-test (isIn y listed) (isIn y (select here (range 0 (places p))))
-          (λ h. mem-in y (select here (range 0 (places p))) (mem-select here (range 0 (places p)) (mem-range 0 (places p) (omega arith) (omega (arith, within y h))) h))
-          (λ h. select-mem here (range 0 (places p)) (in-mem y (select here (range 0 (places p))) h) .1))
-
-  module _ (d : ℕ) (f : ℕ → ℕ) (l : RootsListed p k c d f root st) where
-    abbrev listed : List ℕ
-    listed = map f (range c (d - c))
-
-    abbrev defined : List ℕ
-    defined = select (isNode p k) (range 0 (places p))
-
-    list-same : listed ≡ defined
-    list-same =
-        let o = l .roots .order in
-        rising-equal
-        (rising-map f 0 c (d - c) (λ i a b. omega arith) (λ i j a b q. l .roots .rising i j a b (omega arith)))
-        (rising-select (isNode p k) 0 (places p))
-        (λ y. same-test (isIn y listed) (isIn y defined) (λ h. mem-in y defined (forth y (in-mem y listed h))) (λ h. mem-in y listed (back y (in-mem y defined h))))
-      where
-        forth : (y : ℕ) → List·Memᴰ y listed → List·Memᴰ y defined
-        forth y m =
-            let o = l .roots .order in
-            let (i, n, q) = Memᴰ·of-map f (range c (d - c)) m in
-            let (a, b) = range-mem c (d - c) n in
-            let b : i < d = omega arith in
-            subst (λ (z : ℕ). List·Memᴰ z defined) q
-            (mem-select (isNode p k) (range 0 (places p))
-            (mem-range 0 (places p) (omega arith) (omega (arith, l .roots .place i a b .within)))
-            (node-test (f i) (l .roots .place i a b) (l .roots .fixed i a b) (l .roots .free i a b)))
-
-        back : (y : ℕ) → List·Memᴰ y defined → List·Memᴰ y listed
-        back y m =
-            let (n, h) = select-mem (isNode p k) (range 0 (places p)) m in
-            let b = range-mem 0 (places p) n in
-            let (s, r, g) = test-node y (omega arith) h in
-            let t = l .complete y s r g in
-            let a = t .from in
-            let w = t .to in
-            subst (λ (z : ℕ). List·Memᴰ z listed) (t .is) (Memᴰ·map f (mem-range c (d - c) a (omega arith)))
-
-    nodes-listed : nodesAt p k ≡ map (λ i. node k (f i)) (range c (d - c))
-    nodes-listed =
-        nodes-at p k ∙ (sym (ap (map (node k)) list-same) ∙ map-map (node k) f (range c (d - c)))
-
-    count-listed : length (nodesAt p k) ≡ d - c
-    count-listed =
-        ap length nodes-listed ∙ (length-map (range c (d - c)) (λ i. node k (f i)) ∙ length-range c (d - c))
-
-    module _ (n : c ≡ soFar p k) where
-      pub count-next : d ≡ soFar p (suc k)
-      count-next =
-          let o = l .roots .order in
-          let a = so-next p k in
-          let b = count-listed in
+      by : Ended p k c root st fa whole y → new-st y ≡ nodeState (under p k y)
+      by (new h b) =
+          let t = l .complete y s r h in
+          let few = so-few p (suc k) (let z = low in omega arith) in
+          let next = count-next p k c root st fa whole d f l in
+          let to = t .to in
+          let u = node-under (t .at) y (omega arith) s b r (number-new p k c root st fa whole d f l (t .at) (t .from) (t .to) ∙ ap (node k) (t .is)) in
+          let w = m .named (t .at) (t .from) (t .to) in
+          let q = ap new-st (t .is) in
           omega arith
+      by (old h b) =
+          m .others y (s .within) r (λ t. let g = l .roots .free (t .at) (t .from) (t .to) in let q = ap st (t .is) in omega arith) ∙ h
 
-      pub number-new : (i : ℕ) → c ≤ i → i < d → nodeAt p i ≡ node k (f i)
-      number-new i a b =
-          let h : i ≡ soFar p k + (i - c) = omega arith in
-          let g : c + (i - c) ≡ i = omega arith in
-          let m = count-listed in
-          ap (nodeAt p) h ∙
-          (so-at p k (i - c) low (omega arith) ∙
-          (ap (λ (ns : List Node). getD ns (i - c) (node 0 0)) nodes-listed ∙
-          (getD-map-range (λ j. node k (f j)) (node 0 0) c (d - c) (i - c) (omega arith) ∙ ap (λ (j : ℕ). node k (f j)) g)))
+  -- every place of the section has a root that says its node
+  pub named-all : (y : ℕ) → At p k y → new-st (root y) ≡ nodeState (under p k y)
+  named-all y s =
+      named-root (root y) (conn-target (v .own y s)) (v .fixed y (s .within)) ∙ ap (λ (i : ℕ). nodeState i) (sym (under-same p (v .own y s)))
 
-      count-few : d ≤ length (nodes p)
-      count-few = let a = so-few p (suc k) (omega arith) in let b = count-next in omega arith
+  father-next : (i : ℕ) → i < c → Father p k root st (fa i) i → Father p (suc k) root new-st (fb i) i
+  father-next i b (known h g) = let q = m .old i b in known (omega arith) (g ∙ ap (mapOf p) (sym q))
+  father-next i b (unmet z h g q t) =
+      let bound : i < 1600 = let a = count-few p k c root st fa whole d f l in let u = l .roots .order in let w = places-bound p (whole .ok) in omega arith in
+      let stays : new-st (root z) ≡ nodeState i =
+      m .others (root z) (conn-target (v .own z (low-at p g)) .within) (v .fixed z (g .within))
+      (λ r. let u = l .roots .free (r .at) (r .from) (r .to) in let w = ap st (r .is) in omega arith) ∙
+      t
+      in
+      let all = named-all z (low-at p g) in
+      unmet z (m .old i b ∙ h) (at-low p (low-at p g)) (beneath-next p k z ∙ omega arith) stays
 
-      module _ (new-st fb : ℕ → ℕ) (m : Numbered p c d f root st new-st fa fb) where
-        node-under : (i y : ℕ) → i < length (nodes p) → At p k y → isBranch p k (componentAt p k y) ≡ false → root y ≡ y → nodeAt p i ≡ node k y → under p k y ≡ i
-        node-under i y b s h r q =
-            let (a, g) = number-found p k y low s h in
-            under-fork p k y h ∙
-            node-equal p (numberOf p k (componentAt p k y)) i a b (g ∙ (ap (node k) (sym (root-first y s) ∙ r) ∙ sym q))
+  father-fresh : (i : ℕ) → c ≤ i → i < d → Father p (suc k) root new-st (fb i) i
+  father-fresh i a b =
+      let s = l .roots .place i a b in
+      let says : new-st (root (f i)) ≡ nodeState i = ap new-st (l .roots .fixed i a b) ∙ m .named i a b in
+      let all = named-all (f i) s in
+      unmet (f i) (m .fresh i a b) (at-low p s) (beneath-next p k (f i) ∙ omega arith) says
 
-        named-root : (y : ℕ) → At p k y → root y ≡ y → new-st y ≡ 2048 + under p k y
-        named-root y s r = by (ended y s r)
-          where
-            by : Ended y → new-st y ≡ 2048 + under p k y
-            by (new h b) =
-                let t = l .complete y s r h in
-                let few = count-few in
-                let to = t .to in
-                let u = node-under (t .at) y (omega arith) s b r (number-new (t .at) (t .from) (t .to) ∙ ap (node k) (t .is)) in
-                let w = m .named (t .at) (t .from) (t .to) in
-                let q = ap new-st (t .is) in
-                omega arith
-            by (old h b) =
-                m .others y (s .within) r (λ t. let g = l .roots .free (t .at) (t .from) (t .to) in let q = ap st (t .is) in omega arith) ∙ h
+  not-listed : (y : ℕ) → k < valueAt p y → Member f c d y → ⊥
+  not-listed y h t =
+      let s = l .roots .place (t .at) (t .from) (t .to) .low in let q = ap (valueAt p) (t .is) in omega arith
 
-        -- every place of the section has a root that says its node
-        pub named-all : (y : ℕ) → At p k y → new-st (root y) ≡ 2048 + under p k y
-        named-all y s =
-            named-root (root y) (root-at y s) (v .fixed y (s .within)) ∙ ap (λ (i : ℕ). 2048 + i) (sym (under-same p (v .own y s)))
-
-        father-next : (i : ℕ) → i < c → Father p k root st (fa i) i → Father p (suc k) root new-st (fb i) i
-        father-next i b (known h g) = let q = m .old i b in known (omega arith) (g ∙ ap (mapOf p) (sym q))
-        father-next i b (unmet z h g q t) =
-            let bound : i < 1600 = let a = v .few in let u = nodes-few p in let w = places-bound p ok in omega arith in
-            let stays : new-st (root z) ≡ 2048 + i =
-            m .others (root z) (root-at z (low-at p g) .within) (v .fixed z (g .within))
-            (λ r. let u = l .roots .free (r .at) (r .from) (r .to) in let w = ap st (r .is) in omega arith) ∙
-            t
-            in
-            let all = named-all z (low-at p g) in
-            unmet z (m .old i b ∙ h) (at-low p (low-at p g)) (beneath-next p k z ∙ omega arith) stays
-
-        father-fresh : (i : ℕ) → c ≤ i → i < d → Father p (suc k) root new-st (fb i) i
-        father-fresh i a b =
-            let s = l .roots .place i a b in
-            let says : new-st (root (f i)) ≡ 2048 + i = ap new-st (l .roots .fixed i a b) ∙ m .named i a b in
-            let all = named-all (f i) s in
-            unmet (f i) (m .fresh i a b) (at-low p s) (beneath-next p k (f i) ∙ omega arith) says
-
-        not-listed : (y : ℕ) → k < valueAt p y → Member f c d y → ⊥
-        not-listed y h t =
-            let s = l .roots .place (t .at) (t .from) (t .to) .low in let q = ap (valueAt p) (t .is) in omega arith
-
-        pub next-level : Level p (suc k) d root new-st fb
-        next-level =
-            record {
-              own =
-                  λ y s.
-                  let h = s .low in
-                  let b = s .within in
-                  by-cases (decLt k (valueAt p y))
-                  (λ q. subst (λ (z : ℕ). Joined p (suc k) y z) (sym (v .later y b q .0)) (start s))
-                  (λ q. joined-mono p (let g : k ≤ suc k = omega arith in g) (v .own y (record { within = b; low = omega arith })));
-              fixed = v .fixed;
-              first = v .first;
-              later =
-                  λ y b h.
-                  let (r, q) = v .later y b (omega arith) in
-                  (r, m .others y b r (not-listed y (omega arith)) ∙ q);
-              state =
-                  λ y s r.
-                  let b = s .within in
-                  let h = s .low in
-                  by-cases (decLt k (valueAt p y))
-                  (λ q.
-                  nothing (m .others y b r (not-listed y q) ∙ v .later y b q .1)
-                  (λ z g t.
-                  let low = conn-target (subst (λ (u : ℕ). Joined p k z u) t (v .own z (low-at-below p g))) .low in
-                  omega arith))
-                  (λ q.
-                  let t : At p k y = record { within = b; low = omega arith } in
-                  single y (at-low p t) r (named-root y t r ∙ ap (λ (i : ℕ). 2048 + i) (sym (beneath-next p k y)))
-                  (λ w g z.
-                  beneath-next p k w ∙
-                  (under-same p (subst (λ (u : ℕ). Joined p k w u) z (v .own w (low-at-below p g))) ∙ sym (beneath-next p k y))));
-              fathers =
-                  λ i b. by-cases (decLt i c) (λ h. father-next i h (v .fathers i h)) (λ h. father-fresh i (omega arith) b);
-              few = count-few;
-            }
+  pub next-level : Level p (suc k) root new-st fb
+  next-level =
+      record {
+        own =
+            λ y s.
+            let h = s .low in
+            let b = s .within in
+            by-cases (decLt k (valueAt p y))
+            (λ q. subst (λ (z : ℕ). Joined p (suc k) y z) (sym (v .later y b q .0)) (start s))
+            (λ q. joined-mono p (let g : k ≤ suc k = omega arith in g) (v .own y (record { within = b; low = omega arith })));
+        fixed = v .fixed;
+        first = v .first;
+        later =
+            λ y b h.
+            let (r, q) = v .later y b (omega arith) in
+            (r, m .others y b r (not-listed y (omega arith)) ∙ q);
+        state =
+            λ y s r.
+            let b = s .within in
+            let h = s .low in
+            by-cases (decLt k (valueAt p y))
+            (λ q.
+            nothing (m .others y b r (not-listed y q) ∙ v .later y b q .1)
+            (λ z g t.
+            let low = conn-target (class-joined v (low-at-below p g) t) .low in
+            omega arith))
+            (λ q.
+            let t : At p k y = record { within = b; low = omega arith } in
+            single y (at-low p t) r (named-root y t r ∙ ap (λ (i : ℕ). nodeState i) (sym (beneath-next p k y)))
+            (λ w g z.
+            beneath-next p k w ∙
+            (under-same p (class-joined v (low-at-below p g) z) ∙ sym (beneath-next p k y))));
+        fathers =
+            λ i b.
+            let n = whole .count in
+            let next = count-next p k c root st fa whole d f l in
+            by-cases (decLt i c) (λ h. father-next i h (v .fathers i (omega arith))) (λ h. father-fresh i (omega arith) (omega arith));
+      }
 
 -- what is passed at the end of a height is passed at the start of the next
 pub edges-next : (p : Picture) (k : ℕ) (root : ℕ → ℕ) → Edges p k (places p) root → Edges p (suc k) 0 root
-edges-next p k root e = record { same = λ y z a b t. e .same y z (back y a) (back z b) t }
-  where
-    back : (y : ℕ) → Upto p (suc k) 0 y → Upto p k (places p) y
-    back y u =
-        let b = u .within in
-        record {
-          within = b;
-          passed =
-              ⊎-elim
-              (λ h. by-cases (decLt (valueAt p y) k) (λ g. inl g) (λ g. inr (omega arith, b)))
-              (λ h. absurd (let g = h .1 in omega arith))
-              (u .passed);
-        }
-
--- before the first height every place is alone
-pub level-start : (p : Picture) (fa : ℕ → ℕ) → Level p 0 0 (λ y. y) (λ y. 65535) fa
-level-start p fa =
-    record {
-      own = λ y s. start s;
-      fixed = λ y b. refl;
-      first = λ y b. omega arith;
-      later = λ y b h. (refl, refl);
-      state = λ y s r. nothing refl (λ z l e. let h = l .less in omega arith);
-      fathers = λ i b. absurd (omega arith);
-      few = omega arith;
-    }
-
-pub edges-start : (p : Picture) (root : ℕ → ℕ) → Edges p 0 0 root
-edges-start p root =
-    record {
-      same = λ y z a b t. absurd (⊎-elim (λ h. omega arith) (λ h. let g = h .1 in omega arith) (a .passed));
-    }
+edges-next p k root e =
+    edges-upto p k (places p) (suc k) 0 root (λ y u. upto-all p k (places p) y (omega arith) (upto-next p k y u)) e

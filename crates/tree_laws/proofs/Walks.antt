@@ -9,23 +9,24 @@ use lib.ListN.{length, getD}
 use Rattle.picture.specs.Pictures.{Picture, places, valueAt}
 use Rattle.picture.specs.Geometry.{neighboursIn, Placed}
 use Rattle.topology.proofs.Accepted.{Accepted, placed}
-use Rattle.tree_laws.proofs.Levels.{Upto}
 use Rattle.lists.specs.Blocks.{UntouchedOutside}
 use Rattle.lists.proofs.Blocks.{untouched-refl, untouched-trans}
-use Rattle.tree_laws.proofs.Forests.{Found, Parents, forest-parents}
-use Rattle.tree_laws.proofs.Absorbing.{Classes, Near, near-start, near-end}
-use Rattle.tree_laws.proofs.Chains.{fathersIn, mapIn, NextOfValue, Threads, classes-skip, EdgeReady, EdgeDone}
+use Rattle.tree_laws.proofs.Levels.{upto-gap}
+use Rattle.tree_laws.proofs.Forests.{Found, Parents}
+use Rattle.tree_laws.proofs.Classes.{Classes, classes-upto}
+use Rattle.tree_laws.proofs.Joins.{Near, Edge, near-start, near-end}
+use Rattle.tree_laws.proofs.Chains.{fathersIn, mapIn, Chained, chained-same, chained-next, classes-skip, EdgeReady, EdgeDone}
 
 -- the pixels of height k before x have joined the classes; x is the next one, or beyond the picture
 pub record WalkReady (p : Picture) (k x : ℕ) (l w : List ℕ) : Type 0 where
   pub ok : Accepted p
   pub room : length w ≡ 4 * places p
   pub classes : Classes p k x l (fathersIn p w)
-  pub threads : Threads p k 0 (mapIn p w)
+  pub chained : Chained p k 0 (mapIn p w)
   pub is : x < places p → valueAt p x ≡ k
 
 -- one pixel further
-pub record Absorbed (p : Picture) (k x r : ℕ) (m w v : List ℕ) : Type 0 where
+pub record PixelJoined (p : Picture) (k x r : ℕ) (m w v : List ℕ) : Type 0 where
   pub ready : WalkReady p k r m v
   pub more : x < r
   pub block : UntouchedOutside (places p) (places p) w v
@@ -39,17 +40,13 @@ pub record Joining (p : Picture) (k x i r : ℕ) (l w v : List ℕ) : Type 0 whe
   pub block : UntouchedOutside (places p) (places p) w v
 
 pub ready-parents : {p : Picture} {k x : ℕ} {l w : List ℕ} → WalkReady p k x l w → Parents l
-ready-parents r = forest-parents (r .classes .forest)
+ready-parents r = r .classes .forest .parents
 
-pub threads-block : (p : Picture) (k x b : ℕ) (w v : List ℕ) → Threads p k x (mapIn p w) → UntouchedOutside b (places p) w v → (b + places p ≤ 2 * places p) ⊎ (3 * places p ≤ b) → Threads p k x (mapIn p v)
-threads-block p k x b w v t k′ o =
-    record {
-      mapped = λ y u. same y (u .within) ∙ t .mapped y u;
-      linked = λ y a. subst (λ (z : ℕ). NextOfValue p (valueAt p y) (suc y) z) (sym (same y (a .within))) (t .linked y a);
-    }
-  where
-    same : (y : ℕ) → y < places p → getD v (2 * places p + y) 0 ≡ getD w (2 * places p + y) 0
-    same y h = k′ .outside (2 * places p + y) (⊎-elim (λ a. inr (omega arith)) (λ a. inl (omega arith)) o)
+pub chained-block : (p : Picture) (k x b : ℕ) (w v : List ℕ) → Chained p k x (mapIn p w) → UntouchedOutside b (places p) w v → (b + places p ≤ 2 * places p) ⊎ (3 * places p ≤ b) → Chained p k x (mapIn p v)
+chained-block p k x b w v t k′ o =
+    chained-same p k x (mapIn p w) (mapIn p v)
+    (λ y h. k′ .outside (2 * places p + y) (⊎-elim (λ a. inr (omega arith)) (λ a. inl (omega arith)) o))
+    t
 
 module _ (p : Picture) (k x : ℕ) where
   pub joining-start : (r : ℕ) (l m w : List ℕ) → WalkReady p k x l w → x < places p → Found l x r m → Joining p k x 0 r m w w
@@ -62,44 +59,41 @@ module _ (p : Picture) (k x : ℕ) where
         block = untouched-refl (places p) (places p) w;
       }
 
-  pub edge-ready : (i r y : ℕ) (l w v : List ℕ) → Joining p k x i r l w v → i < length (neighboursIn p x) → y ≡ getD (neighboursIn p x) i 0 → EdgeReady (p .pixels) k x r y l v
-  edge-ready i r y l w v a b e =
+  pub edge-ready : (i r y : ℕ) (l w v : List ℕ) → Joining p k x i r l w v → Edge p x i y → EdgeReady (p .pixels) k x r y l v
+  edge-ready i r y l w v a e =
       record {
         p = p;
         j = i;
         ok = a .ok;
         room = a .room;
         is = refl;
-        edge = record { listed = b; is = e };
+        edge = e;
         near = a .near;
       }
 
   pub joining-turn :
-      (i r y q : ℕ) (l m w v u : List ℕ) → Joining p k x i r l w v → i < length (neighboursIn p x) → y ≡ getD (neighboursIn p x) i 0 →
-      EdgeDone (p .pixels) k x r y l v q m u → Joining p k x (i + 1) q m w u
-  joining-turn i r y q l m w v u a b e d =
-      let block = subst (λ (n : ℕ). UntouchedOutside n n v u) (a .near .size) (d .block) in
+      (i r y q : ℕ) (l m w v u : List ℕ) → Joining p k x i r l w v → Edge p x i y → EdgeDone (p .pixels) k x r y l v q m u →
+      Joining p k x (i + 1) q m w u
+  joining-turn i r y q l m w v u a e d =
+      let b = e .listed in
+      let block = subst (λ (n : ℕ). UntouchedOutside n n v u) (a .near .classes .size) (d .block) in
       record {
         ok = a .ok;
         room = block .size ∙ a .room;
         most = omega arith;
         near =
             subst (λ (j : ℕ). Near p k x j q m (fathersIn p u)) (sym (add-one i))
-            (d .near p i (a .ok) refl (record { listed = b; is = e }) (a .near));
+            (d .near p i (a .ok) refl e (a .near));
         block = untouched-trans (places p) (places p) w v u (a .block) block;
       }
 
   pub joining-end :
       (i r q : ℕ) (l w v o : List ℕ) → Joining p k x i r l w v → length (neighboursIn p x) ≤ i → WalkReady p k x o w →
-      q ≡ getD v (2 * places p + x) 0 → Absorbed p k x q l w v
+      q ≡ getD v (2 * places p + x) 0 → PixelJoined p k x q l w v
   joining-end i r q l w v o a b s e =
-      let t = threads-block p k 0 (places p) w v (s .threads) (a .block) (inl (omega arith)) in
+      let t = chained-block p k 0 (places p) w v (s .chained) (a .block) (inl (omega arith)) in
       let n = a .near in
-      let next =
-      subst (λ (z : ℕ). NextOfValue p k (suc x) z) (sym e)
-      (subst (λ (j : ℕ). NextOfValue p j (suc x) (getD v (2 * places p + x) 0)) (n .value)
-      (t .linked x (record { within = n .within; later = inr (n .value, omega arith) })))
-      in
+      let next = chained-next p k 0 x q (mapIn p v) t (omega arith) (n .within) (n .value) e in
       let m = a .most in
       let all : i ≡ length (neighboursIn p x) = omega arith in
       record {
@@ -110,7 +104,7 @@ module _ (p : Picture) (k x : ℕ) where
               classes =
                   classes-skip p k (suc x) q l (fathersIn p v) next
                   (near-end p (a .ok) k x r l (fathersIn p v) (subst (λ (j : ℕ). Near p k x j r l (fathersIn p v)) all n));
-              threads = t;
+              chained = t;
               is = next .is;
             };
         more = let f = next .from in omega arith;
@@ -127,17 +121,9 @@ ready-end p k x l w r b =
       ok = r .ok;
       room = r .room;
       classes =
-          record {
-            root = r .classes .root;
-            st = r .classes .st;
-            size = r .classes .size;
-            forest = r .classes .forest;
-            level = r .classes .level;
-            edges = record { same = λ y z u v t. r .classes .edges .same y z (further y u) (further z v) t };
-          };
-      threads = r .threads;
+          classes-upto p k x (places p) l (fathersIn p w)
+          (λ y u. upto-gap p k x (places p) y (λ z h g. absurd (omega arith)) u)
+          (r .classes);
+      chained = r .chained;
       is = λ h. absurd (omega arith);
     }
-  where
-    further : (y : ℕ) → Upto p k (places p) y → Upto p k x y
-    further y u = record { within = u .within; passed = ⊎-elim (λ h. inl h) (λ h. let g = h .1 in inr (h .0, omega arith)) (u .passed) }

@@ -1,2 +1,2 @@
 -- Laws of the blocks of the tree copied into lists.
-pub mod Handing
+pub mod CopiedLists

@@ -8,7 +8,7 @@ ghost use Rattle.picture.specs.Pictures.{isPicture, pictureOf};
 ghost use Rattle.picture.specs.Trees.{treeOf};
 ghost use Rattle.lists.specs.Lists.{over};
 ghost use Rattle.lists.proofs.Copies.{Copied};
-ghost use Rattle.tree_lists.specs.Lists.{Bytes, Rooms, Handed};
+ghost use Rattle.tree_lists.specs.Lists.{Bytes, ListsRoom, TreeHanded};
 
 // Copies m entries from b on to the front of a list.
 fn copy(from: &[u16], b: usize, to: &mut [u16], m: usize)
@@ -46,8 +46,8 @@ pub fn build_lists(
     map: &mut [u16],
     work: &mut [u16],
 ) -> usize
-    requires { ⌜ (isPicture (pictureOf a w h (now pixels)) ≡ true) × Rooms (w * h) (now heights) (now fathers) (now firsts) (now map) (now work) ⌝ }
-    ensures { λ r. ⌜ Handed (pictureOf a w h (now (pixels .entry))) r (now (work .entry)) (now (work .exit)) ⌝ }
+    requires { ⌜ (isPicture (pictureOf a w h (now pixels)) ≡ true) × ListsRoom (w * h) (now heights) (now fathers) (now firsts) (now map) (now work) ⌝ }
+    ensures { λ r. ⌜ TreeHanded (pictureOf a w h (now (pixels .entry))) r (now (work .entry)) (now (work .exit)) ⌝ }
     ensures { λ _. ⌜ now (heights .exit) ≡ over (treeOf (pictureOf a w h (now (pixels .entry))) .heights) (now (heights .entry)) ⌝ }
     ensures { λ _. ⌜ now (fathers .exit) ≡ over (treeOf (pictureOf a w h (now (pixels .entry))) .fathers) (now (fathers .entry)) ⌝ }
     ensures { λ _. ⌜ now (firsts .exit) ≡ over (treeOf (pictureOf a w h (now (pixels .entry))) .firsts) (now (firsts .entry)) ⌝ }

@@ -1,15 +1,15 @@
-// Union-find in cells: a cell below NODES is a parent, a smaller place; one from NODES on marks a root with its state.
+// Union-find in cells: a cell below FIRST_NODE is a parent, a smaller place; one from FIRST_NODE on marks a root with its state.
 use cells::value;
 use cells::wide;
 ghost use mathlib.Core.Logic.{_≢_};
 ghost use Prim.Native.Nat.{_<_, _≤_, _+_, _*_};
 ghost use lib.ListN.{length, getD};
 ghost use Rattle.tree_laws.proofs.Chains.{Comes};
-ghost use Rattle.tree_laws.proofs.Forests.{Parents, Split, Found, Hung};
+ghost use Rattle.tree_laws.proofs.Forests.{Parents, Split, Found, Linked};
 ghost use Rattle.tree_laws.proofs.Marks.{Marked, Names, MergedIn, LinkedIn};
 
-// The states of a root: NODES + i where one node i is beneath, and three marks. The laws write the numbers.
-pub const NODES: u16 = 2048;
+// The states of a root: FIRST_NODE + i where one node i is beneath, and three marks.
+pub const FIRST_NODE: u16 = 2048;
 
 // The root of a new node, in the list of its height.
 pub const LISTED: u16 = 65533;
@@ -27,7 +27,7 @@ fn split(cells: &mut [u16], x: usize) -> usize
 {
     let up = wide(cells[x]);
     let above = cells[up];
-    if above < NODES {
+    if above < FIRST_NODE {
         cells[x] = above;
         return up;
     }
@@ -40,7 +40,7 @@ pub fn find(cells: &mut [u16], x: usize) -> usize
     ensures { λ r. ⌜ Found (now (cells .entry)) x r (now (cells .exit)) ⌝ }
 {
     let mut i = x;
-    while cells[i] < NODES {
+    while cells[i] < FIRST_NODE {
         i = split(cells, i);
     }
     i
@@ -52,7 +52,7 @@ fn mark(work: &mut [u16], n: usize, state: u16, x: usize)
     ensures { λ _. ⌜ Marked n state x (now (work .entry)) (now (work .exit)) ⌝ }
 {
     if state < SEVERAL {
-        work[n + wide(state - NODES)] = x as u16;
+        work[n + wide(state - FIRST_NODE)] = x as u16;
     }
 }
 
@@ -72,10 +72,10 @@ fn merge(work: &mut [u16], n: usize, a: u16, b: u16, x: usize) -> u16
     SEVERAL
 }
 
-// Hangs the greater of two roots below the smaller, which gets the state, and answers the smaller.
-pub fn hang(cells: &mut [u16], q: usize, r: usize, state: u16) -> usize
+// Links the greater of two roots below the smaller, which gets the state, and answers the smaller.
+pub fn link(cells: &mut [u16], q: usize, r: usize, state: u16) -> usize
     requires { ⌜ (q ≢ r) × (q < length (now cells)) × (r < length (now cells)) × (length (now cells) ≤ 1600) ⌝ }
-    ensures { λ lo. ⌜ Hung q r state (now (cells .entry)) (now (cells .exit)) lo ⌝ }
+    ensures { λ lo. ⌜ Linked q r state (now (cells .entry)) (now (cells .exit)) lo ⌝ }
 {
     if q < r {
         cells[r] = q as u16;
@@ -96,7 +96,7 @@ pub fn join(work: &mut [u16], cells: &mut [u16], q: usize, r: usize, x: usize) -
 {
     let n = cells.len();
     let state = merge(work, n, cells[q], cells[r], x);
-    hang(cells, q, r, state)
+    link(cells, q, r, state)
 }
 
 // The place y comes before the place x of value k: by value, then by place.

@@ -12,17 +12,15 @@ use lib.ListN.{length, getD}
 use Rattle.lists.specs.Blocks.{Filled}
 use Rattle.lists.proofs.Blocks.{overwritten-entry}
 use Rattle.picture.specs.Pictures.{Picture, places, isPicture}
-use Rattle.lists.proofs.Tests.{clash}
 use Rattle.topology.proofs.Accepted.{accepted-is, byte-at, places-bound}
 use Rattle.topology.proofs.Nodes.{nodes-few}
 use Rattle.topology.proofs.Descent.{under-is}
-use Rattle.tree_laws.proofs.Levels.{Level}
 use Rattle.tree_laws.proofs.Counts.{so-none}
-use Rattle.tree_laws.proofs.Numbering.{level-start, edges-start}
-use Rattle.tree_laws.proofs.Checks.{Checking}
-use Rattle.tree_laws.proofs.Looks.{Passed}
-use Rattle.verify.specs.Checked.{Says}
-use Rattle.verify_nodes.specs.Steps.{SameHeights, Counted, Matched, CountReady, NodesChecked, LentMapReady, MapChecked}
+use Rattle.tree_laws.proofs.Classes.{classes-start}
+use Rattle.tree_laws.proofs.Checks.{Differs, Checking}
+use Rattle.tree_laws.proofs.Decided.{yes, never, decided-yes, decided-never}
+use Rattle.verify.specs.Checked.{IsTreeAnswer}
+use Rattle.verify_nodes.specs.NodeChecks.{SameHeights, Counted, Matched, CountReady, NodesChecked, LentMapReady, MapChecked}
 use Rattle.verify.specs.Heights.{ListsLong, Verified, LevelChecked}
 use Rattle.verify_nodes.proofs.Counted.{counted-start}
 use Rattle.verify_nodes.proofs.Matched.{matched-start}
@@ -32,28 +30,12 @@ module _ (p : Picture) (count : ℕ) (hs fs ss m : List ℕ) where
   pub verified-start : (n : ℕ) (o l : List ℕ) → isPicture p ≡ true → length o ≡ places p → Filled 0 n 65535 o l → n ≡ places p → Verified p 0 0 count l hs fs ss m
   verified-start n o l ok size f e =
       let same = f .kept .size in
-      let none = overwritten-entry f in
       record {
         checking =
             record {
               ok = accepted-is p ok;
               fa = λ j. 65535;
-              classes =
-                  record {
-                    root = λ y. y;
-                    st = λ y. 65535;
-                    size = same ∙ size;
-                    forest =
-                        record {
-                          below = λ y c. omega arith;
-                          less = λ y c h. absurd (let a = none y (omega arith) in omega arith);
-                          up = λ y c h. absurd (let a = none y (omega arith) in omega arith);
-                          top = λ y c h. refl;
-                          state = λ y c h. none y (omega arith);
-                        };
-                    level = subst (λ (c : ℕ). Level p 0 c (λ y. y) (λ y. 65535) (λ j. 65535)) (sym (so-none p)) (level-start p (λ j. 65535));
-                    edges = edges-start p (λ y. y);
-                  };
+              classes = classes-start p l (λ j. 65535) (same ∙ size) (λ y h. overwritten-entry f y (omega arith));
               agree = record { same = λ j h. inl refl };
             };
         number = sym (so-none p);
@@ -64,20 +46,11 @@ module _ (p : Picture) (count : ℕ) (hs fs ss m : List ℕ) where
       }
 
   module _ (k c : ℕ) (l : List ℕ) (v : Verified p k c count l hs fs ss m) where
-    pub level-differs : (z : ℕ) (o : List ℕ) (x : ℕ) (b : Bool) → z ≡ count + 1 → Passed p k x o fs m b → b ≡ false → LevelChecked p k count o hs fs ss m z
-    level-differs z o x b e s q =
-        record {
-          yes = λ h. absurd (omega arith);
-          never = λ h t. differs-tree p count hs fs ss m (s .never q) t;
-        }
+    pub level-differs : (z : ℕ) (o : List ℕ) → z ≡ count + 1 → Differs p fs m → LevelChecked p k count o hs fs ss m z
+    level-differs z o e d =
+        record { yes = λ h. absurd (omega arith); never = λ h t. differs-tree p count hs fs ss m d t }
 
-    module _ (low : k < 256) (o : List ℕ) (x : ℕ) (b : Bool) (s : Passed p k x o fs m b) (q : b ≡ true) (all : x ≡ places p) where
-      checked : Checking p k (places p) o fs m
-      checked = subst (λ (z : ℕ). Checking p k z o fs m) all (s .yes q)
-
-      pub level-size : length o ≡ places p
-      level-size = s .yes q .classes .size
-
+    module _ (low : k < 256) (o : List ℕ) (checked : Checking p k (places p) o fs m) where
       counted : Counted p k c c o fs ss m
       counted = counted-start p k c o fs ss m (omega arith) (v .number) checked
 
@@ -87,77 +60,69 @@ module _ (p : Picture) (count : ℕ) (hs fs ss m : List ℕ) where
       module _ (d : ℕ) (run : SameHeights k c d count hs) (u : List ℕ) (a : Bool) (n : NodesChecked (p .pixels) k c d o ss u a) where
         pub level-nodes : (z : ℕ) → z ≡ count + 1 → a ≡ false → LevelChecked p k count u hs fs ss m z
         level-nodes z e g =
-            record { yes = λ h. absurd (omega arith); never = λ h t. n .never g p fs m refl counted count hs run t }
+            record { yes = λ h. absurd (omega arith); never = λ h t. decided-never g n p fs m refl counted count hs run t }
 
         module _ (g : a ≡ true) where
           matched : Matched p k c d 0 u fs ss m
-          matched = matched-start p k c d u fs ss m (n .yes g p fs m refl counted)
+          matched = matched-start p k c d u fs ss m (decided-yes g n p fs m refl counted)
 
           pub level-map : LentMapReady (p .pixels) k 0 u m
           level-map = record { p = p; c = c; d = d; fs = fs; ss = ss; is = refl; matched = matched }
 
           pub level-same : length u ≡ places p
-          level-same = n .yes g p fs m refl counted .size
+          level-same = matched .counted .cells .size
 
-          pub level-mapped : (w : List ℕ) (i : Bool) (z : ℕ) → MapChecked (p .pixels) k 0 (length u) u m w i → i ≡ false → z ≡ count + 1 → LevelChecked p k count w hs fs ss m z
-          level-mapped w i z t h e =
-              record {
-                yes = λ r. absurd (omega arith);
-                never = λ r tree. t .never h p c d fs ss refl matched count hs run tree;
-              }
+          module _ (w : List ℕ) (i : Bool) (t : MapChecked (p .pixels) k 0 (length u) u m w i) where
+            pub level-mapped : (z : ℕ) → i ≡ false → z ≡ count + 1 → LevelChecked p k count w hs fs ss m z
+            level-mapped z h e =
+                record {
+                  yes = λ r. absurd (omega arith);
+                  never = λ r tree. decided-never h t p c d fs ss refl matched count hs run tree;
+                }
 
-          pub level-done : (w : List ℕ) (i : Bool) → MapChecked (p .pixels) k 0 (length u) u m w i → i ≡ true → LevelChecked p k count w hs fs ss m d
-          level-done w i t h =
-              record {
-                yes =
-                    λ r.
-                    subst (λ (j : ℕ). Verified p j d count w hs fs ss m) (sym (add-one k))
-                    (verified-next p k c d count l w hs fs ss m v run (length u) (t .yes h p c d fs ss refl matched)
-                    (let z = level-same in omega arith));
-                never = λ r. absurd (let z = run .most in omega arith);
-              }
+            pub level-done : i ≡ true → LevelChecked p k count w hs fs ss m d
+            level-done h =
+                record {
+                  yes =
+                      λ r.
+                      subst (λ (j : ℕ). Verified p j d count w hs fs ss m) (sym (add-one k))
+                      (verified-next p k c d count l w hs fs ss m v run (length u) (decided-yes h t p c d fs ss refl matched)
+                      (let z = level-same in omega arith));
+                  never = λ r. absurd (let z = run .most in omega arith);
+                }
 
 -- the answer
 module _ (p : Picture) (count : ℕ) (hs fs ss m : List ℕ) where
-  pub says-none : isPicture p ≡ true → count ≡ 0 → Says p count hs fs ss m false
-  says-none ok e =
-      record {
-        yes = λ q. absurd (clash q refl);
-        never =
-            λ q t.
-            let a = accepted-is p ok in
-            let some = under-is p 255 0 (omega arith) (record { within = mul-pos (a .some) (a .tall); low = byte-at (p .pixels) (a .bytes) 0 }) .number in
-            let total = t .total in
-            omega arith;
-      }
+  pub answer-none : isPicture p ≡ true → count ≡ 0 → IsTreeAnswer p count hs fs ss m false
+  answer-none ok e =
+      never
+      (λ t.
+      let a = accepted-is p ok in
+      let some = under-is p 255 0 (omega arith) (record { within = mul-pos (a .some) (a .tall); low = byte-at (p .pixels) (a .bytes) 0 }) .number in
+      let total = t .total in
+      omega arith)
 
-  pub says-many : places p < count → Says p count hs fs ss m false
-  says-many h =
-      record { yes = λ q. absurd (clash q refl); never = λ q t. let total = t .total in let few = nodes-few p in omega arith }
+  pub answer-many : places p < count → IsTreeAnswer p count hs fs ss m false
+  answer-many h = never (λ t. let total = t .total in let few = nodes-few p in omega arith)
 
   module _ (l : List ℕ) (c : ℕ) (s : LevelChecked p 255 count l hs fs ss m c) where
-    pub says-count : c ≢ count → Says p count hs fs ss m false
-    says-count d =
-        record {
-          yes = λ q. absurd (clash q refl);
-          never =
-              λ q t.
-              by-cases (decLt count c)
-              (λ h. s .never h t)
-              (λ h. d (tree-ends p c count l hs fs ss m (s .yes (omega arith)) t .0));
-        }
+    pub answer-count : c ≢ count → IsTreeAnswer p count hs fs ss m false
+    answer-count d =
+        never
+        (λ t.
+        by-cases (decLt count c)
+        (λ h. s .never h t)
+        (λ h. d (tree-ends p c count l hs fs ss m (s .yes (omega arith)) t .0)))
 
     module _ (e : c ≡ count) where
       verified : Verified p 256 count count l hs fs ss m
       verified = subst (λ (z : ℕ). Verified p 256 z count l hs fs ss m) e (s .yes (omega arith))
 
-      pub says-father : getD fs (count - 1) 0 ≢ 65535 → Says p count hs fs ss m false
-      says-father d =
-          record { yes = λ q. absurd (clash q refl); never = λ q t. d (tree-ends p count count l hs fs ss m verified t .1) }
+      pub answer-father : getD fs (count - 1) 0 ≢ 65535 → IsTreeAnswer p count hs fs ss m false
+      answer-father d = never (λ t. d (tree-ends p count count l hs fs ss m verified t .1))
 
-      pub says-tree : getD fs (count - 1) 0 ≡ 65535 → Says p count hs fs ss m true
-      says-tree q =
-          record { yes = λ z. verified-tree p count l hs fs ss m verified q; never = λ z. absurd (clash refl z) }
+      pub answer-tree : getD fs (count - 1) 0 ≡ 65535 → IsTreeAnswer p count hs fs ss m true
+      answer-tree q = yes (verified-tree p count l hs fs ss m verified q)
 
 pub lists-long-at : (n : ℕ) (xs hs fs ss m o l : List ℕ) → length l ≡ length o → ListsLong n xs hs fs ss m o → ListsLong n xs hs fs ss m l
 lists-long-at n xs hs fs ss m o l e s =

@@ -17,11 +17,11 @@ use Rattle.topology.proofs.Nodes.{nodes-few}
 use Rattle.topology.proofs.Descent.{under, map-under, under-is}
 use Rattle.topology.proofs.Climb.{root-is, last-root}
 use Rattle.tree_laws.proofs.Counts.{so-all}
-use Rattle.tree_laws.proofs.Numbering.{Member, joined-root, free-fork}
+use Rattle.tree_laws.proofs.NewRoots.{Member, joined-root, free-fork}
 use Rattle.tree_laws.proofs.LastFathers.{LastFather, missing, pixel, last-father}
 use Rattle.tree_laws.proofs.Checks.{Differs}
 use Rattle.lent_tree.specs.Lent.{HoldsTree}
-use Rattle.verify_nodes.specs.Steps.{SameHeights, Matched}
+use Rattle.verify_nodes.specs.NodeChecks.{SameHeights, Matched}
 use Rattle.verify.specs.Heights.{Verified}
 use Rattle.verify_nodes.proofs.Matched.{says, count-is, node-new, checking-next}
 
@@ -33,16 +33,17 @@ differs-tree p count hs fs ss m d t =
 -- the lent map of a whole height agrees: its list of roots is complete
 matched-complete :
     (p : Picture) (k c d x : ℕ) (l fs ss m : List ℕ) (s : Matched p k c d x l fs ss m) → places p ≤ x →
-    (y : ℕ) → At p k y → s .counted .root y ≡ y → 65534 ≤ s .counted .st y → Member (λ j. getD ss j 0) c d y
+    (y : ℕ) → At p k y → s .counted .cells .root y ≡ y → 65534 ≤ s .counted .cells .st y → Member (λ j. getD ss j 0) c d y
 matched-complete p k c d x l fs ss m s h y at r g =
-    let q = s .counted in
-    let fork = free-fork p (q .ok) k c (q .low) (q .root) (q .st) (q .fa) (q .level) (q .edges) y at r g in
+    let a = s .counted in
+    let q = a .cells in
+    let fork = free-fork p k c (q .root) (q .st) (a .fa) (q .joined) y at r g in
     let (z, j, v) = own-pixel p k y at fork in
-    let e = joined-root p (q .ok) k c (q .low) (q .root) (q .st) (q .fa) (q .level) (q .edges) j in
+    let e = joined-root p k c (q .root) (q .st) (a .fa) (q .joined) j in
     let b = conn-target j .within in
     let few = s .few z b v (omega arith) in
-    let is = ap (q .new) (sym e ∙ r) in
-    ⊎-elim (λ t. t) (λ t. absurd (omega arith)) (q .either y (at .within) r)
+    let is = ap (q .marks) (sym e ∙ r) in
+    ⊎-elim (λ t. t) (λ t. absurd (omega arith)) (a .either y (at .within) r)
 
 -- the next height
 pub verified-next :

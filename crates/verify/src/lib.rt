@@ -11,7 +11,7 @@ ghost use mathlib.Core.Bool.{true};
 ghost use Prim.Native.Nat.{_<_, _≤_, _+_, _*_};
 ghost use lib.ListN.{length};
 ghost use Rattle.picture.specs.Pictures.{isPicture, pictureOf};
-ghost use Rattle.verify.specs.Checked.{Says};
+ghost use Rattle.verify.specs.Checked.{IsTreeAnswer};
 ghost use Rattle.verify.specs.Heights.{ListsLong, Verified, LevelChecked};
 
 // The height k: answers the number of nodes up to it, or more than the count if the lists are not the tree.
@@ -104,7 +104,7 @@ pub fn is_tree(
 ) -> bool
     requires { ⌜ isPicture (pictureOf a w h (now pixels)) ≡ true ⌝ }
     requires { ⌜ (w * h ≤ length (now cells)) × (w * h ≤ length (now heights)) × (w * h ≤ length (now fathers)) × (w * h ≤ length (now firsts)) × (w * h ≤ length (now map)) ⌝ }
-    ensures { λ r. ⌜ Says (pictureOf a w h (now (pixels .entry))) count (now (heights .entry)) (now (fathers .entry)) (now (firsts .entry)) (now (map .entry)) r ⌝ }
+    ensures { λ r. ⌜ IsTreeAnswer (pictureOf a w h (now (pixels .entry))) count (now (heights .entry)) (now (fathers .entry)) (now (firsts .entry)) (now (map .entry)) r ⌝ }
 {
     let n = w as usize * h as usize;
     if count == 0 {

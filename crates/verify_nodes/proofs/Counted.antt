@@ -7,60 +7,53 @@ use Prim.Native.Nat.{ℕ, suc, _+_, _-_, _≤_, _<_}
 use native.Mathlib.Numerals.{add-one}
 use native.Mathlib.Decide.{ℕ-discrete}
 use native.Mathlib.Omega.{arith}
-use lib.ListN.{length, getD, set, length-set}
+use lib.ListN.{length, getD, set}
 use Rattle.picture.specs.Pictures.{Picture, places}
 use Rattle.picture.specs.Components.{componentAt}
 use Rattle.picture.specs.Trees.{isBranch, nodes, nodeAt}
 use Rattle.topology.proofs.Adjacency.{At}
 use Rattle.topology.proofs.Reached.{firstAt}
 use Rattle.topology.proofs.Nodes.{node-is}
-use Rattle.lists.proofs.Updates.{put, put-same, put-other}
-use Rattle.tree_laws.proofs.Levels.{Level}
-use Rattle.tree_laws.proofs.Counts.{soFar}
-use Rattle.tree_laws.proofs.Numbering.{roots-none, root-first, fork-free}
-use Rattle.tree_laws.proofs.Forests.{root-cell, forest-state}
+use Rattle.lists.proofs.Updates.{put-same, put-other}
+use Rattle.tree_laws.proofs.Counts.{soFar, firsts-rise}
+use Rattle.tree_laws.proofs.NewRoots.{roots-none, root-first, fork-free}
+use Rattle.tree_laws.proofs.Forests.{root-cell}
+use Rattle.tree_laws.proofs.Classes.{MarkedClasses, marks-set}
 use Rattle.tree_laws.proofs.Checks.{Checking}
 use Rattle.lent_tree.specs.Lent.{HoldsTree}
-use Rattle.verify_nodes.specs.Steps.{SameHeights, Counted, NodeFits}
-use Rattle.verify_nodes.proofs.Places.{firsts-rise}
+use Rattle.verify_nodes.specs.NodeChecks.{SameHeights, Counted, NodeFits}
+use Rattle.tree_laws.proofs.States.{nodeState, severalState}
 
 pub counted-start : (p : Picture) (k c : ℕ) (l fs ss m : List ℕ) → k ≤ 255 → c ≡ soFar p k → Checking p k (places p) l fs m → Counted p k c c l fs ss m
 counted-start p k c l fs ss m low e s =
     record {
-      ok = s .ok;
-      low = low;
-      count = e;
       fa = s .fa;
       agree = s .agree;
-      root = s .classes .root;
-      st = s .classes .st;
-      new = s .classes .st;
-      size = s .classes .size;
-      forest = s .classes .forest;
-      level = subst (λ (j : ℕ). Level p k j (s .classes .root) (s .classes .st) (s .fa)) (sym e) (s .classes .level);
-      edges = s .classes .edges;
+      cells =
+          record {
+            root = s .classes .root;
+            st = s .classes .st;
+            marks = s .classes .st;
+            size = s .classes .size;
+            forest = s .classes .forest;
+            joined = record { ok = s .ok; low = low; count = e; level = s .classes .level; edges = s .classes .edges };
+          };
       roots = roots-none p k c (λ j. getD ss j 0) (s .classes .root) (s .classes .st);
       named = λ j h g. absurd (omega arith);
       either = λ y b r. inr refl;
     }
 
 module _ (p : Picture) (k c i : ℕ) (l fs ss m : List ℕ) (s : Counted p k c i l fs ss m) where
-  pub counted-turn : i < 1600 → NodeFits p k c i l ss → Counted p k c (i + 1) (set l (getD ss i 0) (2048 + i)) fs ss m
+  abbrev cs : MarkedClasses p k c l (s .fa)
+  cs = s .cells
+
+  pub counted-turn : i < 1600 → NodeFits p k c i l ss → Counted p k c (i + 1) (set l (getD ss i 0) (nodeState i)) fs ss m
   counted-turn few t =
-      subst (λ (z : ℕ). Counted p k c z (set l r (2048 + i)) fs ss m) (sym (add-one i))
+      subst (λ (z : ℕ). Counted p k c z (set l r (nodeState i)) fs ss m) (sym (add-one i))
       (record {
-        ok = s .ok;
-        low = s .low;
-        count = s .count;
         fa = s .fa;
         agree = s .agree;
-        root = s .root;
-        st = s .st;
-        new = put (s .new) r (2048 + i);
-        size = length-set l r (2048 + i) ∙ s .size;
-        forest = forest-state l r (2048 + i) (s .root) (s .new) (s .forest) inside root-r (omega arith);
-        level = s .level;
-        edges = s .edges;
+        cells = marks-set p k c l (s .fa) cs r (nodeState i) (t .within) root-r (omega arith);
         roots =
             record {
               order = let o = s .roots .order in omega arith;
@@ -70,16 +63,16 @@ module _ (p : Picture) (k c i : ℕ) (l fs ss m : List ℕ) (s : Counted p k c i
                   (λ e. subst (λ (z : ℕ). getD ss a 0 < getD ss z 0) (sym e) (below a h (omega arith)))
                   (λ e. s .roots .rising a b h g (omega arith));
               place = each (At p k) (record { within = t .within; low = t .low }) (s .roots .place);
-              fixed = each (λ y. s .root y ≡ y) root-r (s .roots .fixed);
-              free = each (λ y. 65534 ≤ s .st y) free-r (s .roots .free);
+              fixed = each (λ y. cs .root y ≡ y) root-r (s .roots .fixed);
+              free = each (λ y. severalState ≤ cs .st y) free-r (s .roots .free);
             };
         named =
             λ j h g.
             by-cases (ℕ-discrete j i)
-            (λ e. put-same (s .new) r (2048 + i) (getD ss j 0) (ap (λ (z : ℕ). getD ss z 0) e) ∙ ap (λ (z : ℕ). 2048 + z) (sym e))
+            (λ e. put-same (cs .marks) r (nodeState i) (getD ss j 0) (ap (λ (z : ℕ). getD ss z 0) e) ∙ ap (λ (z : ℕ). nodeState z) (sym e))
             (λ e.
             let q = below j h (omega arith) in
-            put-other (s .new) r (2048 + i) (getD ss j 0) (λ z. omega (arith, q, z)) ∙ s .named j h (omega arith));
+            put-other (cs .marks) r (nodeState i) (getD ss j 0) (λ z. omega (arith, q, z)) ∙ s .named j h (omega arith));
         either =
             λ y b q.
             by-cases (ℕ-discrete y r)
@@ -87,7 +80,7 @@ module _ (p : Picture) (k c i : ℕ) (l fs ss m : List ℕ) (s : Counted p k c i
             (λ e.
             ⊎-elim
             (λ z. let to = z .to in inl (record { at = z .at; from = z .from; to = omega arith; is = z .is }))
-            (λ z. inr (put-other (s .new) r (2048 + i) y e ∙ z))
+            (λ z. inr (put-other (cs .marks) r (nodeState i) y e ∙ z))
             (s .either y b q));
       })
     where
@@ -95,21 +88,21 @@ module _ (p : Picture) (k c i : ℕ) (l fs ss m : List ℕ) (s : Counted p k c i
       r = getD ss i 0
 
       inside : getD ss i 0 < length l
-      inside = let a = t .within in let b = s .size in omega arith
+      inside = let a = t .within in let b = cs .size in omega arith
 
-      root-r : s .root (getD ss i 0) ≡ getD ss i 0
-      root-r = s .forest .top (getD ss i 0) inside (let a = t .free in omega arith)
+      root-r : cs .root (getD ss i 0) ≡ getD ss i 0
+      root-r = cs .forest .top (getD ss i 0) inside (let a = t .free in omega arith)
 
-      new-r : 65534 ≤ s .new (getD ss i 0)
-      new-r = let a = t .free in let b = s .forest .state (getD ss i 0) inside (omega arith) in omega arith
+      new-r : severalState ≤ cs .marks (getD ss i 0)
+      new-r = let a = t .free in let b = cs .forest .state (getD ss i 0) inside (omega arith) in omega arith
 
-      free-r : 65534 ≤ s .st (getD ss i 0)
+      free-r : severalState ≤ cs .st (getD ss i 0)
       free-r =
           let a = new-r in
           ⊎-elim
           (λ z.
           absurd
-          (let b = s .named (z .at) (z .from) (z .to) in let e = ap (s .new) (z .is) in let to = z .to in omega arith))
+          (let b = s .named (z .at) (z .from) (z .to) in let e = ap (cs .marks) (z .is) in let to = z .to in omega arith))
           (λ z. omega arith)
           (s .either (getD ss i 0) (t .within) root-r)
 
@@ -148,8 +141,8 @@ module _ (p : Picture) (k c i : ℕ) (l fs ss m : List ℕ) (s : Counted p k c i
         let fork : isBranch p k (componentAt p k (getD ss i 0)) ≡ false =
         ap (λ (y : ℕ). isBranch p k (componentAt p k y)) fi ∙
         (ap (λ (j : ℕ). isBranch p j (componentAt p j (nodeAt p i .first))) (sym hk) ∙ n .fork) in
-        let root = root-first p (s .ok) k c (s .low) (s .root) (s .st) (s .fa) (s .level) (s .edges) (getD ss i 0) at ∙ first in
-        let free = fork-free p (s .ok) k c (s .low) (s .root) (s .st) (s .fa) (s .level) (s .edges) (getD ss i 0) at fork root in
+        let root = root-first p k c (cs .root) (cs .st) (s .fa) (cs .joined) (getD ss i 0) at ∙ first in
+        let free = fork-free p k c (cs .root) (cs .st) (s .fa) (cs .joined) (getD ss i 0) at fork root in
         record {
           within = at .within;
           low = at .low;
@@ -159,15 +152,15 @@ module _ (p : Picture) (k c i : ℕ) (l fs ss m : List ℕ) (s : Counted p k c i
       where
         rises : (j : ℕ) → c ≤ j → j < i → getD ss j 0 < getD ss i 0
         rises j h g =
-            let a = firsts-rise p k j i g number (height-is j h (omega arith)) (height-is i (s .roots .order) below) in
+            let a = firsts-rise p j i g number (height-is j h (omega arith) ∙ sym (height-is i (s .roots .order) below)) in
             let b = first-is j (omega arith) in
             let e = first-is i below in
             omega arith
 
-        cell : At p k (getD ss i 0) → s .root (getD ss i 0) ≡ getD ss i 0 → 65534 ≤ s .st (getD ss i 0) → 65534 ≤ getD l (getD ss i 0) 0
+        cell : At p k (getD ss i 0) → cs .root (getD ss i 0) ≡ getD ss i 0 → severalState ≤ cs .st (getD ss i 0) → severalState ≤ getD l (getD ss i 0) 0
         cell at r f =
-            let inside : getD ss i 0 < length l = let a = at .within in let b = s .size in omega arith in
-            let e = s .forest .state (getD ss i 0) inside (root-cell (s .forest) (getD ss i 0) inside r) in
+            let inside : getD ss i 0 < length l = let a = at .within in let b = cs .size in omega arith in
+            let e = cs .forest .state (getD ss i 0) inside (root-cell (cs .forest) (getD ss i 0) inside r) in
             ⊎-elim
             (λ z. absurd (let g = rises (z .at) (z .from) (z .to) in let h = z .is in omega arith))
             (λ z. omega arith)

@@ -1,5 +1,4 @@
 -- Laws of the checks of the nodes and of the map of a height.
-pub mod Places
 pub mod Counted
 pub mod Matched
-pub mod Steps
+pub mod NodeChecks

@@ -1,5 +1,5 @@
 -- The lent map of a height is checked against the numbers of its roots; then the next height.
-use mathlib.Core.Path.{_≡_, sym, ap, subst, _∙_}
+use mathlib.Core.Path.{_≡_, sym, ap, _∙_}
 use mathlib.Core.Bool.{Bool}
 use mathlib.Core.Logic.{inl, inr, ⊎-elim, by-cases, _≢_}
 use mathlib.Core.List.{List}
@@ -9,6 +9,7 @@ use native.Mathlib.Omega.{arith}
 use lib.Dec.{ltb}
 use lib.ListN.{length, getD}
 use borrow.Author.Tests.{lt-ltb, le-ltb}
+use borrow.Author.Count.{below-more}
 use Rattle.lists.specs.Lists.{pick}
 use Rattle.picture.specs.Pictures.{Picture, places, valueAt}
 use Rattle.picture.specs.Components.{componentAt}
@@ -17,14 +18,15 @@ use Rattle.topology.proofs.Adjacency.{At}
 use Rattle.topology.proofs.Accepted.{places-bound}
 use Rattle.topology.proofs.Nodes.{node, number-found, nodes-few, heights-rise}
 use Rattle.topology.proofs.Descent.{under, map-under, map-found}
-use Rattle.tree_laws.proofs.Levels.{Level}
-use Rattle.tree_laws.proofs.Counts.{soFar}
-use Rattle.tree_laws.proofs.Numbering.{Member, RootsListed, Numbered, root-first, free-fork, number-new, count-next, next-level, named-all, edges-next}
-use Rattle.tree_laws.proofs.Forests.{Found}
+use Rattle.tree_laws.proofs.Counts.{soFar, height-least, height-below}
+use Rattle.tree_laws.proofs.NewRoots.{Member, RootsListed, root-first, free-fork, number-new, count-next}
+use Rattle.tree_laws.proofs.Numbering.{Numbered, next-level, named-all, edges-next}
+use Rattle.tree_laws.proofs.Forests.{Found, found-root, found-state}
+use Rattle.tree_laws.proofs.Classes.{MarkedClasses, marks-found}
 use Rattle.tree_laws.proofs.Checks.{Checking}
 use Rattle.lent_tree.specs.Lent.{HoldsTree}
-use Rattle.verify_nodes.specs.Steps.{SameHeights, Counted, Matched}
-use Rattle.verify_nodes.proofs.Places.{height-least, before-is}
+use Rattle.verify_nodes.specs.NodeChecks.{SameHeights, Counted, Matched}
+use Rattle.tree_laws.proofs.States.{nodeState, severalState}
 
 pub matched-start : (p : Picture) (k c d : ℕ) (l fs ss m : List ℕ) → Counted p k c d l fs ss m → Matched p k c d 0 l fs ss m
 matched-start p k c d l fs ss m s =
@@ -47,44 +49,31 @@ module _ (p : Picture) (k c d x r : ℕ) (l o fs ss m : List ℕ) (s : Matched p
   moved =
       let g = s .counted in
       record {
-        ok = g .ok;
-        low = g .low;
-        count = g .count;
         fa = g .fa;
         agree = g .agree;
-        root = g .root;
-        st = g .st;
-        new = g .new;
-        size = f .size ∙ g .size;
-        forest = f .keeps (g .root) (g .new) (g .forest);
-        level = g .level;
-        edges = g .edges;
+        cells = marks-found p k c l (g .fa) (g .cells) f;
         roots = g .roots;
         named = g .named;
         either = g .either;
       }
 
-  cell : getD o r 0 ≡ s .counted .new (s .counted .root x)
+  cell : getD o r 0 ≡ s .counted .cells .marks (s .counted .cells .root x)
   cell =
-      let g = s .counted in
-      let e = f .is (g .root) (g .new) (g .forest) in
-      f .keeps (g .root) (g .new) (g .forest) .state r (let a = f .within in let z = f .size in omega arith) (f .top) ∙ ap (g .new) (sym e)
+      let g = s .counted .cells in found-state f (g .forest) ∙ ap (g .marks) (sym (found-root f (g .forest)))
 
-  pub matched-turn : getD o r 0 < 65534 → getD o r 0 ≡ 2048 + getD m x 0 → Matched p k c d (x + 1) o fs ss m
+  pub matched-turn : getD o r 0 < severalState → getD o r 0 ≡ nodeState (getD m x 0) → Matched p k c d (x + 1) o fs ss m
   unfolding moved
   matched-turn h e =
       record {
         counted = moved;
         few =
             λ y a v g.
-            by-cases (ℕ-discrete y x)
-            (λ q. subst (λ (z : ℕ). s .counted .new (s .counted .root z) < 65534) (sym q) (let i = cell in omega arith))
-            (λ q. s .few y a v (omega arith));
+            below-more (λ z. z < places p → valueAt p z ≡ k → s .counted .cells .marks (s .counted .cells .root z) < severalState) x
+            (λ z i b u. s .few z b u i) (λ b u. let i = cell in omega arith) y g a v;
         same =
             λ y a v g.
-            by-cases (ℕ-discrete y x)
-            (λ q. subst (λ (z : ℕ). s .counted .new (s .counted .root z) ≡ 2048 + getD m z 0) (sym q) (sym cell ∙ e))
-            (λ q. s .same y a v (omega arith));
+            below-more (λ z. z < places p → valueAt p z ≡ k → s .counted .cells .marks (s .counted .cells .root z) ≡ nodeState (getD m z 0)) x
+            (λ z i b u. s .same z b u i) (λ b u. sym cell ∙ e) y g a v;
       }
 
 -- the numbering that the check has seen
@@ -92,13 +81,16 @@ abbrev fathersNow : ℕ → (ℕ → ℕ) → ℕ → ℕ
 fathersNow c fa i = pick (ltb i c) (fa i) 65535
 
 module _ (p : Picture) (k c d : ℕ) (l fs ss m : List ℕ) (s : Counted p k c d l fs ss m) where
+  abbrev cs : MarkedClasses p k c l (s .fa)
+  cs = s .cells
+
   now-old : (i : ℕ) → i < c → fathersNow c (s .fa) i ≡ s .fa i
   now-old i h = ap (λ (b : Bool). pick b (s .fa i) 65535) (lt-ltb i c h)
 
   now-new : (i : ℕ) → c ≤ i → fathersNow c (s .fa) i ≡ 65535
   now-new i h = ap (λ (b : Bool). pick b (s .fa i) 65535) (le-ltb i c h)
 
-  numbered : Numbered p c d (λ j. getD ss j 0) (s .root) (s .st) (s .new) (s .fa) (fathersNow c (s .fa))
+  numbered : Numbered p c d (λ j. getD ss j 0) (cs .root) (cs .st) (cs .marks) (s .fa) (fathersNow c (s .fa))
   numbered =
       record {
         named = s .named;
@@ -107,39 +99,38 @@ module _ (p : Picture) (k c d : ℕ) (l fs ss m : List ℕ) (s : Counted p k c d
         old = now-old;
       }
 
-  listed : ((y : ℕ) → At p k y → s .root y ≡ y → 65534 ≤ s .st y → Member (λ j. getD ss j 0) c d y) → RootsListed p k c d (λ j. getD ss j 0) (s .root) (s .st)
+  listed : ((y : ℕ) → At p k y → cs .root y ≡ y → severalState ≤ cs .st y → Member (λ j. getD ss j 0) c d y) → RootsListed p k c d (λ j. getD ss j 0) (cs .root) (cs .st)
   listed f = record { roots = s .roots; complete = f }
 
-  module _ (complete : (y : ℕ) → At p k y → s .root y ≡ y → 65534 ≤ s .st y → Member (λ j. getD ss j 0) c d y) where
-    pub says : (y : ℕ) → At p k y → s .new (s .root y) ≡ 2048 + under p k y
+  module _ (complete : (y : ℕ) → At p k y → cs .root y ≡ y → severalState ≤ cs .st y → Member (λ j. getD ss j 0) c d y) where
+    pub says : (y : ℕ) → At p k y → cs .marks (cs .root y) ≡ nodeState (under p k y)
     says =
-        named-all p (s .ok) k c (s .low) (s .root) (s .st) (s .fa) (s .level) (s .edges) d (λ j. getD ss j 0) (listed complete) (s .count)
-        (s .new) (fathersNow c (s .fa)) numbered
+        named-all p k c (cs .root) (cs .st) (s .fa) (cs .joined) d (λ j. getD ss j 0) (listed complete)
+        (cs .marks) (fathersNow c (s .fa)) numbered
 
     pub count-is : d ≡ soFar p (suc k)
     count-is =
-        count-next p (s .ok) k c (s .low) (s .root) (s .st) (s .fa) (s .level) (s .edges) d (λ j. getD ss j 0) (listed complete) (s .count)
+        count-next p k c (cs .root) (cs .st) (s .fa) (cs .joined) d (λ j. getD ss j 0) (listed complete)
 
     pub node-new : (i : ℕ) → c ≤ i → i < d → nodeAt p i ≡ node k (getD ss i 0)
     node-new =
-        number-new p (s .ok) k c (s .low) (s .root) (s .st) (s .fa) (s .level) (s .edges) d (λ j. getD ss j 0) (listed complete) (s .count)
+        number-new p k c (cs .root) (cs .st) (s .fa) (cs .joined) d (λ j. getD ss j 0) (listed complete)
 
     pub checking-next : Checking p (suc k) 0 l fs m
     checking-next =
         record {
-          ok = s .ok;
+          ok = cs .joined .ok;
           fa = fathersNow c (s .fa);
           classes =
               record {
-                root = s .root;
-                st = s .new;
-                size = s .size;
-                forest = s .forest;
+                root = cs .root;
+                st = cs .marks;
+                size = cs .size;
+                forest = cs .forest;
                 level =
-                    subst (λ (j : ℕ). Level p (suc k) j (s .root) (s .new) (fathersNow c (s .fa))) count-is
-                    (next-level p (s .ok) k c (s .low) (s .root) (s .st) (s .fa) (s .level) (s .edges) d (λ j. getD ss j 0) (listed complete) (s .count)
-                    (s .new) (fathersNow c (s .fa)) numbered);
-                edges = edges-next p k (s .root) (s .edges);
+                    next-level p k c (cs .root) (cs .st) (s .fa) (cs .joined) d (λ j. getD ss j 0) (listed complete)
+                    (cs .marks) (fathersNow c (s .fa)) numbered;
+                edges = edges-next p k (cs .root) (cs .joined .edges);
               };
           agree =
               record {
@@ -156,11 +147,12 @@ module _ (p : Picture) (k c d : ℕ) (l fs ss m : List ℕ) (s : Counted p k c d
 -- the tree's own lists are complete
 pub tree-complete :
     (p : Picture) (k c d count : ℕ) (l hs fs ss m : List ℕ) (s : Counted p k c d l fs ss m) → SameHeights k c d count hs → HoldsTree p count hs fs ss m →
-    (y : ℕ) → At p k y → s .root y ≡ y → 65534 ≤ s .st y → Member (λ j. getD ss j 0) c d y
+    (y : ℕ) → At p k y → s .cells .root y ≡ y → severalState ≤ s .cells .st y → Member (λ j. getD ss j 0) c d y
 tree-complete p k c d count l hs fs ss m s run tree y at r h =
-    let fork = free-fork p (s .ok) k c (s .low) (s .root) (s .st) (s .fa) (s .level) (s .edges) y at r h in
-    let (num, is) = number-found p k y (s .low) at fork in
-    let first = sym (root-first p (s .ok) k c (s .low) (s .root) (s .st) (s .fa) (s .level) (s .edges) y at) ∙ r in
+    let cs = s .cells in
+    let fork = free-fork p k c (cs .root) (cs .st) (s .fa) (cs .joined) y at r h in
+    let (num, is) = number-found p k y (cs .joined .low) at fork in
+    let first = sym (root-first p k c (cs .root) (cs .st) (s .fa) (cs .joined) y at) ∙ r in
     let i : ℕ = numberOf p k (componentAt p k y) in
     let hk : nodeAt p i .height ≡ k = ap (λ (n : Node). n .height) is in
     let fy : nodeAt p i .first ≡ y = ap (λ (n : Node). n .first) is ∙ first in
@@ -169,15 +161,8 @@ tree-complete p k c d count l hs fs ss m s run tree y at r h =
     from : (i : ℕ) → i < length (nodes p) → nodeAt p i .height ≡ k → c ≤ i
     from i num hk =
         by-cases (decLt i c)
-        (λ g.
-        absurd
-        (let a = s .level .few in
-        let q = height-below i g in
-        omega arith))
+        (λ g. absurd (let q = height-below p k i (let e = s .cells .joined .count in omega arith) num in omega arith))
         (λ g. omega arith)
-      where
-        height-below : (j : ℕ) → j < c → nodeAt p j .height < k
-        height-below j g = before-is p k j (let e = s .count in omega arith) (let a = s .level .few in omega arith)
 
     to : (i : ℕ) → i < length (nodes p) → nodeAt p i .height ≡ k → i < d
     to i num hk =
@@ -188,7 +173,7 @@ tree-complete p k c d count l hs fs ss m s run tree y at r h =
         (let total = tree .total in
         let o = run .order in
         let dn : d < length (nodes p) = omega arith in
-        let e = s .count in
+        let e = s .cells .joined .count in
         let a = height-least p k d (omega arith) dn in
         let b = heights-rise p d i (omega arith) num in
         let z = tree .heights d dn in
@@ -197,14 +182,14 @@ tree-complete p k c d count l hs fs ss m s run tree y at r h =
 -- under the tree a pixel's root says its lent node
 pub matched-cell :
     (p : Picture) (k c d x r : ℕ) (l o fs ss m : List ℕ) (s : Matched p k c d x l fs ss m) (f : Found l x r o) (b : x < places p) (value : valueAt p x ≡ k) →
-    (count : ℕ) (hs : List ℕ) → SameHeights k c d count hs → HoldsTree p count hs fs ss m → (getD o r 0 ≡ 2048 + getD m x 0) × (getD m x 0 < 1600)
+    (count : ℕ) (hs : List ℕ) → SameHeights k c d count hs → HoldsTree p count hs fs ss m → (getD o r 0 ≡ nodeState (getD m x 0)) × (getD m x 0 < 1600)
 matched-cell p k c d x r l o fs ss m s f b value count hs run tree =
     let g = s .counted in
     let e = says p k c d l fs ss m g (tree-complete p k c d count l hs fs ss m g run tree) x (record { within = b; low = omega arith }) in
     let q = cell p k c d x r l o fs ss m s f b value in
     let h : mapOf p x ≡ under p k x = map-under p x ∙ ap (λ (j : ℕ). under p j x) value in
     let t = tree .map x b in
-    let n = map-found p (g .ok) x b in
+    let n = map-found p (g .cells .joined .ok) x b in
     let few = nodes-few p in
-    let most = places-bound p (g .ok) in
+    let most = places-bound p (g .cells .joined .ok) in
     (omega arith, omega arith)

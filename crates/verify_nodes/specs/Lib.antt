@@ -1,2 +1,2 @@
 -- What the checks of the nodes and of the map of a height say.
-pub mod Steps
+pub mod NodeChecks

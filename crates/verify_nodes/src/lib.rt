@@ -1,13 +1,13 @@
 // The lent nodes of one height against the new roots, and the lent map against their numbers.
 use cells::value;
 use cells::wide;
-use union_find::NODES;
+use union_find::FIRST_NODE;
 use union_find::SEVERAL;
 use union_find::find;
 ghost use Prim.Native.Nat.{_<_, _≤_, _+_};
 ghost use lib.ListN.{length};
 ghost use Rattle.tree_laws.proofs.Forests.{Parents};
-ghost use Rattle.verify_nodes.specs.Steps.{SameHeights, Fit, CountReady, NodesChecked, LentMapReady, MapChecked};
+ghost use Rattle.verify_nodes.specs.NodeChecks.{SameHeights, FitAnswer, CountReady, NodesChecked, LentMapReady, MapChecked};
 
 // The end of the lent heights k from c on.
 pub fn run_end(heights: &[u8], k: usize, c: usize, count: usize) -> usize
@@ -27,7 +27,7 @@ pub fn run_end(heights: &[u8], k: usize, c: usize, count: usize) -> usize
 // The lent first place of the node i is a new root of height k, above the one before it.
 fn node_fits(pixels: &[u8], firsts: &[u16], cells: &[u16], k: usize, c: usize, i: usize) -> bool
     requires { ⌜ (i < length (now firsts)) × (length (now cells) ≤ length (now pixels)) ⌝ }
-    ensures { λ r. ⌜ Fit (now (pixels .entry)) k c i (now (cells .entry)) (now (firsts .entry)) r ⌝ }
+    ensures { λ r. ⌜ FitAnswer (now (pixels .entry)) k c i (now (cells .entry)) (now (firsts .entry)) r ⌝ }
 {
     let f = wide(firsts[i]);
     if cells.len() <= f {
@@ -66,7 +66,7 @@ pub fn check_nodes(
         if !node_fits(pixels, firsts, cells, k, c, i) {
             return false;
         }
-        cells[wide(firsts[i])] = NODES + i as u16;
+        cells[wide(firsts[i])] = FIRST_NODE + i as u16;
         i += 1;
     }
     true
@@ -86,7 +86,7 @@ fn check_map_one(pixels: &[u8], map: &[u16], cells: &mut [u16], k: usize, x: usi
     if SEVERAL <= state {
         return false;
     }
-    if state - NODES != map[x] {
+    if state - FIRST_NODE != map[x] {
         return false;
     }
     true

@@ -1,18 +1,18 @@
 // The pixels of one height join the classes; at each link the lent fathers are compared.
 use cells::value;
 use cells::wide;
-use union_find::NODES;
+use union_find::FIRST_NODE;
 use union_find::NOTHING;
 use union_find::SEVERAL;
 use union_find::comes_before;
 use union_find::find;
-use union_find::hang;
+use union_find::link;
 ghost use mathlib.Core.Logic.{_≢_};
 ghost use Prim.Native.Nat.{_<_, _≤_, _+_, _*_};
 ghost use lib.ListN.{length, getD};
 ghost use Rattle.tree_laws.proofs.Marks.{Names};
-ghost use Rattle.tree_laws.proofs.Checks.{Agrees, Joint, LookReady, Looked, Checking};
-ghost use Rattle.tree_laws.proofs.Looks.{Passed};
+ghost use Rattle.tree_laws.proofs.Checks.{Agrees, Joint, EdgeCheckReady, EdgeChecked, Checking};
+ghost use Rattle.tree_laws.proofs.PixelChecks.{Passed};
 ghost use Rattle.picture.specs.Pictures.{pictureOf};
 
 // The lent father of the node that a state names is the lent node of the pixel x.
@@ -21,7 +21,7 @@ fn agrees(fathers: &[u16], map: &[u16], state: u16, x: usize) -> bool
     ensures { λ r. ⌜ Agrees state x (now (fathers .entry)) (now (map .entry)) r ⌝ }
 {
     if state < SEVERAL {
-        let father = fathers[wide(state - NODES)];
+        let father = fathers[wide(state - FIRST_NODE)];
         let node = map[x];
         if father == node {
             return true;
@@ -48,10 +48,10 @@ fn check_join(
     let a = cells[q];
     let b = cells[r];
     if a == NOTHING {
-        return hang(cells, q, r, b);
+        return link(cells, q, r, b);
     }
     if b == NOTHING {
-        return hang(cells, q, r, a);
+        return link(cells, q, r, a);
     }
     if !agrees(fathers, map, a, x) {
         return cells.len();
@@ -59,7 +59,7 @@ fn check_join(
     if !agrees(fathers, map, b, x) {
         return cells.len();
     }
-    hang(cells, q, r, SEVERAL)
+    link(cells, q, r, SEVERAL)
 }
 
 // Joins the place x, whose root is r, to its neighbour y if y comes before x: answers the root, or the number of cells if a lent father differs.
@@ -73,9 +73,9 @@ fn check_edge(
     r: usize,
     y: usize,
 ) -> usize
-    requires { ⌜ LookReady (now pixels) k x r y (now cells) (now fathers) (now map) ⌝ }
+    requires { ⌜ EdgeCheckReady (now pixels) k x r y (now cells) (now fathers) (now map) ⌝ }
     requires { ⌜ (length (now cells) ≤ length (now fathers)) × (length (now cells) ≤ length (now map)) ⌝ }
-    ensures { λ q. ⌜ Looked (now (pixels .entry)) k x r y (now (cells .entry)) (now (fathers .entry)) (now (map .entry)) q (now (cells .exit)) ⌝ }
+    ensures { λ q. ⌜ EdgeChecked (now (pixels .entry)) k x r y (now (cells .entry)) (now (fathers .entry)) (now (map .entry)) q (now (cells .exit)) ⌝ }
 {
     if !comes_before(pixels, k, x, y) {
         return r;

@@ -8,9 +8,10 @@ use Rattle.lent_tree.proofs.pass.Tie as tie
 
 -- the climb from the nodes of both places has met
 met-at :
-    (c : tie.After-meet) →
-    Meet (λ i. getD (c .before .before .before .before .before .before .before .before .before .args .fathers .now) i 0) (getD (c .before .before .before .before .before .before .before .before .before .args .map .now) (c .before .before .before .before .before .before .before .before .before .args .x) 0) (getD (c .before .before .before .before .before .before .before .before .before .args .map .now) (c .before .before .before .before .before .before .before .before .before .args .y) 0) (c .meet .result)
-met-at c = rw (c .before .wide2 .ensures, c .before .before .before .wide .ensures) at (c .meet .ensures)
+    (c : tie.After-nearest-common-ancestor) →
+    let a = c .before .before .before .before .before .before .before .before .before .args in
+    Meet (λ i. getD (a .fathers .now) i 0) (getD (a .map .now) (a .x) 0) (getD (a .map .now) (a .y) 0) (c .nearest-common-ancestor .result)
+met-at c = rw (c .before .wide2 .ensures, c .before .before .before .wide .ensures) at (c .nearest-common-ancestor .ensures)
 
 mul-wide : tie.Need-mul-wide
 mul-wide c = search needs
@@ -30,8 +31,8 @@ shared-slice-read-wide-2 c = pass-bounds _ _ _ _ _ _ (c .before .before .before 
 wide-requires-2 : tie.Need-wide-requires-2
 wide-requires-2 c κs = search needs
 
-meet-requires : tie.Need-meet-requires
-meet-requires c κs = rw (c .wide2 .ensures, c .before .before .wide .ensures) (pass-climb _ _ _ _ _ _ (c .before .before .before .before .before .before .before .before .pre))
+nearest-common-ancestor-requires : tie.Need-nearest-common-ancestor-requires
+nearest-common-ancestor-requires c κs = rw (c .wide2 .ensures, c .before .before .wide .ensures) (pass-climb _ _ _ _ _ _ (c .before .before .before .before .before .before .before .before .pre))
 
 shared-slice-read-value : tie.Need-shared-slice-read-value
 shared-slice-read-value c = pass-bounds _ _ _ _ _ _ (c .before .before .before .before .before .before .before .before .before .before .pre) .0
@@ -70,7 +71,7 @@ pass-spec =
     mul-wide-2
     shared-slice-read-wide-2
     wide-requires-2
-    meet-requires
+    nearest-common-ancestor-requires
     shared-slice-read-value
     value-requires
     shared-slice-read-value-2

@@ -1,7 +1,7 @@
 -- `tree_lists::build_lists` meets its contract: the tree is built, and each block copied.
 use mathlib.Core.Path.{refl}
 use native.Mathlib.Omega.{arith}
-use Rattle.tree_lists.proofs.Handing.{built-few, built-bytes, heights-handed, fathers-handed, firsts-handed, map-handed, handed-over}
+use Rattle.tree_lists.proofs.CopiedLists.{built-few, built-bytes, heights-handed, fathers-handed, firsts-handed, map-handed, handed-over}
 use borrow.Author.Needs.{needs}
 use Rattle.tree_lists.proofs.build_lists.Statement.{statement}
 use Rattle.tree_lists.proofs.build_lists.Tie as tie

@@ -19,8 +19,8 @@ slice-read-merge-2 c = search needs
 merge-requires : tie.Need-merge-requires
 merge-requires c κs = search needs
 
-hang-requires : tie.Need-hang-requires
-hang-requires c κs = search needs
+link-requires : tie.Need-link-requires
+link-requires c κs = search needs
 
 same-length : tie.Need-same-length
 same-length c = search needs
@@ -29,7 +29,7 @@ same-length-2 : tie.Need-same-length-2
 same-length-2 c = search needs
 
 returns : tie.Need-returns
-returns c = link-in _ _ _ _ _ _ _ _ _ (c .before .before .before .before .before .before .before .before .before .before .before .before .pre .0 .3) (c .before .before .before .before .before .before .merge .ensures) (c .before .before .hang .ensures)
+returns c = link-in _ _ _ _ _ _ _ _ _ (c .before .before .before .before .before .before .before .before .before .before .before .before .pre .0 .3) (c .before .before .before .before .before .before .merge .ensures) (c .before .before .link .ensures)
 
 pub join-spec : {M : Type 1} → statement M
 join-spec =
@@ -40,7 +40,7 @@ join-spec =
     mul-merge-2
     slice-read-merge-2
     merge-requires
-    hang-requires
+    link-requires
     same-length
     same-length-2
     returns)

@@ -1,5 +1,5 @@
 -- `verify::is_tree` meets its contract: the first n cells are checked with.
-use Rattle.verify.proofs.Heights.{verified-start, lists-long-of, says-none, says-many, says-count, says-father, says-tree}
+use Rattle.verify.proofs.Heights.{verified-start, lists-long-of, answer-none, answer-many, answer-count, answer-father, answer-tree}
 use Rattle.picture.specs.Pictures.{pictureOf}
 use lib.ListN.{length, take}
 use lib.Seq.{length-take-le}
@@ -18,12 +18,12 @@ mul-n : tie.Need-mul-n
 mul-n c = search needs
 
 returns : tie.Need-returns
-returns c = says-none _ _ _ _ _ _ (c .before .before .before .before .before .before .before .pre .0) (c .if1 .taken)
+returns c = answer-none _ _ _ _ _ _ (c .before .before .before .before .before .before .before .pre .0) (c .if1 .taken)
 
 returns-2 : tie.Need-returns-2
 returns-2 c =
     let s = c .before .before .before .before .before .before .before .before in
-    says-many (pictureOf (s .args .a) (s .args .w) (s .args .h) (s .args .pixels .now)) _ _ _ _ _ (c .if2 .taken)
+    answer-many (pictureOf (s .args .a) (s .args .w) (s .args .h) (s .args .pixels .now)) _ _ _ _ _ (c .if2 .taken)
 
 slice-relend-prefix-part : tie.Need-slice-relend-prefix-part
 slice-relend-prefix-part c = search needs
@@ -50,7 +50,7 @@ same-length c = search needs
 returns-3 : tie.Need-returns-3
 returns-3 c =
     let t = c .before .before .before .check-levels in
-    says-count _ _ _ _ _ _ _ _ (t .ensures) (c .if3 .taken)
+    answer-count _ _ _ _ _ _ _ _ (t .ensures) (c .if3 .taken)
 
 sub-last : tie.Need-sub-last
 sub-last c = search needs
@@ -67,7 +67,7 @@ same-length-2 c = search needs
 returns-4 : tie.Need-returns-4
 returns-4 c =
     let t = c .before .before .before .before .before .check-levels in
-    says-father _ _ _ _ _ _ _ _ (t .ensures) (c .before .before .if3 .left) (c .if4 .taken)
+    answer-father _ _ _ _ _ _ _ _ (t .ensures) (c .before .before .if3 .left) (c .if4 .taken)
 
 same-length-3 : tie.Need-same-length-3
 same-length-3 c = search needs
@@ -75,7 +75,7 @@ same-length-3 c = search needs
 returns-5 : tie.Need-returns-5
 returns-5 c =
     let t = c .before .before .before .before .before .check-levels in
-    says-tree _ _ _ _ _ _ _ _ (t .ensures) (c .before .before .if3 .left) (c .if4 .left)
+    answer-tree _ _ _ _ _ _ _ _ (t .ensures) (c .before .before .if3 .left) (c .if4 .left)
 
 pub is-tree-spec : {M : Type 1} → statement M
 is-tree-spec =

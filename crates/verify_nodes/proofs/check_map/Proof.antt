@@ -1,5 +1,5 @@
 -- `verify_nodes::check_map` meets its contract.
-use Rattle.verify_nodes.proofs.Steps.{MapCheckedTo, map-start, map-ready, map-turn, map-fails, map-end}
+use Rattle.verify_nodes.proofs.NodeChecks.{MapCheckedTo, map-start, map-ready, map-turn, map-fails, map-end}
 use borrow.Author.Tests.{not-true, not-false}
 use lib.ListN.{length}
 use mathlib.Core.Path.{_∙_}

@@ -1,5 +1,5 @@
 -- `verify_nodes::check_map_one` meets its contract.
-use Rattle.verify_nodes.proofs.Steps.{map-other, map-yes, map-free, map-differs}
+use Rattle.verify_nodes.proofs.NodeChecks.{map-other, map-yes, map-free, map-differs}
 use borrow.Author.Needs.{needs}
 use Rattle.verify_nodes.proofs.check_map_one.Statement.{statement}
 use Rattle.verify_nodes.proofs.check_map_one.Tie as tie

@@ -1,5 +1,6 @@
 -- `verify_nodes::check_nodes` meets its contract.
-use Rattle.verify_nodes.proofs.Steps.{NodesNumbered, numbered-start, numbered-turn, numbered-within, numbered-fails, numbered-end, fit-is}
+use Rattle.tree_laws.proofs.Decided.{decided-yes, decided-never}
+use Rattle.verify_nodes.proofs.NodeChecks.{NodesNumbered, numbered-start, numbered-turn, numbered-within, numbered-fails, numbered-end}
 use borrow.Author.Tests.{not-true, not-false}
 use native.Mathlib.Omega.{arith}
 use Prim.Native.Nat.{_-_, _≤_}
@@ -27,7 +28,7 @@ same-length c = c .before .before .before .before .loop .inv .0 .size
 
 returns : tie.Need-returns Inv-loop μ-loop
 returns c = let t = c .before .node-fits in
-    numbered-fails _ _ _ _ _ _ _ _ _ (c .before .before .before .before .loop .inv .0) (c .before .before .before .loop-test .taken) (fit-is (not-true (t .result) (c .if1 .taken)) (t .ensures))
+    numbered-fails _ _ _ _ _ _ _ _ _ (c .before .before .before .before .loop .inv .0) (c .before .before .before .loop-test .taken) (decided-never (not-true (t .result) (c .if1 .taken)) (t .ensures))
 
 cast-cells : tie.Need-cast-cells Inv-loop μ-loop
 cast-cells c = search needs
@@ -48,11 +49,11 @@ wide-requires c κs = search needs
 mul-cells : tie.Need-mul-cells Inv-loop μ-loop
 mul-cells c = let t = c .before .before .before .node-fits in
     let i = c .before .before .before .before .before .before .loop .inv .0 in
-    omega (arith, i .size, c .before .before .before .before .before .before .before .before .before .before .pre .0 .3, numbered-within _ _ _ _ _ _ _ _ (c .before .before .before .before .before .before .before .before .before .before .pre .0 .0) i (fit-is (not-false (t .result) (c .before .before .if1 .left)) (t .ensures)) (c .wide .ensures))
+    omega (arith, i .size, c .before .before .before .before .before .before .before .before .before .before .pre .0 .3, numbered-within _ _ _ _ _ _ _ _ (c .before .before .before .before .before .before .before .before .before .before .pre .0 .0) i (decided-yes (not-false (t .result) (c .before .before .if1 .left)) (t .ensures)) (c .wide .ensures))
 
 slice-write-cells : tie.Need-slice-write-cells Inv-loop μ-loop
 slice-write-cells c = let t = c .before .before .before .node-fits in
-    numbered-within _ _ _ _ _ _ _ _ (c .before .before .before .before .before .before .before .before .before .before .pre .0 .0) (c .before .before .before .before .before .before .loop .inv .0) (fit-is (not-false (t .result) (c .before .before .if1 .left)) (t .ensures)) (c .wide .ensures)
+    numbered-within _ _ _ _ _ _ _ _ (c .before .before .before .before .before .before .before .before .before .before .pre .0 .0) (c .before .before .before .before .before .before .loop .inv .0) (decided-yes (not-false (t .result) (c .before .before .if1 .left)) (t .ensures)) (c .wide .ensures)
 
 add-i : tie.Need-add-i Inv-loop μ-loop
 add-i c = search needs
@@ -64,7 +65,7 @@ loop-again : tie.Need-loop-again Inv-loop μ-loop
 loop-again c = let t = c .before .before .before .node-fits in
     let s = c .before .before .before .before .before .before .before .before .before .before .pre in
     let b = c .before .before .before .before .before .loop-test .taken in
-    (numbered-turn _ _ _ _ _ _ _ _ (c .before .before .before .before .before .before .loop .inv .0) (omega (arith, s .0 .2, s .0 .3)) (fit-is (not-false (t .result) (c .before .before .if1 .left)) (t .ensures)) (c .wide .ensures), search needs)
+    (numbered-turn _ _ _ _ _ _ _ _ (c .before .before .before .before .before .before .loop .inv .0) (omega (arith, s .0 .2, s .0 .3)) (decided-yes (not-false (t .result) (c .before .before .if1 .left)) (t .ensures)) (c .wide .ensures), search needs)
 
 same-length-2 : tie.Need-same-length-2 Inv-loop μ-loop
 same-length-2 c = c .before .loop .inv .0 .size

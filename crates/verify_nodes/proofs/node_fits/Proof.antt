@@ -1,5 +1,5 @@
 -- `verify_nodes::node_fits` meets its contract.
-use Rattle.verify_nodes.proofs.Steps.{unfit-beyond, unfit-high, unfit-taken, unfit-order, fit-yes}
+use Rattle.verify_nodes.proofs.NodeChecks.{unfit-beyond, unfit-high, unfit-taken, unfit-order, fit-yes}
 use native.Mathlib.Omega.{arith}
 use borrow.Author.Needs.{needs}
 use Rattle.verify_nodes.proofs.node_fits.Statement.{statement}

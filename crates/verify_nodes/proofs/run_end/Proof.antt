@@ -1,5 +1,5 @@
 -- `verify_nodes::run_end` meets its contract.
-use Rattle.verify_nodes.proofs.Steps.{RunTo, run-start, run-turn, run-stop, run-end}
+use Rattle.verify_nodes.proofs.NodeChecks.{RunTo, run-start, run-turn, run-stop, run-end}
 use Prim.Native.Nat.{_-_, _≤_}
 use borrow.Author.Needs.{needs}
 use Rattle.verify_nodes.proofs.run_end.Statement.{statement}

@@ -1,7 +1,7 @@
 -- `verify_pixels::check_pixels` meets its contract.
-use Rattle.verify_pixels.proofs.Answers.{checking-at}
 use Rattle.picture.specs.Pictures.{pictureOf}
-use Rattle.tree_laws.proofs.Looks.{passed-yes, passed-not}
+use Rattle.tree_laws.proofs.Decided.{yes, never, decided-yes, decided-never}
+use Rattle.tree_laws.proofs.PixelChecks.{checking-end}
 use Rattle.tree_laws.proofs.Checks.{Checking}
 use borrow.Author.Tests.{not-true, not-false}
 use native.Mathlib.Omega.{arith}
@@ -31,7 +31,7 @@ same-length c = search needs
 
 returns : tie.Need-returns Inv-loop μ-loop
 returns c = let t = c .before .before .before .check-pixel in
-    passed-not _ _ _ _ _ _ (t .ensures .never (not-true (t .result) (c .if1 .taken)))
+    never (decided-never (not-true (t .result) (c .if1 .taken)) (t .ensures))
 
 add-x : tie.Need-add-x Inv-loop μ-loop
 add-x c = search needs
@@ -43,14 +43,14 @@ loop-less c = let i = c .before .before .before .before .before .before .loop .i
 loop-again : tie.Need-loop-again Inv-loop μ-loop
 loop-again c = let t = c .before .before .before .check-pixel in
     let i = c .before .before .before .before .before .before .loop .inv in
-    (t .ensures .yes (not-false (t .result) (c .if1 .left)), omega (arith, i .0 .classes .size, c .before .before .before .before .before .loop-test .taken))
+    (decided-yes (not-false (t .result) (c .if1 .left)) (t .ensures), omega (arith, i .0 .classes .size, c .before .before .before .before .before .loop-test .taken))
 
 same-length-2 : tie.Need-same-length-2 Inv-loop μ-loop
 same-length-2 c = search needs
 
 returns-2 : tie.Need-returns-2 Inv-loop μ-loop
 returns-2 c = let i = c .before .loop .inv in
-    passed-yes _ _ _ _ _ _ (checking-at (omega (arith, i .0 .classes .size, i .1, c .loop-test .left)) (i .0))
+    yes (checking-end _ _ _ _ _ _ (i .0) (i .1) (c .loop-test .left))
 
 pub check-pixels-spec : {M : Type 1} → statement M
 check-pixels-spec =

@@ -10,13 +10,13 @@ use Rattle.falls.proofs.meetings.meeting_height.Tie as tie
 
 -- the climb has met at a node
 met-at :
-    (c : tie.After-meet) →
+    (c : tie.After-nearest-common-ancestor) →
     let s = c .before .before .before .before .before .before .before in
     let tree = s .args .tree .now in
-    (c .meet .result < s .args .n) × Meets (s .args .n) tree (s .args .y) (s .args .z) (getD tree (c .meet .result) 0)
+    (c .nearest-common-ancestor .result < s .args .n) × Meets (s .args .n) tree (s .args .y) (s .args .z) (getD tree (c .nearest-common-ancestor .result) 0)
 met-at c =
     let p = c .before .before .before .before .before .before .before .pre in
-    climb-meets _ _ (p .0) _ _ (p .2) (p .3) _ (rw (c .before .before .wide2 .ensures, c .before .before .before .before .wide .ensures) at (c .meet .ensures))
+    climb-meets _ _ (p .0) _ _ (p .2) (p .3) _ (rw (c .before .before .wide2 .ensures, c .before .before .before .before .wide .ensures) at (c .nearest-common-ancestor .ensures))
 
 mul-e : tie.Need-mul-e
 mul-e c = search needs
@@ -45,20 +45,20 @@ shared-slice-read-wide-2 c = search needs
 wide-requires-2 : tie.Need-wide-requires-2
 wide-requires-2 c κs = search needs
 
-mul-meet : tie.Need-mul-meet
-mul-meet c = search needs
+mul-nearest-common-ancestor : tie.Need-mul-nearest-common-ancestor
+mul-nearest-common-ancestor c = search needs
 
-sub-meet : tie.Need-sub-meet
-sub-meet c = search needs
+sub-nearest-common-ancestor : tie.Need-sub-nearest-common-ancestor
+sub-nearest-common-ancestor c = search needs
 
-part-meet-start : tie.Need-part-meet-start
-part-meet-start c = search needs
+part-nearest-common-ancestor-start : tie.Need-part-nearest-common-ancestor-start
+part-nearest-common-ancestor-start c = search needs
 
-part-meet-end : tie.Need-part-meet-end
-part-meet-end c = search needs
+part-nearest-common-ancestor-end : tie.Need-part-nearest-common-ancestor-end
+part-nearest-common-ancestor-end c = search needs
 
-meet-requires : tie.Need-meet-requires
-meet-requires c κs = let p = c .before .before .before .before .before .before .pre in
+nearest-common-ancestor-requires : tie.Need-nearest-common-ancestor-requires
+nearest-common-ancestor-requires c κs = let p = c .before .before .before .before .before .before .pre in
     rw (c .before .wide2 .ensures, c .before .before .before .wide .ensures) (climb-places _ _ (p .0) _ _ (p .2) (p .3))
 
 mul-wide-3 : tie.Need-mul-wide-3
@@ -86,11 +86,11 @@ meeting-height-spec =
     mul-wide-2
     shared-slice-read-wide-2
     wide-requires-2
-    mul-meet
-    sub-meet
-    part-meet-start
-    part-meet-end
-    meet-requires
+    mul-nearest-common-ancestor
+    sub-nearest-common-ancestor
+    part-nearest-common-ancestor-start
+    part-nearest-common-ancestor-end
+    nearest-common-ancestor-requires
     mul-wide-3
     shared-slice-read-wide-3
     wide-requires-3

@@ -1,4 +1,4 @@
--- `tree::absorb::absorb_level` meets its contract.
+-- `tree::joins::join_pixels` meets its contract.
 use Rattle.picture.specs.Pictures.{pictureOf}
 use Rattle.tree_laws.proofs.Walks.{WalkReady, ready-end}
 use Rattle.lists.specs.Blocks.{UntouchedOutside}
@@ -7,8 +7,8 @@ use mathlib.Core.Path.{sym, _∙_}
 use native.Mathlib.Omega.{arith}
 use Prim.Native.Nat.{_-_, _*_}
 use borrow.Author.Needs.{needs}
-use Rattle.tree.proofs.absorb.absorb_level.Statement.{statement}
-use Rattle.tree.proofs.absorb.absorb_level.Tie as tie
+use Rattle.tree.proofs.joins.join_pixels.Statement.{statement}
+use Rattle.tree.proofs.joins.join_pixels.Tie as tie
 
 abbrev Inv-loop : tie.InvT-loop
 Inv-loop a w h pixels work₀ cells₀ k head x₀ work cells x = WalkReady (pictureOf a w h pixels) k x cells work × UntouchedOutside (w * h) (w * h) work₀ work
@@ -19,15 +19,15 @@ abbrev μ-loop : tie.MeasureT-loop
 loop-holds : tie.Need-loop-holds Inv-loop μ-loop
 loop-holds c = (c .before .before .before .pre, untouched-refl _ _ _)
 
-absorb-requires : tie.Need-absorb-requires Inv-loop μ-loop
-absorb-requires c κs = (c .before .before .before .loop .inv .0, c .before .before .loop-test .taken)
+join-pixel-requires : tie.Need-join-pixel-requires Inv-loop μ-loop
+join-pixel-requires c κs = (c .before .before .before .loop .inv .0, c .before .before .loop-test .taken)
 
 loop-less : tie.Need-loop-less Inv-loop μ-loop
 loop-less c = let i = c .before .before .before .before .before .before .before .before .loop .inv .0 in
-    omega (arith, i .classes .size, c .before .before .before .before .before .before .before .loop-test .taken, c .before .before .before .before .absorb .ensures .more)
+    omega (arith, i .classes .size, c .before .before .before .before .before .before .before .loop-test .taken, c .before .before .before .before .join-pixel .ensures .more)
 
 loop-again : tie.Need-loop-again Inv-loop μ-loop
-loop-again c = (c .before .before .before .before .absorb .ensures .ready, untouched-trans _ _ _ _ _ (c .before .before .before .before .before .before .before .before .loop .inv .1) (c .before .before .before .before .absorb .ensures .block))
+loop-again c = (c .before .before .before .before .join-pixel .ensures .ready, untouched-trans _ _ _ _ _ (c .before .before .before .before .before .before .before .before .loop .inv .1) (c .before .before .before .before .join-pixel .ensures .block))
 
 same-length : tie.Need-same-length Inv-loop μ-loop
 same-length c = search needs
@@ -40,14 +40,14 @@ returns : tie.Need-returns Inv-loop μ-loop
 returns c = let i = c .before .loop .inv in
     (ready-end _ _ _ _ _ (i .0) (omega (arith, c .loop-test .left, i .0 .classes .size)), i .1)
 
-pub absorb-level-spec : {M : Type 1} → statement M
-absorb-level-spec =
+pub join-pixels-spec : {M : Type 1} → statement M
+join-pixels-spec =
     tie.close
     (tie.spec
     Inv-loop
     μ-loop
     loop-holds
-    absorb-requires
+    join-pixel-requires
     loop-less
     loop-again
     same-length

@@ -1,9 +1,9 @@
--- `union_find::hang` meets its contract.
-use Rattle.tree_laws.proofs.Forests.{hung-below, hung-above}
+-- `union_find::link` meets its contract.
+use Rattle.tree_laws.proofs.Forests.{linked-below, linked-above}
 use native.Mathlib.Omega.{arith}
 use borrow.Author.Needs.{needs}
-use Rattle.union_find.proofs.hang.Statement.{statement}
-use Rattle.union_find.proofs.hang.Tie as tie
+use Rattle.union_find.proofs.link.Statement.{statement}
+use Rattle.union_find.proofs.link.Tie as tie
 
 cast-cells : tie.Need-cast-cells
 cast-cells c = search needs
@@ -24,7 +24,7 @@ same-length : tie.Need-same-length
 same-length c = search needs
 
 returns : tie.Need-returns
-returns c = hung-below _ _ _ _ (c .if1 .taken)
+returns c = linked-below _ _ _ _ (c .if1 .taken)
 
 cast-cells-2 : tie.Need-cast-cells-2
 cast-cells-2 c = search needs
@@ -45,10 +45,10 @@ same-length-2 : tie.Need-same-length-2
 same-length-2 c = search needs
 
 returns-2 : tie.Need-returns-2
-returns-2 c = hung-above _ _ _ _ (omega (arith, c .if1 .left, c .before .pre .0))
+returns-2 c = linked-above _ _ _ _ (omega (arith, c .if1 .left, c .before .pre .0))
 
-pub hang-spec : {M : Type 1} → statement M
-hang-spec =
+pub link-spec : {M : Type 1} → statement M
+link-spec =
     tie.close
     (tie.spec
     cast-cells

@@ -1,20 +1,28 @@
--- `tree::absorb::absorb` meets its contract.
+-- `tree::joins::join_pixel` meets its contract.
 use Rattle.picture.specs.Pictures.{pictureOf}
 use Rattle.picture.proofs.Neighbours.{listed-at}
+use Rattle.tree_laws.proofs.Joins.{Edge}
 use Rattle.tree_laws.proofs.Walks.{Joining, joining-start, joining-turn, joining-end, edge-ready, ready-placed, ready-parents}
 use lib.ListN.{getD}
 use mathlib.Core.Path.{ap, _∙_}
 use native.Mathlib.Omega.{arith}
 use Prim.Native.Nat.{ℕ, _-_, _+_, _*_}
 use borrow.Author.Needs.{needs}
-use Rattle.tree.proofs.absorb.absorb.Statement.{statement}
-use Rattle.tree.proofs.absorb.absorb.Tie as tie
+use Rattle.tree.proofs.joins.join_pixel.Statement.{statement}
+use Rattle.tree.proofs.joins.join_pixel.Tie as tie
 
 abbrev Inv-loop : tie.InvT-loop
 Inv-loop a w h pixels work₀ cells₀ k x near count root₀ i₀ work cells root i = Joining (pictureOf a w h pixels) k x i root cells work₀ work
 
 abbrev μ-loop : tie.MeasureT-loop
 μ-loop a w h pixels work₀ cells₀ k x near count root₀ i₀ work cells root i = count - i
+
+-- the neighbour that the loop has come to
+edge : (c : tie.After-wide Inv-loop μ-loop) → let a = c .before .before .before .before .before .before .before .before .before .before .before .before .before .before .before .args in Edge (pictureOf (a .a) (a .w) (a .h) (a .pixels .now)) (a .x) (c .before .before .before .before .loop .i) (c .wide .result)
+edge c = let s = c .before .before .before .before .before .before .before .before .before .before .neighbours .ensures in
+    let b = c .before .before .before .loop-test .taken in
+    let e = s .count in
+    record { listed = omega arith; is = c .wide .ensures ∙ listed-at _ _ _ _ s _ b }
 
 slice-aggregate-neighbours : tie.Need-slice-aggregate-neighbours Inv-loop μ-loop
 slice-aggregate-neighbours c = search needs
@@ -38,11 +46,8 @@ array-read-wide c = omega (arith, c .before .before .before .before .before .bef
 wide-requires : tie.Need-wide-requires Inv-loop μ-loop
 wide-requires c κs = search needs
 
-absorb-edge-requires : tie.Need-absorb-edge-requires Inv-loop μ-loop
-absorb-edge-requires c κs = let s = c .before .before .before .before .before .before .before .before .before .before .neighbours .ensures in
-    let b = c .before .before .before .loop-test .taken in
-    let e = s .count in
-    edge-ready _ _ _ _ _ _ _ _ _ (c .before .before .before .before .loop .inv) (omega arith) (c .wide .ensures ∙ listed-at _ _ _ _ s _ b)
+join-edge-requires : tie.Need-join-edge-requires Inv-loop μ-loop
+join-edge-requires c κs = edge-ready _ _ _ _ _ _ _ _ _ (c .before .before .before .before .loop .inv) (edge c)
 
 add-i : tie.Need-add-i Inv-loop μ-loop
 add-i c = search needs
@@ -51,10 +56,8 @@ loop-less : tie.Need-loop-less Inv-loop μ-loop
 loop-less c = search needs
 
 loop-again : tie.Need-loop-again Inv-loop μ-loop
-loop-again c = let s = c .before .before .before .before .before .before .before .before .before .before .before .before .before .before .before .neighbours .ensures in
-    let b = c .before .before .before .before .before .before .before .before .loop-test .taken in
-    let e = s .count in
-    joining-turn _ _ _ _ _ _ _ _ _ _ _ _ (c .before .before .before .before .before .before .before .before .before .loop .inv) (omega arith) (c .before .before .before .before .before .wide .ensures ∙ listed-at _ _ _ _ s _ b) (c .before .before .before .before .absorb-edge .ensures)
+loop-again c = let d = c .before .before .before .before in
+    joining-turn _ _ _ _ _ _ _ _ _ _ _ _ (d .before .before .before .before .before .loop .inv) (edge (d .before)) (d .join-edge .ensures)
 
 mul-wide-2 : tie.Need-mul-wide-2 Inv-loop μ-loop
 mul-wide-2 c = search needs
@@ -67,7 +70,7 @@ mul-wide-3 c = search needs
 
 slice-read-wide : tie.Need-slice-read-wide Inv-loop μ-loop
 slice-read-wide c = let i = c .before .before .loop .inv in
-    omega (arith, i .room, i .near .size, i .near .within)
+    omega (arith, i .room, i .near .classes .size, i .near .within)
 
 wide-requires-2 : tie.Need-wide-requires-2 Inv-loop μ-loop
 wide-requires-2 c κs = search needs
@@ -84,10 +87,10 @@ returns c = let s = c .before .before .before .before .before .before .before .b
     let b = c .before .before .loop-test .left in
     let e = s .count in
     joining-end _ _ _ _ _ _ _ _ _ _ i (omega arith) (c .before .before .before .before .before .before .before .before .before .before .before .before .before .before .pre .0)
-    (c .wide2 .ensures ∙ ap (λ (n : ℕ). getD (c .before .before .before .loop .work) (2 * n + c .before .before .before .before .before .before .before .before .before .before .before .before .before .before .args .x) 0) (i .near .size))
+    (c .wide2 .ensures ∙ ap (λ (n : ℕ). getD (c .before .before .before .loop .work) (2 * n + c .before .before .before .before .before .before .before .before .before .before .before .before .before .before .args .x) 0) (i .near .classes .size))
 
-pub absorb-spec : {M : Type 1} → statement M
-absorb-spec =
+pub join-pixel-spec : {M : Type 1} → statement M
+join-pixel-spec =
     tie.close
     (tie.spec
     Inv-loop
@@ -99,7 +102,7 @@ absorb-spec =
     mul-wide
     array-read-wide
     wide-requires
-    absorb-edge-requires
+    join-edge-requires
     add-i
     loop-less
     loop-again

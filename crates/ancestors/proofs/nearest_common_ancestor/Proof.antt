@@ -1,11 +1,11 @@
--- `ancestors::meet` meets its contract. The invariant is Climbed: a climb from the two nodes is on its way.
+-- `ancestors::nearest_common_ancestor` meets its contract. The invariant is Climbed: a climb from the two nodes is on its way.
 use Prim.Native.Nat.{_-_, _*_, _<_}
 use native.Mathlib.Omega.{arith}
 use lib.ListN.{length}
 use Rattle.ancestors.proofs.Ancestors.{Climbed, climb-start, climb-left, climb-right, climb-above, climb-above-right, climb-within, climb-end}
 use borrow.Author.Needs.{needs}
-use Rattle.ancestors.proofs.meet.Statement.{statement}
-use Rattle.ancestors.proofs.meet.Tie as tie
+use Rattle.ancestors.proofs.nearest_common_ancestor.Statement.{statement}
+use Rattle.ancestors.proofs.nearest_common_ancestor.Tie as tie
 
 abbrev Inv-loop : tie.InvT-loop
 Inv-loop fathers a b c₀ d₀ c d = Climbed fathers a b c d
@@ -53,8 +53,8 @@ loop-again-2 c = let h : c .before .before .before .before .loop .d < c .before 
 returns : tie.Need-returns Inv-loop μ-loop
 returns c = climb-end _ _ _ _ _ (c .before .loop .inv) (c .loop-test .left)
 
-pub meet-spec : {M : Type 1} → statement M
-meet-spec =
+pub nearest-common-ancestor-spec : {M : Type 1} → statement M
+nearest-common-ancestor-spec =
     tie.close
     (tie.spec
     Inv-loop

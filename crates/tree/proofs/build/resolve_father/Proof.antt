@@ -1,10 +1,10 @@
--- `tree::build::settle_one` meets its contract.
-use Rattle.tree_laws.proofs.Settling.{stays, settle-move}
+-- `tree::build::resolve_father` meets its contract.
+use Rattle.tree_laws.proofs.Resolving.{stays, resolve-move}
 use mathlib.Core.Path.{refl}
 use native.Mathlib.Omega.{arith}
 use borrow.Author.Needs.{needs}
-use Rattle.tree.proofs.build.settle_one.Statement.{statement}
-use Rattle.tree.proofs.build.settle_one.Tie as tie
+use Rattle.tree.proofs.build.resolve_father.Statement.{statement}
+use Rattle.tree.proofs.build.resolve_father.Tie as tie
 
 add-f : tie.Need-add-f
 add-f c = search needs
@@ -46,10 +46,10 @@ same-length : tie.Need-same-length
 same-length c = search needs
 
 returns-2 : tie.Need-returns-2
-returns-2 c = settle-move _ _ _ _ (c .before .wide .ensures) (c .before .before .if1 .left)
+returns-2 c = resolve-move _ _ _ _ (c .before .wide .ensures) (c .before .before .if1 .left)
 
-pub settle-one-spec : {M : Type 1} → statement M
-settle-one-spec =
+pub resolve-father-spec : {M : Type 1} → statement M
+resolve-father-spec =
     tie.close
     (tie.spec
     add-f

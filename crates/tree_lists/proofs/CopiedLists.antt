@@ -14,7 +14,7 @@ use Rattle.lists.proofs.Blocks.{overwritten-front}
 use Rattle.lists.proofs.Copies.{Copied}
 use Rattle.lists.specs.Blocks.{blockEntry}
 use Rattle.tree.specs.Built.{Built}
-use Rattle.tree_lists.specs.Lists.{Bytes, Handed}
+use Rattle.tree_lists.specs.Lists.{Bytes, TreeHanded}
 
 module _ (p : Picture) (r : ℕ) (work after cells left : List ℕ) (built : Built p r work after cells left) where
   -- there are no more nodes than places, and their heights are bytes
@@ -67,5 +67,5 @@ module _ (p : Picture) (r : ℕ) (work after cells left : List ℕ) (built : Bui
       c ∙
       over-same (places p) (treeOf p .map) (length-map-of p) left cells (built .rest)
 
-  pub handed-over : Handed p r work after
+  pub handed-over : TreeHanded p r work after
   handed-over = record { count = built .count; room = built .room; beyond = built .beyond }

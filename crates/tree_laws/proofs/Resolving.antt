@@ -12,14 +12,15 @@ use Rattle.picture.specs.Pictures.{Picture, places}
 use Rattle.picture.specs.Trees.{nodes, nodeAt, fatherOf, mapOf}
 use Rattle.topology.proofs.Accepted.{Accepted, byte-at, places-bound}
 use Rattle.topology.proofs.Nodes.{nodes-few}
+use Rattle.lists.proofs.Blocks.{untouched-refl, untouched-set}
 use Rattle.tree_laws.proofs.Counts.{so-all}
 use Rattle.tree_laws.proofs.LastFathers.{LastFather, missing, pixel, last-father}
 use Rattle.tree_laws.proofs.Chains.{fathersIn, mapIn}
-use Rattle.tree_laws.proofs.Listing.{NodesIn}
+use Rattle.tree_laws.proofs.Listing.{NodesIn, nodes-block}
 use Rattle.tree_laws.proofs.Mapped.{Between}
 
--- the fathers of the first i nodes are settled
-pub record Settling (p : Picture) (i : ℕ) (w : List ℕ) : Type 0 where
+-- the fathers of the first i nodes are resolved
+pub record Resolving (p : Picture) (i : ℕ) (w : List ℕ) : Type 0 where
   pub ok : Accepted p
   pub room : length w ≡ 4 * places p
   pub listed : NodesIn p (length (nodes p)) w
@@ -27,39 +28,39 @@ pub record Settling (p : Picture) (i : ℕ) (w : List ℕ) : Type 0 where
   pub done : (j : ℕ) → j < i → j < length (nodes p) → fathersIn p w j ≡ fatherOf p (nodeAt p j)
   pub left : (j : ℕ) → i ≤ j → j < length (nodes p) → LastFather p (fathersIn p w j) j
 
--- the entry i is settled
-pub data SettledOne (n i : ℕ) (w v : List ℕ) : Type 0 where
-  stays : getD w (n + i) 0 ≡ 65535 → v ≡ w → SettledOne n i w v
-  moves : getD w (n + i) 0 ≢ 65535 → v ≡ set w (n + i) (getD w (2 * n + getD w (n + i) 0) 0) → SettledOne n i w v
+-- the entry i is resolved
+pub data ResolvedOne (n i : ℕ) (w v : List ℕ) : Type 0 where
+  stays : getD w (n + i) 0 ≡ 65535 → v ≡ w → ResolvedOne n i w v
+  moves : getD w (n + i) 0 ≢ 65535 → v ≡ set w (n + i) (getD w (2 * n + getD w (n + i) 0) 0) → ResolvedOne n i w v
 
 -- what the step asks
-pub record SettleBounds (n i : ℕ) (w : List ℕ) : Type 0 where
+pub record ResolveBounds (n i : ℕ) (w : List ℕ) : Type 0 where
   pub within : i < n
   pub room : length w ≡ 4 * n
   pub pixel : getD w (n + i) 0 ≢ 65535 → getD w (n + i) 0 < n
 
--- some picture's fathers can be settled
-pub record SettleReady (n c : ℕ) (w : List ℕ) : Type 0 where
+-- some picture's fathers can be resolved
+pub record ResolveReady (n c : ℕ) (w : List ℕ) : Type 0 where
   pub p : Picture
   pub size : n ≡ places p
   pub count : c ≡ length (nodes p)
-  pub settling : Settling p 0 w
+  pub resolving : Resolving p 0 w
 
--- the entries of the first i nodes are settled
-pub record SettleWalk (n c i : ℕ) (w v : List ℕ) : Type 0 where
+-- the entries of the first i nodes are resolved
+pub record ResolveWalk (n c i : ℕ) (w v : List ℕ) : Type 0 where
   pub most : i ≤ c
   pub size : length v ≡ length w
-  pub from : (p : Picture) → n ≡ places p → c ≡ length (nodes p) → Settling p 0 w → Settling p i v
+  pub from : (p : Picture) → n ≡ places p → c ≡ length (nodes p) → Resolving p 0 w → Resolving p i v
 
-pub between-settle : (p : Picture) (c : ℕ) (l w : List ℕ) → Between p 256 c l w → (c ≡ length (nodes p)) × Settling p 0 w
-between-settle p c l w b =
+pub between-resolve : (p : Picture) (c : ℕ) (l w : List ℕ) → Between p 256 c l w → (c ≡ length (nodes p)) × Resolving p 0 w
+between-resolve p c l w b =
     let e : c ≡ length (nodes p) = b .count ∙ so-all p in (
       e,
       record {
         ok = b .ok;
         room = b .room;
         listed = subst (λ (i : ℕ). NodesIn p i w) e (b .nodes);
-        map = λ x h. b .threads .mapped x (record { within = h; passed = inl (let q = byte-at (p .pixels) (b .ok .bytes) x in omega arith) });
+        map = λ x h. b .chained .mapped x (record { within = h; passed = inl (let q = byte-at (p .pixels) (b .ok .bytes) x in omega arith) });
         done = λ j h g. absurd (omega arith);
         left =
             λ j h g.
@@ -68,13 +69,13 @@ between-settle p c l w b =
       },
     )
 
-pub settle-none : (n c : ℕ) (w : List ℕ) → SettleWalk n c 0 w w
-settle-none n c w = record { most = omega arith; size = refl; from = λ p e q s. s }
+pub resolve-none : (n c : ℕ) (w : List ℕ) → ResolveWalk n c 0 w w
+resolve-none n c w = record { most = omega arith; size = refl; from = λ p e q s. s }
 
-pub settle-bounds : (n c i : ℕ) (w v : List ℕ) → SettleReady n c w → SettleWalk n c i w v → i < c → SettleBounds n i v
-settle-bounds n c i w v r s h = by (r .p) (r .size) (s .from (r .p) (r .size) (r .count) (r .settling)) (r .count)
+pub resolve-bounds : (n c i : ℕ) (w v : List ℕ) → ResolveReady n c w → ResolveWalk n c i w v → i < c → ResolveBounds n i v
+resolve-bounds n c i w v r s h = by (r .p) (r .size) (s .from (r .p) (r .size) (r .count) (r .resolving)) (r .count)
   where
-    by : (p : Picture) → n ≡ places p → Settling p i v → c ≡ length (nodes p) → SettleBounds n i v
+    by : (p : Picture) → n ≡ places p → Resolving p i v → c ≡ length (nodes p) → ResolveBounds n i v
     by p e g q =
         let few = nodes-few p in
         let room = g .room in
@@ -85,25 +86,25 @@ settle-bounds n c i w v r s h = by (r .p) (r .size) (s .from (r .p) (r .size) (r
         small at d (missing a b) = absurd (d (at ∙ a))
         small at d (pixel a b) = omega arith
 
-pub settle-turn : (n c i : ℕ) (w v u : List ℕ) → SettleWalk n c i w v → i < c → SettledOne n i v u → SettleWalk n c (i + 1) w u
-settle-turn n c i w v u s h t =
+pub resolve-turn : (n c i : ℕ) (w v u : List ℕ) → ResolveWalk n c i w v → i < c → ResolvedOne n i v u → ResolveWalk n c (i + 1) w u
+resolve-turn n c i w v u s h t =
     record {
       most = omega arith;
       size = sizes t ∙ s .size;
       from =
           λ p e q g.
-          subst (λ (j : ℕ). Settling p j u) (sym (add-one i))
-          (by p (let z = nodes-few p in (omega arith, omega arith)) (s .from p e q g) (subst (λ (m : ℕ). SettledOne m i v u) e t));
+          subst (λ (j : ℕ). Resolving p j u) (sym (add-one i))
+          (by p (let z = nodes-few p in (omega arith, omega arith)) (s .from p e q g) (subst (λ (m : ℕ). ResolvedOne m i v u) e t));
     }
   where
-    sizes : SettledOne n i v u → length u ≡ length v
+    sizes : ResolvedOne n i v u → length u ≡ length v
     sizes (stays a b) = ap length b
     sizes (moves a b) = ap length b ∙ length-set v (n + i) (getD v (2 * n + getD v (n + i) 0) 0)
 
-    by : (p : Picture) → (i < length (nodes p)) × (length (nodes p) ≤ places p) → Settling p i v → SettledOne (places p) i v u → Settling p (suc i) u
+    by : (p : Picture) → (i < length (nodes p)) × (length (nodes p) ≤ places p) → Resolving p i v → ResolvedOne (places p) i v u → Resolving p (suc i) u
     by p few g (stays a b) =
         let is = none (g .left i (omega arith) (few .0)) in
-        subst (Settling p (suc i)) (sym b)
+        subst (Resolving p (suc i)) (sym b)
         (record {
           ok = g .ok;
           room = g .room;
@@ -124,15 +125,14 @@ settle-turn n c i w v u s h t =
         let lo = few .0 in
         let hi = few .1 in
         let is = own (g .left i (omega arith) (few .0)) in
-        subst (Settling p (suc i)) (sym b)
+        subst (Resolving p (suc i)) (sym b)
         (record {
           ok = g .ok;
           room = length-set v (places p + i) father ∙ g .room;
           listed =
-              record {
-                heights = λ j k. other j (λ z. omega arith) ∙ g .listed .heights j k;
-                firsts = λ j k. other (3 * places p + j) (λ z. omega arith) ∙ g .listed .firsts j k;
-              };
+              nodes-block p (length (nodes p)) (places p) v (set v (places p + i) father) hi (omega arith) (omega arith)
+              (untouched-set (places p) (places p) i father v v (omega arith) (untouched-refl (places p) (places p) v))
+              (g .listed);
           map = λ x k. other (2 * places p + x) (λ z. omega arith) ∙ g .map x k;
           done =
               λ j q k.
@@ -156,16 +156,16 @@ settle-turn n c i w v u s h t =
             getD-set-same v (places p + i) father 0 (let z = g .room in let lo = few .0 in let hi = few .1 in omega arith) ∙
             (g .map (fathersIn p v i) x ∙ sym y)
 
-pub settle-end : (n c i : ℕ) (w v : List ℕ) → SettleWalk n c i w v → c ≤ i → SettleWalk n c c w v
-settle-end n c i w v s h = let a = s .most in subst (λ (j : ℕ). SettleWalk n c j w v) (let e : i ≡ c = omega arith in e) s
+pub resolve-end : (n c i : ℕ) (w v : List ℕ) → ResolveWalk n c i w v → c ≤ i → ResolveWalk n c c w v
+resolve-end n c i w v s h = let a = s .most in subst (λ (j : ℕ). ResolveWalk n c j w v) (let e : i ≡ c = omega arith in e) s
 
-pub settle-move : (n i f : ℕ) (w : List ℕ) → f ≡ getD w (n + i) 0 → getD w (n + i) 0 ≢ 65535 → SettledOne n i w (set w (n + i) (getD w (2 * n + f) 0))
-settle-move n i f w e d = moves d (ap (λ (g : ℕ). set w (n + i) (getD w (2 * n + g) 0)) e)
+pub resolve-move : (n i f : ℕ) (w : List ℕ) → f ≡ getD w (n + i) 0 → getD w (n + i) 0 ≢ 65535 → ResolvedOne n i w (set w (n + i) (getD w (2 * n + f) 0))
+resolve-move n i f w e d = moves d (ap (λ (g : ℕ). set w (n + i) (getD w (2 * n + g) 0)) e)
 
-pub settle-ready : (p : Picture) (n c : ℕ) (l w : List ℕ) → Between p 256 c l w → n ≡ places p → SettleReady n c w
-settle-ready p n c l w b e =
-    let (q, s) = between-settle p c l w b in record { p = p; size = e; count = q; settling = s }
+pub resolve-ready : (p : Picture) (n c : ℕ) (l w : List ℕ) → Between p 256 c l w → n ≡ places p → ResolveReady n c w
+resolve-ready p n c l w b e =
+    let (q, s) = between-resolve p c l w b in record { p = p; size = e; count = q; resolving = s }
 
-pub settled : (p : Picture) (n c : ℕ) (l w v : List ℕ) → Between p 256 c l w → n ≡ places p → SettleWalk n c c w v → (c ≡ length (nodes p)) × Settling p (length (nodes p)) v
-settled p n c l w v b e s =
-    let (q, g) = between-settle p c l w b in (q, subst (λ (i : ℕ). Settling p i v) q (s .from p e q g))
+pub resolved : (p : Picture) (n c : ℕ) (l w v : List ℕ) → Between p 256 c l w → n ≡ places p → ResolveWalk n c c w v → (c ≡ length (nodes p)) × Resolving p (length (nodes p)) v
+resolved p n c l w v b e s =
+    let (q, g) = between-resolve p c l w b in (q, subst (λ (i : ℕ). Resolving p i v) q (s .from p e q g))

@@ -8,10 +8,10 @@ ghost use lib.ListN.{length};
 ghost use Rattle.picture.specs.Pictures.{pictureOf};
 ghost use Rattle.lists.specs.Blocks.{UntouchedOutside};
 ghost use Rattle.tree_laws.proofs.Chains.{EdgeReady, EdgeDone};
-ghost use Rattle.tree_laws.proofs.Walks.{WalkReady, Absorbed};
+ghost use Rattle.tree_laws.proofs.Walks.{WalkReady, PixelJoined};
 
 // Joins the place x, whose root is r, to its neighbour y if y comes before x, and answers the root then.
-fn absorb_edge(
+fn join_edge(
     pixels: &[u8],
     work: &mut [u16],
     cells: &mut [u16],
@@ -34,7 +34,7 @@ fn absorb_edge(
 }
 
 // Joins the place x of value k to its neighbours that come before it, and answers the next place of its value.
-fn absorb(
+fn join_pixel(
     a: u32,
     w: u32,
     h: u32,
@@ -45,21 +45,21 @@ fn absorb(
     x: usize,
 ) -> usize
     requires { ⌜ WalkReady (pictureOf a w h (now pixels)) k x (now cells) (now work) × (x < length (now cells)) ⌝ }
-    ensures { λ r. ⌜ Absorbed (pictureOf a w h (now (pixels .entry))) k x r (now (cells .exit)) (now (work .entry)) (now (work .exit)) ⌝ }
+    ensures { λ r. ⌜ PixelJoined (pictureOf a w h (now (pixels .entry))) k x r (now (cells .exit)) (now (work .entry)) (now (work .exit)) ⌝ }
 {
     let mut near = [0u16; 8];
     let count = geometry::neighbours(a, w, h, x, &mut near);
     let mut root = find(cells, x);
     let mut i = 0;
     while i < count {
-        root = absorb_edge(pixels, work, cells, k, x, root, wide(near[i]));
+        root = join_edge(pixels, work, cells, k, x, root, wide(near[i]));
         i += 1;
     }
     wide(work[2 * cells.len() + x])
 }
 
 // The pixels of value k join the classes; their chain begins at head.
-pub fn absorb_level(
+pub fn join_pixels(
     a: u32,
     w: u32,
     h: u32,
@@ -74,6 +74,6 @@ pub fn absorb_level(
 {
     let mut x = head;
     while x < cells.len() {
-        x = absorb(a, w, h, pixels, work, cells, k, x);
+        x = join_pixel(a, w, h, pixels, work, cells, k, x);
     }
 }

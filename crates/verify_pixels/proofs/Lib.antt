@@ -1,2 +1,0 @@
--- Laws of the check of the pixels of a height.
-pub mod Answers
