@@ -9,8 +9,8 @@ use lib.ListN.{length, getD, drop}
 use borrow.Author.Tests.{eq-eqb}
 use Rattle.lists.proofs.Cuts.{over-front}
 use Rattle.lists.specs.Lists.{pick, tally, range, over}
-use Rattle.picture.specs.Pictures.{Picture, places, allBytes, isPicture}
-use Rattle.picture.specs.Components.{pass}
+use Rattle.picture.specs.Pictures.{Picture, places, isPicture}
+use Rattle.picture.specs.Passes.{pass}
 use Rattle.picture.specs.Trees.{nodes, nodeAt, fatherOf, treeOf}
 use Rattle.picture.specs.Patches.{patchAt}
 use Rattle.picture.specs.Kept.{partners, Kept}

@@ -1,5 +1,5 @@
 -- The laws of the calls that lend a tree: its faults, and the tree entry by entry.
-use mathlib.Core.Path.{_≡_, refl, sym, ap, ap₂, subst, _∙_}
+use mathlib.Core.Path.{_≡_, refl, sym, ap, _∙_}
 use mathlib.Core.Bool.{Bool, true, false, _||_, not}
 use mathlib.Core.Logic.{_≢_}
 use mathlib.Core.List.{List, [], _∷_}
@@ -9,7 +9,7 @@ use lib.Dec.{eqb, leb}
 use lib.ListN.{length, getD}
 use borrow.Author.Tests.{eqb-true, eq-eqb, leb-false, not-false}
 use Rattle.picture.specs.Pictures.{Picture, places, isPicture}
-use Rattle.picture.specs.Components.{pass}
+use Rattle.picture.specs.Passes.{pass}
 use Rattle.picture.specs.Trees.{nodes, treeOf}
 use Rattle.faults.specs.PictureFault.{firstOf, when}
 use Rattle.lists.proofs.Tests.{and-left, and-right, and-both, or-fails, clash, on-test}

@@ -7,7 +7,8 @@ use lib.Dec.{eqb}
 use lib.ListN.{length}
 use Rattle.lists.specs.Lists.{pick, over}
 use Rattle.picture.specs.Pictures.{Picture, valueAt}
-use Rattle.picture.specs.Components.{components, labels}
+use Rattle.picture.specs.Components.{components}
+use Rattle.picture.specs.Labels.{labels}
 use Rattle.picture.specs.Watersheds.{lowerable, watershed}
 use Rattle.faults.specs.Faults.{outputFault, placeFault}
 use Rattle.picture.specs.Patches.{patchAt}

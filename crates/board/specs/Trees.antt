@@ -8,7 +8,7 @@ use lib.Dec.{eqb, leb}
 use lib.ListN.{length}
 use Rattle.lists.specs.Lists.{over}
 use Rattle.picture.specs.Pictures.{Picture, places}
-use Rattle.picture.specs.Components.{pass}
+use Rattle.picture.specs.Passes.{pass}
 use Rattle.picture.specs.Trees.{nodes, treeOf}
 use Rattle.faults.specs.PictureFault.{firstOf, when}
 use Rattle.answers.specs.declared.Answer.{Answer}

@@ -10,7 +10,6 @@ use faults::work_fault;
 use packing::pack;
 use packing::unpack;
 use text::put_little;
-ghost use mathlib.Core.Path.{_≡_};
 ghost use Prim.Native.Nat.{_+_, _≤_};
 ghost use lib.ListN.{length};
 ghost use Rattle.picture.specs.Pictures.{pictureOf};

@@ -13,7 +13,8 @@ use mir.Val.{toZ, ofZ}
 use Rattle.lists.specs.Lists.{over}
 use Rattle.lists.specs.Writing.{Written}
 use Rattle.picture.specs.declared.Step.{Step}
-use Rattle.picture.specs.Geometry.{steps, plusOne, offset, used, within, stays, placeBy, reached, neighboursOf, Placed, Listed}
+use Rattle.picture.specs.Geometry.{steps, plusOne, offset, used, within, stays, placeBy, reached, neighboursOf}
+use Rattle.picture.proofs.Neighbours.{Placed, Listed}
 use Rattle.geometry.specs.Steps.{isUnit, strideOf, stepAt, offEdge, isInner, Stepping, StepsTo}
 use Rattle.lists.proofs.Tests.{and-left, and-right, and-both, on-pick}
 use Rattle.lists.proofs.Writings.{written-none, written-byte, written-then, written-length, written-front}

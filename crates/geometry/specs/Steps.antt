@@ -1,14 +1,15 @@
 -- What the functions behind the neighbours say of one step.
 use mathlib.Core.Path.{_≡_}
 use mathlib.Core.Bool.{Bool, true, _&&_}
-use mathlib.Core.List.{List, _++_}
+use mathlib.Core.List.{List}
 use Prim.Native.Nat.{ℕ, _+_, _*_, _<_}
 use lib.Dec.{eqb, leb, ltb}
 use lib.IntN.{ℤ, pos, negsuc}
 use Rattle.picture.specs.declared.Step.{Step}
-use lib.ListN.{length, getD, take, drop}
+use lib.ListN.{length, getD}
 use Rattle.lists.specs.Lists.{pick}
-use Rattle.picture.specs.Geometry.{step, steps, offset, Placed}
+use Rattle.picture.specs.Geometry.{step, steps, offset}
+use Rattle.picture.proofs.Neighbours.{Placed}
 
 -- a step in one direction is −1, 0 or 1
 abbrev pub isUnit : ℤ → Bool

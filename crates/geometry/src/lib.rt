@@ -7,7 +7,8 @@ ghost use Prim.Native.Nat.{_+_, _-_, _*_, _≤_, _<_};
 ghost use mathlib.Core.Bool.{true};
 ghost use lib.ListN.{length, set};
 ghost use Rattle.lists.specs.Writing.{Written};
-ghost use Rattle.picture.specs.Geometry.{plusOne, reached, neighboursOf, Placed, Listed};
+ghost use Rattle.picture.specs.Geometry.{plusOne, reached, neighboursOf};
+ghost use Rattle.picture.proofs.Neighbours.{Placed, Listed};
 ghost use Rattle.geometry.specs.Steps.{isUnit, strideOf, offEdge, isInner, Stepping};
 
 // The eight steps in their order; adjacency 4 uses every second one.

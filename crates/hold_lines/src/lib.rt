@@ -12,7 +12,7 @@ ghost use Rattle.lists.specs.Writing.{Written};
 ghost use Rattle.picture.specs.Patches.{centre};
 ghost use Rattle.hold_lines.specs.Figures.{lineAt, Lists};
 ghost use Rattle.hold_lines.specs.Lines.{patchesWord, headLines, refusedLine, lineOf};
-ghost use Rattle.text.specs.Decimal.{decimal, fields};
+ghost use Rattle.text.specs.Decimal.{decimal};
 
 // A cell as a number of 32 bits.
 fn wide(n: u16) -> u32

@@ -11,7 +11,7 @@ use borrow.Author.Count.{below-more}
 use borrow.Author.Tests.{eqb-true, eqb-false, ne-eqb}
 use Rattle.lists.specs.Lists.{pick}
 use Rattle.picture.specs.Pictures.{Picture, places, valueAt}
-use Rattle.picture.specs.Components.{labels}
+use Rattle.picture.specs.Labels.{labels}
 use Rattle.picture.specs.Geometry.{neighboursIn}
 use Rattle.picture.specs.Watersheds.{lowerable}
 use Rattle.picture.proofs.Neighbours.{neighbour-at, neighbour-index}

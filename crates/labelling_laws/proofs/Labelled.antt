@@ -10,7 +10,8 @@ use lib.ListN.{length, getD, replicate, length-replicate, getD-replicate, List·
 use lib.Seq.{ext-getD}
 use Rattle.lists.specs.Lists.{tally, range}
 use Rattle.picture.specs.Pictures.{Picture, places}
-use Rattle.picture.specs.Components.{inSection, components, labels}
+use Rattle.picture.specs.Components.{inSection, components}
+use Rattle.picture.specs.Labels.{labels}
 use Rattle.lists.proofs.Tests.{clash, test-false}
 use Rattle.topology.proofs.Connected.{start, conn-target}
 use Rattle.topology.proofs.Adjacency.{At, Joined, section-at, at-section}

@@ -7,13 +7,12 @@ use Prim.Native.Nat.{ℕ, suc, _-_, _<_}
 use native.Mathlib.Omega.{arith}
 use lib.ListN.{length, getD}
 use Rattle.picture.specs.Pictures.{Picture, places, valueAt, isPicture}
-use Rattle.picture.specs.Components.{labels}
+use Rattle.picture.specs.Labels.{labels}
 use Rattle.picture.specs.Geometry.{neighboursIn}
 use Rattle.picture.specs.Watersheds.{lowerable}
-use Rattle.topology.proofs.Accepted.{accepted-is}
+use Rattle.topology.proofs.Accepted.{accepted-is, picture-few}
 use Rattle.labelling_laws.proofs.Agreeing.{isSingle, Common, not-lowerable, label-small, common-end}
 use Rattle.labels.specs.Labels.{LabelReady}
-use Rattle.labels.proofs.Scans.{picture-few}
 
 module _ (p : Picture) (a : isPicture p ≡ true) where
   -- a stack of 1,600 cells is large enough

@@ -8,20 +8,16 @@ use native.Mathlib.Omega.{arith}
 use lib.Dec.{eqb}
 use lib.ListN.{length, getD, replicate, length-replicate}
 use Rattle.lists.specs.Lists.{over}
-use Rattle.picture.specs.Pictures.{Picture, places, isPicture}
+use Rattle.picture.specs.Pictures.{Picture, places}
 use Rattle.picture.specs.Components.{inSection}
 use Rattle.lists.proofs.Lists.{tally-length}
 use Rattle.lists.proofs.Cuts.{over-all}
 use Rattle.topology.proofs.Parts.{isFirst, first-is}
-use Rattle.topology.proofs.Accepted.{accepted-is, places-bound}
+use Rattle.topology.proofs.Accepted.{accepted-is, picture-few}
 use Rattle.labelling_laws.proofs.Labelled.{Labelled, labelled-start, count-most, outside-first, labelled-first, unlabelled-first, labelled-pass, labelled-fresh, labelled-new, labelled-flood, labelled-end}
 use Rattle.labels.specs.Labels.{LabelReady, LabelsHold}
 use Rattle.labelling_laws.proofs.Flood.{Flooded}
 use Rattle.floods.specs.Floods.{Room, Seed}
-
--- the places of an accepted picture
-pub picture-few : (p : Picture) → isPicture p ≡ true → places p ≤ 1600
-picture-few p a = places-bound p (accepted-is p a)
 
 module _ (p : Picture) (l stack : List ℕ) (a : LabelReady p l stack) where
   pub ready-room : Room (places p) (p .pixels) l stack 0

@@ -5,7 +5,8 @@ use mathlib.Core.List.{List}
 use Prim.Native.Nat.{ℕ, _≤_}
 use lib.ListN.{length}
 use Rattle.picture.specs.Pictures.{Picture, places, isPicture}
-use Rattle.picture.specs.Components.{components, labels}
+use Rattle.picture.specs.Components.{components}
+use Rattle.picture.specs.Labels.{labels}
 
 -- an accepted picture with a label for each place, and a stack of as many cells at least
 pub record LabelReady (p : Picture) (l stack : List ℕ) : Type 0 where

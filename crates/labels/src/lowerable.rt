@@ -8,7 +8,8 @@ ghost use mathlib.Core.Bool.{true};
 ghost use Prim.Native.Nat.{ℕ, _*_, _<_};
 ghost use lib.ListN.{length, getD};
 ghost use Rattle.picture.specs.Pictures.{isPicture, pictureOf};
-ghost use Rattle.picture.specs.Geometry.{Placed, neighboursOf};
+ghost use Rattle.picture.specs.Geometry.{neighboursOf};
+ghost use Rattle.picture.proofs.Neighbours.{Placed};
 ghost use Rattle.picture.specs.Watersheds.{lowerable as isLowerable};
 ghost use Rattle.labelling_laws.proofs.Agreeing.{agreed, isSingle, Common};
 

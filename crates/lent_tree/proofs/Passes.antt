@@ -6,7 +6,7 @@ use Prim.Native.Nat.{ℕ, _≤_, _<_, max}
 use native.Mathlib.Omega.{arith}
 use lib.ListN.{length, getD}
 use Rattle.picture.specs.Pictures.{Picture, places, valueAt, isPicture}
-use Rattle.picture.specs.Components.{pass}
+use Rattle.picture.specs.Passes.{pass}
 use Rattle.picture.specs.Trees.{nodes}
 use Rattle.topology.proofs.Accepted.{accepted-is}
 use Rattle.topology.proofs.Descent.{map-found}

@@ -6,7 +6,7 @@ use mathlib.Core.List.{List}
 use Prim.Native.Nat.{ℕ, _<_, _≤_}
 use lib.ListN.{length}
 use Rattle.picture.specs.Pictures.{Picture, places, isPicture}
-use Rattle.picture.specs.Components.{pass}
+use Rattle.picture.specs.Passes.{pass}
 use Rattle.lent_tree.specs.Lent.{HoldsTree}
 
 -- a picture whose tree is lent, and two of its places

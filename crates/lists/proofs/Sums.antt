@@ -9,7 +9,7 @@ use lib.Dec.{eqb, leb}
 use lib.ListN.{length, getD, set, drop, length-map}
 use lib.Seq.{drop-cons}
 use Rattle.lists.specs.Lists.{pick, select, range, total, highest}
-use Rattle.lists.proofs.Tests.{on-test, on-pick, pick-in, pick-out}
+use Rattle.lists.proofs.Tests.{on-test, on-pick}
 use Rattle.lists.proofs.Lists.{select-in, select-out, length-range, range-next, getD-map-range}
 
 -- a sum over selected members is one over all, with 0 for the others
@@ -101,12 +101,6 @@ module _ (g : ℕ → ℕ) (numbers : List ℕ) (c : ℕ) where
       let term : ℕ → ℕ = λ x. pick (eqb (getD numbers x 0) c) (g x) 0 in
       let z : 0 + m ≡ m = omega arith in
       total-next term 0 m ∙ ap (λ (x : ℕ). total (map term (range 0 m)) + term x) z
-
-  pub sum-in : (m : ℕ) → getD numbers m 0 ≡ c → sumAt g numbers c (suc m) ≡ sumAt g numbers c m + g m
-  sum-in m e = let q = pick-in (getD numbers m 0) c (g m) 0 e in let r = sum-next m in omega arith
-
-  pub sum-out : (m : ℕ) → ¬ (getD numbers m 0 ≡ c) → sumAt g numbers c (suc m) ≡ sumAt g numbers c m
-  sum-out m d = let q = pick-out (getD numbers m 0) c (g m) 0 d in let r = sum-next m in omega arith
 
   pub sum-most : (d m : ℕ) → ((x : ℕ) → x < m → g x ≤ d) → sumAt g numbers c m ≤ d * m
   unfolding sumAt

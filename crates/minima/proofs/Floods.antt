@@ -1,5 +1,5 @@
 -- The laws of the functions that count the minima: a visit, the edges of a place, the run of a flood.
-use mathlib.Core.Path.{_≡_, refl, sym, ap, subst, _∙_}
+use mathlib.Core.Path.{_≡_, refl, sym, subst, _∙_}
 use mathlib.Core.Bool.{Bool, true, false}
 use mathlib.Core.Logic.{_≢_}
 use mathlib.Core.List.{List, []}
@@ -9,9 +9,9 @@ use native.Mathlib.Omega.{arith}
 use lib.Dec.{eqb}
 use lib.ListN.{length, getD, set, drop, length-set, drop-of-length-le}
 use Rattle.picture.specs.Pictures.{Picture, places, valueAt, isPicture}
-use Rattle.picture.specs.Geometry.{neighboursIn, Placed}
+use Rattle.picture.specs.Geometry.{neighboursIn}
 use Rattle.picture.specs.Patches.{patches}
-use Rattle.picture.proofs.Neighbours.{neighbour-next, neighbours-touch}
+use Rattle.picture.proofs.Neighbours.{neighbour-next, neighbours-touch, Placed}
 use Rattle.lists.proofs.Lists.{in-mem, tally-length, set-back}
 use Rattle.lists.proofs.Positions.{tally-bound}
 use Rattle.lists.proofs.Blocks.{overwritten-entry}
@@ -19,7 +19,7 @@ use Rattle.topology.proofs.Connected.{start, conn-target}
 use Rattle.labelling_laws.proofs.Zones.{Flat, ZoneFlooding, ZoneFlooded, zone-start, zone-pop, zone-done, zone-lower, zone-higher, zone-level, zone-visit, zone-end}
 use Rattle.labelling_laws.proofs.ZoneScan.{unvisited-set, Scanned, scan-start, scan-seen, scan-fresh, scan-lower, scan-minimum, scan-end}
 use Rattle.topology.proofs.Leaves.{bottom}
-use Rattle.topology.proofs.Accepted.{accepted-is, places-bound, placed}
+use Rattle.topology.proofs.Accepted.{accepted-is, places-bound, placed, value-in}
 use Rattle.minima.specs.declared.Stack.{Stack}
 use Rattle.minima.specs.Minima.{CellEach, ZoneRoom, ZoneMoved, popped, ZoneFloods, Visit, ZoneSpread, ZoneTurn, ZoneSeed, Counting}
 use Rattle.lists.specs.Blocks.{Filled}
@@ -51,10 +51,6 @@ zone-moved-room pixels cells s after r x a b =
     }
 
 module _ (pixels : List ℕ) (k y : ℕ) (cells : List ℕ) (s : Stack) (room : ZoneRoom pixels cells s) where
-  -- the value of the place in a picture with these pixels
-  value-in : (p : Picture) → p .pixels ≡ pixels → valueAt p y ≡ getD pixels y 0
-  value-in p e = ap (λ (l : List ℕ). getD l y 0) e
-
   pub visit-lower : getD pixels y 0 < k → Visit pixels k y cells s cells (record { top = s .top; height = s .height; low = true })
   visit-lower h =
       record {
@@ -62,7 +58,7 @@ module _ (pixels : List ℕ) (k y : ℕ) (cells : List ℕ) (s : Stack) (room : 
         follows =
             λ p x q before zs e b r f.
             zone-lower p k x before cells (s .top) (s .height) (s .low) q y zs f r b
-            (let v = value-in p e in omega arith);
+            (let v = value-in p pixels e y in omega arith);
       }
 
   pub visit-higher : k < getD pixels y 0 → Visit pixels k y cells s cells s
@@ -71,7 +67,7 @@ module _ (pixels : List ℕ) (k y : ℕ) (cells : List ℕ) (s : Stack) (room : 
         moved = zone-moved-none cells s (s .low) (room .link);
         follows =
             λ p x q before zs e b r f.
-            zone-higher p k x before cells (s .top) (s .height) (s .low) q y zs f (let v = value-in p e in omega arith);
+            zone-higher p k x before cells (s .top) (s .height) (s .low) q y zs f (let v = value-in p pixels e y in omega arith);
       }
 
   pub visit-visited : getD pixels y 0 ≡ k → getD cells y 0 ≢ 65535 → Visit pixels k y cells s cells s
@@ -80,7 +76,7 @@ module _ (pixels : List ℕ) (k y : ℕ) (cells : List ℕ) (s : Stack) (room : 
         moved = zone-moved-none cells s (s .low) (room .link);
         follows =
             λ p x q before zs e b r f.
-            zone-level p k x before cells (s .top) (s .height) (s .low) q y zs f (value-in p e ∙ h) m;
+            zone-level p k x before cells (s .top) (s .height) (s .low) q y zs f (value-in p pixels e y ∙ h) m;
       }
 
   pub visit-new :
@@ -97,7 +93,7 @@ module _ (pixels : List ℕ) (k y : ℕ) (cells : List ℕ) (s : Stack) (room : 
         follows =
             λ p x q before zs e i r f.
             subst (λ (t : ℕ). ZoneFlooding p k x before (set cells y (s .top)) y t (s .low) q zs) (sym (add-one (s .height)))
-            (zone-visit p k x before cells (s .top) (s .height) (s .low) q y zs f r i (value-in p e ∙ h) m c d);
+            (zone-visit p k x before cells (s .top) (s .height) (s .low) q y zs f r i (value-in p pixels e y ∙ h) m c d);
       }
 
 module _ (p : Picture) (k q : ℕ) where

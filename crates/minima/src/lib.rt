@@ -8,7 +8,7 @@ ghost use mathlib.Core.Logic.{_≢_};
 ghost use Prim.Native.Nat.{_+_, _*_, _≤_, _<_};
 ghost use lib.ListN.{length, getD};
 ghost use Rattle.picture.specs.Pictures.{isPicture, pictureOf};
-ghost use Rattle.picture.specs.Geometry.{Placed};
+ghost use Rattle.picture.proofs.Neighbours.{Placed};
 ghost use Rattle.picture.specs.Patches.{patches};
 ghost use Rattle.labelling_laws.proofs.Zones.{ZoneFlooded};
 ghost use Rattle.minima.specs.Minima.{CellEach, ZoneRoom, Visit, ZoneTurn, ZoneSeed, Counting};

@@ -14,18 +14,10 @@ use lib.Seq.{getD-set-same, getD-set-other}
 use Rattle.lists.specs.Lists.{pick}
 use Rattle.lists.proofs.Tests.{pick-in, pick-out, pick-add}
 use Rattle.lists.specs.Blocks.{blockEntry, UntouchedOutside, Filled}
-use Rattle.lists.proofs.Sums.{sumAt, sum-none, sum-in, sum-out, sum-most}
+use Rattle.lists.proofs.Sums.{sumAt, sum-none, sum-next, sum-most}
 use Rattle.patch_sums.specs.declared.Run.{Run}
 use Rattle.patch_sums.specs.Sums.{Figure, sizes, columns, rows, term, terms, termAt, base, raised, Raisable, SumsRoom, Added, RunAfter, NumberedRows, Sums, RowSummed}
 use Rattle.lists.proofs.Blocks.{untouched-refl, untouched-trans, untouched-store}
-
--- the sum with one place more
-sum-next : (g : ℕ → ℕ) (numbers : List ℕ) (c x : ℕ) → sumAt g numbers c (x + 1) ≡ sumAt g numbers c x + pick (eqb (getD numbers x 0) c) (g x) 0
-sum-next g numbers c x =
-    let e = ap (sumAt g numbers c) (add-one x) in
-    by-cases (ℕ-discrete (getD numbers x 0) c)
-    (λ d. let s = sum-in g numbers c x d in let q = pick-in (getD numbers x 0) c (g x) 0 d in omega arith)
-    (λ d. let s = sum-out g numbers c x d in let q = pick-out (getD numbers x 0) c (g x) 0 d in omega arith)
 
 raised-kept : (n j v : ℕ) (l m o : List ℕ) → o ≡ raised m j v → j < n → UntouchedOutside 0 n l m → UntouchedOutside 0 n l o
 raised-kept n j v l m o q h k = rw q (untouched-store 0 n j (getD m j 0 + v) l m (omega arith) (omega arith) k)
@@ -293,7 +285,7 @@ module _ (w n : ℕ) (numbers : List ℕ) (f : NumberedRows w n numbers) where
                   let x = v * w + u in
                   let now = a .sum k i h in
                   let sum = s .sum k i h in
-                  let next = sum-next (termAt w k) numbers (suc i) x in
+                  let next = ap (sumAt (termAt w k) numbers (suc i)) (add-one x) ∙ sum-next (termAt w k) numbers (suc i) x in
                   let place : term 1 u v k ≡ termAt w k x = sym (ap₂ (λ (y z : ℕ). term 1 y z k) (digits-mod v inside) (digits-div v inside)) in
                   let same = ap₂ (λ (d z : ℕ). pick (eqb d (suc i)) z 0) is place in
                   let e : x + 1 ≡ v * w + (u + 1) = omega arith in

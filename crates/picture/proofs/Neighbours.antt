@@ -12,13 +12,26 @@ use lib.Dec.{eqb, leb}
 use lib.ListN.{length, getD, drop, length-map}
 use lib.Seq.{drop-cons}
 use borrow.Author.Tests.{leb-true, leb-false, eqb-true, not-true, le-leb, eq-eqb}
-use Rattle.lists.specs.Lists.{pick, any, all, select, range, isIn}
+use Rattle.lists.specs.Lists.{pick, any, all, select, range, isIn, over}
 use Rattle.picture.specs.Pictures.{Picture, places, distance, adjacent, touch}
-use Rattle.picture.specs.Geometry.{Placed, Listed, steps, Offset, offset, everySecond, within, stays, placeBy, neighboursOf, neighboursIn}
+use Rattle.picture.specs.Geometry.{steps, Offset, offset, everySecond, within, stays, placeBy, neighboursOf, neighboursIn}
 use Rattle.lists.proofs.Tests.{and-left, and-right, and-both, on-pick, implied}
 use Rattle.lists.proofs.Cuts.{over-front}
 use Rattle.lists.proofs.Members.{any-all, any-mono, any-map-select, select-most, all-below, isIn-at, isIn-index, distinct, pairwise, distinct-images}
 use Rattle.picture.proofs.Sides.{within-some, within-most}
+
+-- x is a place of a picture whose sides fit
+pub record Placed (w h x : ℕ) : Type 0 where
+  pub some : 1 ≤ w
+  pub wide : w ≤ 40
+  pub high : h ≤ 40
+  pub inside : x < w * h
+
+-- the places ns in front of the cells, their number, which is at most 8, and the other cells as they were
+pub record Listed (ns cells : List ℕ) (r : ℕ) (after : List ℕ) : Type 0 where
+  pub count : r ≡ length ns
+  pub few : r ≤ 8
+  pub whole : after ≡ over ns cells
 
 -- the distance of two numbers as a sum of differences, of which one is 0
 pub distance-is : (a b : ℕ) → distance a b ≡ a - b + (b - a)
@@ -39,10 +52,6 @@ near-most true c r e = let h = eqb-true (c + r) 1 e in omega arith
 near-most false c r e =
     (leb-true c 1 (and-left (leb c 1) _ e), leb-true r 1 (and-left (leb r 1) _ (and-right (leb c 1) _ e)))
 
-near-self : (four : Bool) → near four 0 0 ≡ false
-near-self true = refl
-near-self false = refl
-
 module _ (p : Picture) (x y : ℕ) where
   touch-is :
       touch p x y ≡
@@ -50,7 +59,7 @@ module _ (p : Picture) (x y : ℕ) where
   unfolding adjacent
   touch-is = refl
 
--- neighbours are so either way round, and no place is its own neighbour
+-- neighbours are so either way round
 pub touch-sym : (p : Picture) (x y : ℕ) → touch p x y ≡ touch p y x
 touch-sym p x y =
     touch-is p x y ∙
@@ -58,12 +67,6 @@ touch-sym p x y =
 
 pub distance-same : (a : ℕ) → distance a a ≡ 0
 distance-same a = omega (arith, distance-is a a)
-
-pub touch-self : (p : Picture) (x : ℕ) → touch p x x ≡ false
-touch-self p x =
-    touch-is p x x ∙
-    (ap₂ (near (eqb (p .adjacency) 4)) (distance-same (x % p .width)) (distance-same (x / p .width)) ∙
-    near-self (eqb (p .adjacency) 4))
 
 -- the offsets that an adjacency uses
 abbrev offsetsOf : Bool → List Offset

@@ -6,7 +6,9 @@ use Prim.Native.Nat.{ℕ}
 use lib.Dec.{eqb}
 use Rattle.lists.specs.Lists.{all, range}
 use Rattle.picture.specs.Pictures.{Picture, places, adjacent, isPicture, pictureOf}
-use Rattle.picture.specs.Components.{componentAt, components, labels, pass}
+use Rattle.picture.specs.Components.{componentAt, components}
+use Rattle.picture.specs.Passes.{pass}
+use Rattle.picture.specs.Labels.{labels}
 use Rattle.picture.specs.Trees.{Tree, isBranch, nodesAt, nodes, fatherOf, mapOf, treeOf, isLeaf}
 use Rattle.picture.specs.Watersheds.{lowerable, best, watershed}
 use Rattle.picture.specs.Patches.{patchNodes, depthOf, Patch, patchOf, patches, patchAt, lineCount, centre}

@@ -1,10 +1,10 @@
--- Sections, components, labels and passes.
+-- Sections and components.
 use mathlib.Core.Bool.{Bool, true, false, _&&_, _||_, not}
-use mathlib.Core.List.{List, [], _∷_, _++_, map}
+use mathlib.Core.List.{List, [], _∷_, _++_}
 use Prim.Native.Nat.{ℕ, zero, suc}
 use lib.Dec.{eqb, leb}
 use lib.ListN.{length}
-use Rattle.lists.specs.Lists.{any, select, indexFrom, range, isIn}
+use Rattle.lists.specs.Lists.{any, select, range, isIn}
 use Rattle.picture.specs.Pictures.{Picture, places, valueAt, touch}
 
 -- a place is in the section at height k (standard terms: lower threshold set; height: level)
@@ -40,21 +40,3 @@ componentsFrom p k cs (x ∷ xs) =
 -- the components of height k by first place
 unfoldable pub components : Picture → ℕ → List (List ℕ)
 components p k = componentsFrom p k [] (range 0 (places p))
-
--- the number from i + 1 on of the first component that holds x, 0 for none
-abbrev pub labelFrom : ℕ → ℕ → List (List ℕ) → ℕ
-labelFrom i x cs = indexFrom 0 (suc i) (isIn x) cs
-
--- the labels of a section: its components numbered from 1 by first place, 0 outside
-unfoldable pub labels : Picture → ℕ → List ℕ
-labels p k = map (λ x. labelFrom 0 x (components p k)) (range 0 (places p))
-
--- the least height of l heights from k on at which a component holds both places, k + l for none
-abbrev pub passFrom : ℕ → ℕ → Picture → ℕ → ℕ → ℕ
-passFrom zero k p x y = k
-passFrom (suc l) k p x y =
-    elim (inSection p k x && isIn y (componentAt p k x)) [ true ↦ k | false ↦ passFrom l (suc k) p x y ]
-
--- the pass between two places: the least height at which a component holds both (standard terms: minimax path height, connection value)
-unfoldable pub pass : Picture → ℕ → ℕ → ℕ
-pass p x y = passFrom 256 0 p x y

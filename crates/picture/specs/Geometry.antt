@@ -1,13 +1,11 @@
 -- The neighbours of a place as a list, in the fixed order of the eight steps.
-use mathlib.Core.Path.{_≡_}
 use mathlib.Core.Bool.{Bool, _&&_}
 use mathlib.Core.List.{List, [], _∷_, map}
-use Prim.Native.Nat.{ℕ, _+_, _-_, _*_, _/_, _%_, _≤_, _<_}
+use Prim.Native.Nat.{ℕ, _+_, _-_, _*_, _/_, _%_}
 use lib.Dec.{eqb, leb}
-use lib.ListN.{length}
 use lib.IntN.{ℤ, pos, negsuc}
 use Rattle.picture.specs.declared.Step.{Step}
-use Rattle.lists.specs.Lists.{pick, select, over}
+use Rattle.lists.specs.Lists.{pick, select}
 use Rattle.picture.specs.Pictures.{Picture}
 
 -- the step back by one
@@ -78,16 +76,3 @@ neighboursOf a w h x = reached w h x (used a steps)
 -- the neighbours of a place of a picture
 abbrev pub neighboursIn : Picture → ℕ → List ℕ
 neighboursIn p x = neighboursOf (p .adjacency) (p .width) (p .height) x
-
--- x is a place of a picture whose sides fit
-pub record Placed (w h x : ℕ) : Type 0 where
-  pub some : 1 ≤ w
-  pub wide : w ≤ 40
-  pub high : h ≤ 40
-  pub inside : x < w * h
-
--- the places ns in front of the cells, their number, which is at most 8, and the other cells as they were
-pub record Listed (ns cells : List ℕ) (r : ℕ) (after : List ℕ) : Type 0 where
-  pub count : r ≡ length ns
-  pub few : r ≤ 8
-  pub whole : after ≡ over ns cells

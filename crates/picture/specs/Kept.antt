@@ -7,7 +7,8 @@ use lib.Dec.{eqb, leb}
 use lib.ListN.{length}
 use Rattle.lists.specs.Lists.{all, tally, range, allWithin}
 use Rattle.picture.specs.Pictures.{Picture, places, withPixels, allBytes, isPicture}
-use Rattle.picture.specs.Components.{components, pass}
+use Rattle.picture.specs.Components.{components}
+use Rattle.picture.specs.Passes.{pass}
 use Rattle.picture.specs.Trees.{Node, nodes, nodeAt, componentOf, fatherOf}
 use Rattle.picture.specs.Watersheds.{watershed}
 use Rattle.picture.specs.Patches.{patchAt}
@@ -23,7 +24,7 @@ keepsAt f b k =
 unfoldable pub keepsParts : Picture → Picture → Bool
 keepsParts f b = all (keepsAt f b) (range 0 256)
 
--- partners: nodes of equal height, the component of f's node within that of a's
+-- partners (corresponding nodes): nodes of equal height, the component of f's node within that of a's
 unfoldable pub partners : Picture → Picture → Node → Node → Bool
 partners f a n m = eqb (n .height) (m .height) && allWithin (componentOf f n) (componentOf a m)
 

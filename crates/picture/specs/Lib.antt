@@ -4,5 +4,7 @@ pub mod Geometry
 pub mod Components
 pub mod Trees
 pub mod Watersheds
+pub mod Passes
 pub mod Patches
+pub mod Labels
 pub mod Kept

@@ -27,7 +27,7 @@ valueAt p x = getD (p .pixels) x 0
 
 -- the same adjacency and sides with other pixels
 abbrev pub withPixels : Picture → List ℕ → Picture
-withPixels p xs = record { adjacency = p .adjacency; width = p .width; height = p .height; pixels = xs }
+withPixels p xs = pictureOf (p .adjacency) (p .width) (p .height) xs
 
 -- a side is 1 to 40
 abbrev pub sideFits : ℕ → Bool

@@ -32,10 +32,10 @@ abbrev pub lowered : Picture → ℕ → Picture
 lowered p x = withPixels p (set (p .pixels) x (valueAt p x - 1))
 
 -- while a lowerable pixel exists, the best one lowered by 1, l times at most
-abbrev pub waterFrom : ℕ → Picture → Picture
-waterFrom zero p = p
-waterFrom (suc l) p = elim (eqb (best p) 0) [ true ↦ p | false ↦ waterFrom l (lowered p (best p - 1)) ]
+abbrev pub watershedFrom : ℕ → Picture → Picture
+watershedFrom zero p = p
+watershedFrom (suc l) p = elim (eqb (best p) 0) [ true ↦ p | false ↦ watershedFrom l (lowered p (best p - 1)) ]
 
 -- the watershed (standard term: topological watershed); the sum of the pixels bounds the number of lowerings
 unfoldable pub watershed : Picture → Picture
-watershed p = waterFrom (suc (total (p .pixels))) p
+watershed p = watershedFrom (suc (total (p .pixels))) p

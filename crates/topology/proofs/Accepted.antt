@@ -11,7 +11,7 @@ use lib.ListN.{length, getD}
 use borrow.Author.Tests.{eqb-true, leb-true, ltb-true, eq-eqb, le-leb, lt-ltb}
 use Rattle.picture.proofs.Sides.{within-some, within-most, is-within, area-most}
 use Rattle.picture.specs.Pictures.{Picture, places, valueAt, withPixels, sideFits, allBytes, isPicture}
-use Rattle.picture.specs.Geometry.{Placed}
+use Rattle.picture.proofs.Neighbours.{Placed}
 use Rattle.picture.specs.Kept.{nowhereAbove}
 use Rattle.lists.proofs.Tests.{and-left, and-right, and-both, or-cases, or-left, or-right, clash}
 use Rattle.lists.proofs.Members.{all-at}

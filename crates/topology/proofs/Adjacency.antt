@@ -1,13 +1,14 @@
 -- Adjacency of places as a relation; sections and joined places of a picture.
 use mathlib.Core.Path.{_≡_, _∙_}
 use mathlib.Core.Bool.{true}
+use mathlib.Core.Logic.{_⊎_, inl, inr}
 use Prim.Native.Nat.{ℕ, suc, _≤_, _<_}
 use native.Mathlib.Omega.{arith}
 use borrow.Author.Tests.{leb-true, le-leb}
-use Rattle.picture.proofs.Neighbours.{touch-sym, touch-self}
+use Rattle.picture.proofs.Neighbours.{touch-sym}
 use Rattle.picture.specs.Pictures.{Picture, places, valueAt, touch}
 use Rattle.picture.specs.Components.{inSection}
-use Rattle.lists.proofs.Tests.{clash}
+use Rattle.lists.proofs.Tests.{clash, on-test}
 use Rattle.topology.proofs.Connected.{Conn, conn-sym, conn-mono}
 use Rattle.topology.proofs.Keeping.{Sec, sec-mono}
 
@@ -26,9 +27,9 @@ Joined p k x y = Conn (Adj p) (At p k) x y
 pub adj-sym : (p : Picture) (x y : ℕ) → Adj p x y → Adj p y x
 adj-sym p x y h = touch-sym p y x ∙ h
 
--- no place is its own neighbour
-pub adj-irreflexive : (p : Picture) (x : ℕ) → Adj p x x → ⊥
-adj-irreflexive p x h = clash h (touch-self p x)
+-- two places are neighbours or not
+pub adj-dec : (p : Picture) (x y : ℕ) → Adj p x y ⊎ (Adj p x y → ⊥)
+adj-dec p x y = on-test (touch p x y) (λ h. inl h) (λ h. inr (λ g. clash g h))
 
 pub joined-sym : (p : Picture) (k : ℕ) {x y : ℕ} → Joined p k x y → Joined p k y x
 joined-sym p k c = conn-sym (adj-sym p) c

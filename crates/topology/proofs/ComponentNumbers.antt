@@ -9,7 +9,8 @@ use native.Mathlib.Omega.{arith}
 use lib.ListN.{length, getD, length-map}
 use Rattle.lists.specs.Lists.{tally, select, range, isIn}
 use Rattle.picture.specs.Pictures.{Picture, places}
-use Rattle.picture.specs.Components.{componentAt, components, labelFrom, labels}
+use Rattle.picture.specs.Components.{componentAt, components}
+use Rattle.picture.specs.Labels.{labelFrom, labels}
 use Rattle.lists.proofs.Tests.{test-false}
 use Rattle.lists.proofs.Lists.{length-select, length-range, getD-map-range}
 use Rattle.topology.proofs.Connected.{conn-target}

@@ -1,7 +1,7 @@
 -- Demand 3: the watershed keeps every connected part, the tree with its fathers and every pass between minima,
 -- and no other picture nowhere above it does.
 use mathlib.Core.Path.{_≡_, refl, sym, ap, subst, _∙_}
-use mathlib.Core.Bool.{true, false}
+use mathlib.Core.Bool.{true}
 use mathlib.Core.List.{List}
 use Prim.Native.Nat.{ℕ, _-_, _≤_, _<_}
 use native.Mathlib.Omega.{arith}
@@ -10,7 +10,7 @@ use lib.Seq.{ext-getD, getD-set-same}
 use Rattle.lists.specs.Lists.{range}
 use Rattle.picture.specs.Pictures.{Picture, places, valueAt, withPixels, allBytes}
 use Rattle.picture.specs.Watersheds.{lowerable, watershed}
-use Rattle.picture.specs.Kept.{nowhereAbove, keepsAt, keepsParts, Kept, Demand-3}
+use Rattle.picture.specs.Kept.{nowhereAbove, keepsAt, keepsParts, Kept, Demand-3, OthersFail}
 use Rattle.lists.proofs.Tests.{test-false}
 use Rattle.lists.proofs.Lists.{all-fails, range-mem}
 use Rattle.topology.proofs.Keeping.{keeps-compose}
@@ -82,9 +82,7 @@ demand-3 f h =
 -- what follows of any picture a with what demand 3 says
 module _ (f a : Picture) (k : Kept f a) where
   -- every other picture in f's frame that is nowhere above a fails to keep f's parts, at a height from 0 to 255
-  pub other-fails :
-      (b : List ℕ) → length b ≡ places f → allBytes b ≡ true → nowhereAbove b (a .pixels) ≡ true → (b ≡ a .pixels → ⊥) →
-      (h : ℕ) × (h ≤ 255) × (keepsAt f (withPixels f b) h ≡ false)
+  pub other-fails : OthersFail f a
   unfolding keepsParts
   other-fails b e bytes under other =
       let (h, m, g) =

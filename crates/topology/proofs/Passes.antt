@@ -8,7 +8,8 @@ use native.Mathlib.Decide.{ℕ-discrete}
 use native.Mathlib.Omega.{arith}
 use Rattle.lists.specs.Lists.{isIn}
 use Rattle.picture.specs.Pictures.{Picture, places, valueAt, withPixels}
-use Rattle.picture.specs.Components.{inSection, componentAt, passFrom, pass}
+use Rattle.picture.specs.Components.{inSection, componentAt}
+use Rattle.picture.specs.Passes.{passFrom, pass}
 use Rattle.picture.specs.Trees.{nodeAt, mapOf}
 use Rattle.picture.specs.Patches.{patchAt}
 use Rattle.lists.proofs.Tests.{and-left, and-right, and-both, on-elim, same-test, clash}

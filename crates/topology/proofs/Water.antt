@@ -12,7 +12,7 @@ use lib.Seq.{getD-set-same, getD-set-other}
 use borrow.Author.Tests.{ltb-true, ltb-false, eqb-true, eq-eqb}
 use Rattle.lists.specs.Lists.{pick, range, total}
 use Rattle.picture.specs.Pictures.{Picture, places, valueAt, withPixels}
-use Rattle.picture.specs.Watersheds.{lowerable, bestFrom, best, lowered, waterFrom, watershed}
+use Rattle.picture.specs.Watersheds.{lowerable, bestFrom, best, lowered, watershedFrom, watershed}
 use Rattle.lists.proofs.Tests.{and-left, and-right, and-both, or-cases, or-right, on-test, on-pick, on-elim, clash}
 use Rattle.lists.proofs.Indices.{below-suc}
 use Rattle.lists.proofs.Sums.{total-lowered}
@@ -97,16 +97,16 @@ module _ (p : Picture) where
       subst (λ (m : ℕ). Best p m (bestFrom p 0 (range 0 (places p)))) (omega arith)
       (best-from (places p) 0 0 (nobody (λ y h l. absurd (omega arith))))
 
--- one lowering and the end of `waterFrom`
-pub water-stop : (l : ℕ) (p : Picture) → best p ≡ 0 → waterFrom (suc l) p ≡ p
+-- one lowering and the end of `watershedFrom`
+pub water-stop : (l : ℕ) (p : Picture) → best p ≡ 0 → watershedFrom (suc l) p ≡ p
 water-stop l p e =
     on-elim (λ (q : Picture). q ≡ p) (eqb (best p) 0) (λ h. refl) (λ h. absurd (clash (eq-eqb (best p) 0 e) h))
 
-pub water-step : (l : ℕ) (p : Picture) (x : ℕ) → best p ≡ suc x → waterFrom (suc l) p ≡ waterFrom l (lowered p x)
+pub water-step : (l : ℕ) (p : Picture) (x : ℕ) → best p ≡ suc x → watershedFrom (suc l) p ≡ watershedFrom l (lowered p x)
 water-step l p x e =
-    on-elim (λ (q : Picture). q ≡ waterFrom l (lowered p x)) (eqb (best p) 0)
+    on-elim (λ (q : Picture). q ≡ watershedFrom l (lowered p x)) (eqb (best p) 0)
     (λ h. absurd (let q = eqb-true (best p) 0 h in omega arith))
-    (λ h. let q : best p - 1 ≡ x = omega arith in ap (λ (y : ℕ). waterFrom l (lowered p y)) q)
+    (λ h. let q : best p - 1 ≡ x = omega arith in ap (λ (y : ℕ). watershedFrom l (lowered p y)) q)
 
 -- ys is what lowering, one lowerable pixel after the other, can make of xs, and it ends there
 pub record Watered (f : Picture) (xs ys : List ℕ) : Type 0 where
@@ -132,9 +132,9 @@ module _ (f : Picture) where
       (λ d. let g = getD-set-other xs x y k 0 d in omega arith)
 
   Outcome : ℕ → List ℕ → Type 0
-  Outcome l xs = (ys : List ℕ) × (waterFrom l (withPixels f xs) ≡ withPixels f ys) × Watered f xs ys
+  Outcome l xs = (ys : List ℕ) × (watershedFrom l (withPixels f xs) ≡ withPixels f ys) × Watered f xs ys
 
-  -- the bound on the steps of `waterFrom` is large enough where it is above the sum of the pixels
+  -- the bound on the steps of `watershedFrom` is large enough where it is above the sum of the pixels
   outcome : (l : ℕ) (xs : List ℕ) → length xs ≡ places f → total xs < l → Outcome l xs
   unfolding Outcome
   outcome zero xs e h = absurd (omega arith)
@@ -156,7 +156,7 @@ module _ (f : Picture) where
           let (ys, i, d) = r (set xs x k) (length-set xs x k ∙ e) (omega arith) in
           let lo = lowerable-lowers (withPixels f xs) x c k v m in (
             ys,
-            water-step l (withPixels f xs) x g ∙ (ap (λ (z : ℕ). waterFrom l (withPixels f (set xs x z))) w ∙ i),
+            water-step l (withPixels f xs) x g ∙ (ap (λ (z : ℕ). watershedFrom l (withPixels f (set xs x z))) w ∙ i),
             record {
               size = d .size ∙ length-set xs x k;
               under = λ y. let a = d .under y in let q = lower-under xs x k c′ v y in omega arith;

@@ -15,7 +15,6 @@ use Rattle.lists.proofs.Tests.{and-left, and-right, and-both, same-test, not-of
 use Rattle.lists.proofs.Lists.{select-mem, mem-select, length-select, tally-stronger, tally-equal, in-mem, mem-in, length-range, range-mem, mem-range, getD-map-range}
 use Rattle.lists.proofs.Rising.{rising-select, rising-equal, rising-map}
 use borrow.Author.Tests.{not-true}
-use Rattle.topology.proofs.Connected.{conn-target}
 use Rattle.topology.proofs.Adjacency.{At, Joined, joined-sym}
 use Rattle.topology.proofs.Reached.{firstAt, first-joined, first-least, first-at}
 use Rattle.topology.proofs.Parts.{isFirst, first-is, is-first}
@@ -73,9 +72,6 @@ module _ (p : Picture) (k c : ℕ) (root st fa : ℕ → ℕ) (whole : HeightJoi
       let b = v .first (firstAt p k y) (first-at p k y s .within) in
       let g = first-least p k (v .own y s) in
       omega arith
-
-  root-at : (y : ℕ) → At p k y → At p k (root y)
-  root-at y s = conn-target (v .own y s)
 
   -- and its state says whether the component is a branch, and of which node
   pub data Ended (y : ℕ) : Type 0 where

@@ -8,7 +8,8 @@ use native.Mathlib.Numerals.{add-one}
 use native.Mathlib.Omega.{arith}
 use lib.ListN.{length}
 use Rattle.picture.specs.Pictures.{Picture, places, valueAt}
-use Rattle.picture.specs.Geometry.{neighboursIn, Placed}
+use Rattle.picture.specs.Geometry.{neighboursIn}
+use Rattle.picture.proofs.Neighbours.{Placed}
 use Rattle.topology.proofs.Accepted.{Accepted, placed}
 use Rattle.tree_laws.proofs.Decided.{Decided}
 use Rattle.tree_laws.proofs.Levels.{upto-gap}

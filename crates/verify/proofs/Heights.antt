@@ -4,7 +4,6 @@ use mathlib.Core.Bool.{Bool, true, false}
 use mathlib.Core.Logic.{inl, by-cases, _≢_}
 use mathlib.Core.List.{List}
 use Prim.Native.Nat.{ℕ, _+_, _-_, _≤_, _<_}
-use native.Mathlib.Nat.{mul-pos}
 use native.Mathlib.Numerals.{add-one}
 use native.Mathlib.Decide.{decLt}
 use native.Mathlib.Omega.{arith}
@@ -12,9 +11,9 @@ use lib.ListN.{length, getD}
 use Rattle.lists.specs.Blocks.{Filled}
 use Rattle.lists.proofs.Blocks.{overwritten-entry}
 use Rattle.picture.specs.Pictures.{Picture, places, isPicture}
-use Rattle.topology.proofs.Accepted.{accepted-is, byte-at, places-bound}
+use Rattle.topology.proofs.Accepted.{accepted-is, places-bound}
 use Rattle.topology.proofs.Nodes.{nodes-few}
-use Rattle.topology.proofs.Descent.{under-is}
+use Rattle.topology.proofs.Descent.{nodes-some}
 use Rattle.tree_laws.proofs.Counts.{so-none}
 use Rattle.tree_laws.proofs.Classes.{classes-start}
 use Rattle.tree_laws.proofs.Checks.{Differs, Checking}
@@ -97,8 +96,7 @@ module _ (p : Picture) (count : ℕ) (hs fs ss m : List ℕ) where
   answer-none ok e =
       never
       (λ t.
-      let a = accepted-is p ok in
-      let some = under-is p 255 0 (omega arith) (record { within = mul-pos (a .some) (a .tall); low = byte-at (p .pixels) (a .bytes) 0 }) .number in
+      let some = nodes-some p (accepted-is p ok) in
       let total = t .total in
       omega arith)
 

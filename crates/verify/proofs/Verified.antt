@@ -3,7 +3,6 @@ use mathlib.Core.Path.{_≡_, sym, ap, _∙_}
 use mathlib.Core.Logic.{⊎-elim, by-cases}
 use mathlib.Core.List.{List}
 use Prim.Native.Nat.{ℕ, suc, _-_, _≤_, _<_}
-use native.Mathlib.Nat.{mul-pos}
 use native.Mathlib.Decide.{decLt}
 use native.Mathlib.Omega.{arith}
 use lib.ListN.{length, getD}
@@ -14,7 +13,7 @@ use Rattle.topology.proofs.Adjacency.{At}
 use Rattle.topology.proofs.Accepted.{Accepted, byte-at, places-bound}
 use Rattle.topology.proofs.Branches.{own-pixel}
 use Rattle.topology.proofs.Nodes.{nodes-few}
-use Rattle.topology.proofs.Descent.{under, map-under, under-is}
+use Rattle.topology.proofs.Descent.{under, map-under, nodes-some}
 use Rattle.topology.proofs.Climb.{root-is, last-root}
 use Rattle.tree_laws.proofs.Counts.{so-all}
 use Rattle.tree_laws.proofs.NewRoots.{Member, joined-root, free-fork}
@@ -124,13 +123,10 @@ pub tree-ends :
 tree-ends p c count l hs fs ss m v t =
     let e : c ≡ count = v .number ∙ (so-all p ∙ sym (t .total)) in
     let z : ℕ = length (nodes p) - 1 in
-    let some = under-is p 255 0 (omega arith) (record { within = first; low = byte-at (p .pixels) (ok .bytes) 0 }) .number in
+    let some = nodes-some p ok in
     let total = t .total in
     let at : count - 1 ≡ z = omega arith in
     (e, ap (λ (j : ℕ). getD fs j 0) at ∙ (t .fathers z (omega arith) ∙ last-root p ok z (omega arith)))
   where
     ok : Accepted p
     ok = v .checking .ok
-
-    first : 0 < places p
-    first = mul-pos (ok .some) (ok .tall)

@@ -1,7 +1,7 @@
 -- Falls and the watershed: a pixel that leads the lowerable ones may fall as far as it drops in one go, and there are at most 255 falls a pixel.
 use mathlib.Core.Path.{_≡_, refl, sym, ap, subst, _∙_}
 use mathlib.Core.Bool.{true}
-use mathlib.Core.Logic.{_⊎_, inl, inr, ⊎-elim, by-cases}
+use mathlib.Core.Logic.{_⊎_, ⊎-elim, by-cases}
 use mathlib.Core.List.{List}
 use Prim.Native.Nat.{ℕ, zero, suc, _+_, _-_, _*_, _≤_, _<_}
 use native.Mathlib.Decide.{ℕ-discrete}
@@ -9,11 +9,10 @@ use native.Mathlib.Omega.{arith}
 use lib.ListN.{length, getD, set, length-set}
 use lib.Seq.{set-set, set-getD}
 use Rattle.lists.specs.Lists.{total}
-use Rattle.picture.specs.Pictures.{Picture, places, valueAt, withPixels, touch}
-use Rattle.picture.specs.Watersheds.{lowerable, best, waterFrom, watershed}
-use Rattle.lists.proofs.Tests.{on-test, clash}
+use Rattle.picture.specs.Pictures.{Picture, places, valueAt, withPixels}
+use Rattle.picture.specs.Watersheds.{lowerable, best, watershedFrom, watershed}
 use Rattle.lists.proofs.Sums.{total-less, total-lowered, total-bounded}
-use Rattle.topology.proofs.Adjacency.{Adj, adj-sym}
+use Rattle.topology.proofs.Adjacency.{Adj, adj-sym, adj-dec}
 use Rattle.topology.proofs.Bridge.{lowerable-above, lowerable-lowers, lowers-lowerable}
 use Rattle.topology.proofs.Water.{Leads, less, ties, Best, nobody, leader, best-is, water-stop, water-step, set-fallen}
 use Rattle.watershed_laws.proofs.Oracle.{Drops, drops-lowers, drops-lowerable}
@@ -21,9 +20,6 @@ use Rattle.watershed_laws.proofs.Oracle.{Drops, drops-lowers, drops-low
 -- x is before every lowerable place in the order of lowering, or is it
 unfoldable pub First : Picture → ℕ → Type 0
 First g x = (y : ℕ) → y < places g → lowerable g y ≡ true → Leads g x y
-
-pub adj-dec : (f : Picture) (y z : ℕ) → Adj f y z ⊎ (Adj f y z → ⊥)
-adj-dec f y z = on-test (touch f y z) (λ h. inl h) (λ h. inr (λ g. clash g h))
 
 -- a picture in which nothing is lowerable is its own watershed
 pub watershed-end : (g : Picture) → ((y : ℕ) → y < places g → lowerable g y ≡ true → ⊥) → watershed g ≡ g
@@ -63,8 +59,8 @@ module _ (f : Picture) where
       let c : x < length xs = omega arith in
       sym
       (water-step (total xs) (with xs) x (first-best (with xs) x b l h) ∙
-      (ap (λ (z : ℕ). waterFrom (total xs) (with (set xs x z))) w ∙
-      ap (λ (z : ℕ). waterFrom z (with (set xs x k))) (sym (total-lowered xs x k c v))))
+      (ap (λ (z : ℕ). watershedFrom (total xs) (with (set xs x z))) w ∙
+      ap (λ (z : ℕ). watershedFrom z (with (set xs x k))) (sym (total-lowered xs x k c v))))
 
   module _ (xs : List ℕ) (e : length xs ≡ places f) (x low s : ℕ) (d : Drops (places f) (Adj f) (valueAt (with xs)) x low s) (first : First (with xs) x) where
     inside : x < length xs

@@ -15,12 +15,12 @@ use Rattle.lists.proofs.Updates.{put, put-same, put-other}
 use Rattle.lists.proofs.Sums.{total-less}
 use Rattle.topology.proofs.Accepted.{Accepted, accepted-with, places-bound, byte-at, at-byte}
 use Rattle.topology.proofs.Keeping.{Lowers, Fallen}
-use Rattle.topology.proofs.Adjacency.{Adj, adj-sym}
+use Rattle.topology.proofs.Adjacency.{Adj, adj-sym, adj-dec}
 use Rattle.topology.proofs.Bridge.{lowerable-above, lowerable-lowers, lowers-lowerable}
 use Rattle.topology.proofs.Climb.{Meet, meet-same}
 use Rattle.topology.proofs.Water.{less, set-fallen}
 use Rattle.watershed_laws.proofs.Oracle.{Oracle, Stops, Drops, stops-drops, stops-there, drops-lowerable, drops-oracle}
-use Rattle.watershed_laws.proofs.Falls.{First, adj-dec, fall-water}
+use Rattle.watershed_laws.proofs.Falls.{First, fall-water}
 use Rattle.watershed_laws.proofs.WinnerTree.{Winner, winner-fallen, candidates}
 use Rattle.watershed_laws.proofs.WinnerSteps.{MakingCandidates}
 use Rattle.watershed_laws.proofs.Stopping.{Climbs, Meets, Lowest, Stopped, Around, found-stops, found-none}

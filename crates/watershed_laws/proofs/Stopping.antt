@@ -7,7 +7,8 @@ use native.Mathlib.Decide.{ℕ-discrete}
 use native.Mathlib.Omega.{arith}
 use lib.ListN.{length, getD}
 use Rattle.picture.specs.Pictures.{Picture, places, valueAt, withPixels}
-use Rattle.picture.specs.Geometry.{neighboursIn, Listed}
+use Rattle.picture.specs.Geometry.{neighboursIn}
+use Rattle.picture.proofs.Neighbours.{Listed}
 use Rattle.picture.proofs.Neighbours.{neighbour-at, neighbour-index, listed-at}
 use Rattle.topology.proofs.Adjacency.{Adj}
 use Rattle.watershed_laws.proofs.Oracle.{Stops}

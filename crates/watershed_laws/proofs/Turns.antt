@@ -4,7 +4,6 @@ use mathlib.Core.Bool.{true}
 use mathlib.Core.Logic.{inl, inr, ⊎-elim, by-cases}
 use mathlib.Core.List.{List}
 use Prim.Native.Nat.{ℕ, _+_, _*_, _≤_, _<_}
-use native.Mathlib.Nat.{mul-le-mul}
 use native.Mathlib.Decide.{ℕ-discrete}
 use native.Mathlib.Omega.{arith}
 use lib.ListN.{length, getD}
@@ -12,7 +11,7 @@ use Rattle.lists.specs.Lists.{total}
 use Rattle.picture.specs.Pictures.{Picture, places, withPixels}
 use Rattle.picture.specs.Trees.{nodes, nodeAt, fatherOf, mapOf}
 use Rattle.picture.specs.Watersheds.{lowerable, watershed}
-use Rattle.topology.proofs.Accepted.{Accepted, places-bound}
+use Rattle.topology.proofs.Accepted.{Accepted, places-bound, places-some}
 use Rattle.topology.proofs.Nodes.{nodes-few}
 use Rattle.topology.proofs.Descent.{map-found}
 use Rattle.topology.proofs.Climb.{father-of, father-greater}
@@ -22,9 +21,6 @@ use Rattle.watershed_laws.proofs.Falls.{First, watershed-end}
 use Rattle.watershed_laws.proofs.WinnerTree.{Beats, last, less as beats-less, ties as beats-ties, winner-beats, winner-place, candidates, candidates-most, candidates-fewer}
 use Rattle.watershed_laws.proofs.WinnerSteps.{Assigned, Building}
 use Rattle.watershed_laws.proofs.Running.{Running, NoPlace, no-place, WinnerTaken, LoweredPlace, WinnerIs, TurnDone, measure, running-with}
-
-pub places-some : (p : Picture) → Accepted p → 1 ≤ places p
-places-some p a = mul-le-mul (a .some) (a .tall)
 
 -- the cells hold heights, fathers and map of the tree of p
 pub record Holds (p : Picture) (tree : List ℕ) : Type 0 where

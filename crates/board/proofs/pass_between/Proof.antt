@@ -5,7 +5,7 @@ use Prim.Native.Nat.{ℕ, _≤_, _<_}
 use native.Mathlib.Omega.{arith}
 use lib.ListN.{length, getD}
 use Rattle.picture.specs.Pictures.{Picture, places, pictureOf}
-use Rattle.picture.specs.Components.{pass}
+use Rattle.picture.specs.Passes.{pass}
 use Rattle.board.specs.Trees.{treeFaultOf, placesFaultOf, checkedFault, isTree}
 use Rattle.board.specs.LentTrees.{TreeLent}
 use Rattle.faults.specs.Faults.{Admitted}

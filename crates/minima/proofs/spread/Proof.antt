@@ -4,7 +4,8 @@ use Prim.Native.Nat.{ℕ, _-_, _≤_}
 use native.Mathlib.Omega.{arith}
 use lib.ListN.{getD, drop}
 use borrow.Author.Needs.{needs}
-use Rattle.picture.specs.Geometry.{neighboursOf, Placed}
+use Rattle.picture.specs.Geometry.{neighboursOf}
+use Rattle.picture.proofs.Neighbours.{Placed}
 use Rattle.picture.proofs.Neighbours.{neighbour-at, listed-at}
 use Rattle.picture.specs.Pictures.{Picture, pictureOf}
 use Rattle.minima.specs.Minima.{ZoneSpread}

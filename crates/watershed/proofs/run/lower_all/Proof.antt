@@ -7,9 +7,9 @@ use lib.ListN.{length, getD, take, drop}
 use lib.Seq.{getD-drop}
 use Rattle.picture.specs.Pictures.{Picture, pictureOf}
 use Rattle.picture.specs.Watersheds.{watershed}
-use Rattle.topology.proofs.Accepted.{accepted-is, places-bound}
+use Rattle.topology.proofs.Accepted.{accepted-is, places-bound, places-some}
 use Rattle.watershed_laws.proofs.Running.{Running, NoPlace, measure}
-use Rattle.watershed_laws.proofs.Turns.{places-some, running-end}
+use Rattle.watershed_laws.proofs.Turns.{running-end}
 use Rattle.watershed_laws.proofs.Lending.{start-lent, start-back, size-back}
 use Rattle.watershed.proofs.BuiltTree.{tree-holds}
 use borrow.Author.Needs.{needs}

@@ -5,7 +5,8 @@ use mathlib.Core.Path.{refl}
 use mathlib.Core.Logic.{inr}
 use mathlib.Core.List.{[]}
 use native.Mathlib.Omega.{arith}
-use Rattle.watershed_laws.proofs.Turns.{places-some, turn-place}
+use Rattle.topology.proofs.Accepted.{places-some}
+use Rattle.watershed_laws.proofs.Turns.{turn-place}
 use borrow.Author.Needs.{needs}
 use Rattle.watershed.proofs.run.turn.Statement.{statement}
 use Rattle.watershed.proofs.run.turn.Tie as tie
