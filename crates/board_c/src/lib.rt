@@ -16,7 +16,7 @@ ghost use Rattle.picture.specs.Pictures.{pictureOf};
 ghost use Rattle.lists.specs.Writing.{Written};
 ghost use Rattle.board_c.specs.CalledByC.{pair, ReadForC, WatershedForC, PlaceForC};
 
-// Writes two numbers as eight bytes each, lowest first, and answers the place behind them.
+// Writes two numbers as eight bytes each, lowest first, and answers the position behind them.
 fn put_pair(out: &mut [u8], at: usize, x: u64, y: u64) -> usize
     requires { ⌜ at + 16 ≤ length (now out) ⌝ }
     ensures { λ r. ⌜ Written at (pair x y) (now (out .entry)) r (now (out .exit)) ⌝ }

@@ -27,7 +27,7 @@ fn edge_pixel(values: u32, i: u32) -> u8
     ((i * i * 31 + i * 17) % values) as u8
 }
 
-// Writes the pixels of a file and answers the place behind them.
+// Writes the pixels of a file and answers the position behind them.
 fn put_pixels(out: &mut [u8], at: usize, values: u32, count: u32) -> usize
     requires { ⌜ (1 ≤ values) × (values ≤ 256) × (count ≤ 2000) × (at + count ≤ length (now out)) ⌝ }
     ensures { λ r. ⌜ Written at (edgePixels values count) (now (out .entry)) r (now (out .exit)) ⌝ }
@@ -41,7 +41,7 @@ fn put_pixels(out: &mut [u8], at: usize, values: u32, count: u32) -> usize
     to
 }
 
-// Writes spaces and answers the place behind them.
+// Writes spaces and answers the position behind them.
 fn put_spaces(out: &mut [u8], at: usize, count: usize) -> usize
     requires { ⌜ (count ≤ 2500) × (at + count ≤ length (now out)) ⌝ }
     ensures { λ r. ⌜ Written at (replicate count 32) (now (out .entry)) r (now (out .exit)) ⌝ }
@@ -50,7 +50,7 @@ fn put_spaces(out: &mut [u8], at: usize, count: usize) -> usize
     put_bytes(out, at, &spaces[..count])
 }
 
-// Writes the sides and the largest sample in two lines and answers the place behind them; they have at most 18 bytes.
+// Writes the sides and the largest sample in two lines and answers the position behind them; they have at most 18 bytes.
 fn put_numbers(out: &mut [u8], at: usize, w: u32, h: u32, largest: u32) -> usize
     requires { ⌜ (w < 100000) × (h < 100000) × (largest < 100000) × (at + 18 ≤ length (now out)) ⌝ }
     ensures { λ r. ⌜ Written at (numberLines w h largest) (now (out .entry)) r (now (out .exit)) × (r ≤ at + 18) ⌝ }

@@ -34,7 +34,7 @@ pub fn work_fault(a: u32, w: u32, h: u32, length: usize, work: usize) -> u8
     short_after(0, work, 5 * length)
 }
 
-// The same with the least length of the lent outputs or lists.
+// A picture's arguments, the length of work, and the least length of the lent outputs or lists.
 pub fn output_fault(a: u32, w: u32, h: u32, length: usize, out: usize, work: usize) -> u8
     ensures { λ r. ⌜ r ≡ outputFault a w h length out work ⌝ }
 {

@@ -93,7 +93,7 @@ fn put_inner(
     put_place(w, right, down, cells, m)
 }
 
-// The same from any column and row, if the step stays inside the edge.
+// Puts the place that a step leads to from any column and row behind the first m cells, if it stays inside the edge, and answers the number of cells in front.
 fn put_tested(
     w: usize,
     h: usize,
@@ -117,7 +117,7 @@ fn put_tested(
     put_place(w, right, down, cells, m)
 }
 
-// The same; inner places need no test.
+// Puts the place that a step leads to, if it stays inside the edge: an inner place needs no test.
 fn put_step(
     inner: bool,
     w: usize,

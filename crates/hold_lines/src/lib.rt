@@ -29,7 +29,7 @@ fn centre(sum: u32, size: u32) -> u32
     10 * sum / size
 }
 
-// Writes the line of a patch and answers the place behind it; a line has at most 37 bytes.
+// Writes the line of a patch and answers the position behind it; a line has at most 37 bytes.
 fn put_line(
     out: &mut [u8],
     at: usize,
@@ -50,7 +50,7 @@ fn put_line(
     put_fields(out, at, &numbers)
 }
 
-// Writes the lines of count patches and answers the place behind them.
+// Writes the lines of count patches and answers the position behind them.
 pub fn put_lines(
     out: &mut [u8],
     at: usize,
@@ -82,7 +82,7 @@ pub fn put_lines(
     to
 }
 
-// Writes the number of patches with its word and answers the place behind it.
+// Writes the number of patches with its word and answers the position behind it.
 fn put_count(out: &mut [u8], at: usize, count: u32) -> usize
     requires { ⌜ (count < 100000) × (at + 13 ≤ length (now out)) ⌝ }
     ensures { λ q. ⌜ Written at (patchesWord ++ decimal count) (now (out .entry)) q (now (out .exit)) × (q ≤ at + 13) ⌝ }
@@ -91,7 +91,7 @@ fn put_count(out: &mut [u8], at: usize, count: u32) -> usize
     put_number(out, next, count)
 }
 
-// Writes the sides, the number of patches and that of line pixels in two lines, and answers the place behind them.
+// Writes the sides, the number of patches and that of line pixels in two lines, and answers the position behind them.
 pub fn put_head(out: &mut [u8], w: u32, h: u32, count: u32, line: u32) -> usize
     requires { ⌜ (w < 100000) × (h < 100000) × (count < 100000) × (line < 100000) × (64 ≤ length (now out)) ⌝ }
     ensures { λ q. ⌜ Written 0 (headLines w h count line) (now (out .entry)) q (now (out .exit)) × (q ≤ 64) ⌝ }
@@ -103,7 +103,7 @@ pub fn put_head(out: &mut [u8], w: u32, h: u32, count: u32, line: u32) -> usize
     put_word(out, third, b" line ", &last)
 }
 
-// Writes the line of a refusal and answers the place behind it.
+// Writes the line of a refusal and answers the position behind it.
 pub fn put_refusal(out: &mut [u8], number: u32) -> usize
     requires { ⌜ (number < 100000) × (64 ≤ length (now out)) ⌝ }
     ensures { λ q. ⌜ Written 0 (refusedLine number) (now (out .entry)) q (now (out .exit)) × (q ≤ 64) ⌝ }

@@ -16,7 +16,7 @@ ghost use Rattle.patch_numbers.specs.Numbers.{FiveBlocks};
 ghost use Rattle.lists.specs.Writing.{Written};
 ghost use Rattle.hold_list.specs.HoldText.{patchList, holdList, holdText};
 
-// Writes the list of the patches of a picture with adjacency 4 from their figures, and answers the place behind it.
+// Writes the list of the patches of a picture with adjacency 4 from their figures, and answers the position behind it.
 fn put_list(
     w: u32,
     h: u32,
@@ -48,7 +48,7 @@ fn put_list(
     )
 }
 
-// Writes the list of the patches of a picture with adjacency 4, and answers the place behind it.
+// Writes the list of the patches of a picture with adjacency 4, and answers the position behind it.
 fn put_patches(
     w: u32,
     h: u32,
@@ -64,7 +64,7 @@ fn put_patches(
     put_list(w, h, pixels, count, work, cells, out)
 }
 
-// Writes the hold list of a picture with adjacency 4 with lent memory, and answers the place behind it: the patches of its watershed.
+// Writes the hold list of a picture with adjacency 4 with lent memory, and answers the position behind it: the patches of its watershed.
 fn put_holds_with(
     w: u32,
     h: u32,
@@ -81,7 +81,7 @@ fn put_holds_with(
     put_patches(w, h, water, work, cells, out)
 }
 
-// Writes the hold list of a picture with adjacency 4, and answers the place behind it.
+// Writes the hold list of a picture with adjacency 4, and answers the position behind it.
 fn put_holds(w: u32, h: u32, pixels: &[u8], out: &mut [u8]) -> usize
     requires { ⌜ (isPicture (pictureOf 4 w h (now pixels)) ≡ true) × (59264 ≤ length (now out)) ⌝ }
     ensures { λ r. ⌜ Written 0 (holdList (pictureOf 4 w h (now (pixels .entry)))) (now (out .entry)) r (now (out .exit)) ⌝ }
@@ -102,7 +102,7 @@ fn put_holds(w: u32, h: u32, pixels: &[u8], out: &mut [u8]) -> usize
     )
 }
 
-// Writes the text for a file and answers the place behind it: 64 bytes and 37 for each of 1,600 patches are room enough.
+// Writes the text for a file and answers the position behind it: 64 bytes and 37 for each of 1,600 patches are room enough.
 pub fn put_text(file: &[u8], out: &mut [u8]) -> usize
     requires { ⌜ 59264 ≤ length (now out) ⌝ }
     ensures { λ r. ⌜ Written 0 (holdText (now (file .entry))) (now (out .entry)) r (now (out .exit)) ⌝ }

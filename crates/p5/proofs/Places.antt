@@ -49,7 +49,7 @@ above-of f x (above {h} {s} k e g n d) =
       none = λ i z. leb-true _ _ (leading-below (atMost (h .largest)) s i z);
     }
 
--- there is one first unfit place
+-- there is one first unfit position
 begins-less : (f : List ℕ) (m n : ℕ) → m ≤ n → Begins (take n f) → Begins (take m f)
 begins-less f m n l b =
     let u = take n f in
@@ -111,7 +111,7 @@ module _ (f : List ℕ) (n : ℕ) (make : ℕ → Outcome) (First : ℕ → Type
           let same : q ≡ p = omega arith in
           e ∙ ap make same
 
--- 2 is answered with the first unfit place and no other, 6 with the first place above the largest sample and no other
+-- 2 is answered with the first unfit position and no other, 6 with the first place above the largest sample and no other
 pub malformed-at : (f : List ℕ) (p : ℕ) → (readFile f ≡ Malformed p) ↔ ((Cause f 2 × NoneBelow f 2) × FirstUnfit f p)
 malformed-at f =
     first-at f 2 Malformed (FirstUnfit f) (refused f 2 (omega arith)) (λ p. refl) numbered-2 (unfit-of f) (unfit-before f)

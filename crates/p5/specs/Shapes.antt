@@ -87,7 +87,7 @@ pub record Begins (u : List ℕ) : Type 0 where
   pub rest : List ℕ
   pub headed : Headed (u ++ more) header rest
 
--- the first unfit place: the bytes before it begin a header, and with its own byte they do not, or the file ends there
+-- the first unfit position: the bytes before it begin a header, and with its own byte they do not, or the file ends there
 pub record FirstUnfit (f : List ℕ) (p : ℕ) : Type 0 where
   pub within : p ≤ length f
   pub fit : Begins (take p f)

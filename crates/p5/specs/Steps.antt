@@ -6,7 +6,7 @@ use Rattle.p5.specs.declared.header.Walk.the-variants.{Walked, Stopped}
 use Rattle.p5.specs.declared.file.Outcome.{Outcome}
 use Rattle.p5.specs.declared.file.Outcome.the-variants.{Malformed}
 
--- the place where the walk stops at a field; a number does not come here
+-- the position where the walk stops at a field; a number does not come here
 abbrev pub stoppedAt : Field → Walk
 stoppedAt (Number n p) = Stopped p
 stoppedAt (Unfit p) = Stopped p

@@ -8,7 +8,7 @@ ghost use lib.Dec.{eqb};
 ghost use Rattle.lists.specs.Lists.{pick};
 ghost use Rattle.p5.specs.Headers.{isDigit, gapEnd, digitsAt, numberAt};
 
-// A number with the position after it, or the unfit place.
+// A number with the position after it, or the unfit position.
 pub enum Field {
     Number(u32, usize),
     Unfit(usize),

@@ -70,7 +70,7 @@ pub fn on_header(header: Header, pixels: &[u8]) -> Outcome
     on_pixels(header, pixels)
 }
 
-// The walk stopped at an unfit place.
+// The walk stopped at an unfit position.
 fn malformed(walk: Walk) -> Outcome
     ensures { λ r. ⌜ r ≡ malformedAt walk ⌝ }
 {

@@ -14,7 +14,7 @@ pub struct Header {
     pub offset: usize,
 }
 
-// A whole header, or the unfit place where the walk stopped.
+// A whole header, or the unfit position where the walk stopped.
 pub enum Walk {
     Walked(Header),
     Stopped(usize),

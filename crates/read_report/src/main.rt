@@ -6,7 +6,7 @@ ghost use Rattle.text.specs.Decimal.{fields};
 ghost use Rattle.lists.specs.Writing.{Written};
 ghost use Rattle.read_report.specs.Reports.{report};
 
-// Writes the line of a file and answers the place behind it.
+// Writes the line of a file and answers the position behind it.
 fn put_report(out: &mut [u8], file: &[u8]) -> usize
     requires { ⌜ (66 ≤ length (now out)) × (length (now file) ≤ 65536) ⌝ }
     ensures { λ r. ⌜ Written 0 (fields (report (now (file .entry)))) (now (out .entry)) r (now (out .exit)) ⌝ }

@@ -6,7 +6,7 @@ ghost use Rattle.text.specs.Decimal.{decimal, fields};
 ghost use Rattle.text.specs.Little.{littleEndian};
 ghost use Rattle.lists.specs.Writing.{Written};
 
-// Writes one byte and answers the place behind it.
+// Writes one byte and answers the position behind it.
 pub fn put(out: &mut [u8], at: usize, byte: u8) -> usize
     requires { ⌜ at < length (now out) ⌝ }
     ensures { λ r. ⌜ Written at (byte ∷ []) (now (out .entry)) r (now (out .exit)) ⌝ }
@@ -15,7 +15,7 @@ pub fn put(out: &mut [u8], at: usize, byte: u8) -> usize
     at + 1
 }
 
-// Writes the bytes of a text and answers the place behind them.
+// Writes the bytes of a text and answers the position behind them.
 pub fn put_bytes(out: &mut [u8], at: usize, bytes: &[u8]) -> usize
     requires { ⌜ at + length (now bytes) ≤ length (now out) ⌝ }
     ensures { λ r. ⌜ Written at (now (bytes .entry)) (now (out .entry)) r (now (out .exit)) ⌝ }
@@ -28,7 +28,7 @@ pub fn put_bytes(out: &mut [u8], at: usize, bytes: &[u8]) -> usize
     at + i
 }
 
-// Writes a number in decimal digits and answers the place behind them.
+// Writes a number in decimal digits and answers the position behind them.
 pub fn put_number(out: &mut [u8], at: usize, n: u32) -> usize
     requires { ⌜ at + length (decimal n) ≤ length (now out) ⌝ }
     ensures { λ r. ⌜ Written at (decimal n) (now (out .entry)) r (now (out .exit)) ⌝ }
@@ -40,7 +40,7 @@ pub fn put_number(out: &mut [u8], at: usize, n: u32) -> usize
     put(out, next, 48 + (n % 10) as u8)
 }
 
-// Writes a number and one byte behind it, and answers the place behind both.
+// Writes a number and one byte behind it, and answers the position behind both.
 fn put_field(out: &mut [u8], at: usize, n: u32, byte: u8) -> usize
     requires { ⌜ at + suc (length (decimal n)) ≤ length (now out) ⌝ }
     ensures { λ r. ⌜ Written at (decimal n ++ (byte ∷ [])) (now (out .entry)) r (now (out .exit)) ⌝ }
@@ -49,7 +49,7 @@ fn put_field(out: &mut [u8], at: usize, n: u32, byte: u8) -> usize
     put(out, next, byte)
 }
 
-// Writes numbers parted by single spaces, then byte 10, and answers the place behind them.
+// Writes numbers parted by single spaces, then byte 10, and answers the position behind them.
 pub fn put_fields(out: &mut [u8], at: usize, ns: &[u32]) -> usize
     requires { ⌜ (1 ≤ length (now ns)) × (at + length (fields (now ns)) ≤ length (now out)) ⌝ }
     ensures { λ r. ⌜ Written at (fields (now (ns .entry))) (now (out .entry)) r (now (out .exit)) ⌝ }
@@ -63,7 +63,7 @@ pub fn put_fields(out: &mut [u8], at: usize, ns: &[u32]) -> usize
     put_field(out, to, ns[i], 10)
 }
 
-// Writes a word, then numbers as a line, and answers the place behind them.
+// Writes a word, then numbers as a line, and answers the position behind them.
 pub fn put_word(out: &mut [u8], at: usize, word: &[u8], ns: &[u32]) -> usize
     requires { ⌜ (1 ≤ length (now ns)) × (at + length (now word) + length (fields (now ns)) ≤ length (now out)) ⌝ }
     ensures { λ q. ⌜ Written at (now (word .entry) ++ fields (now (ns .entry))) (now (out .entry)) q (now (out .exit)) ⌝ }
@@ -72,7 +72,7 @@ pub fn put_word(out: &mut [u8], at: usize, word: &[u8], ns: &[u32]) -> usize
     put_fields(out, next, ns)
 }
 
-// Writes a number as l bytes, the lowest first, and answers the place behind them.
+// Writes a number as l bytes, the lowest first, and answers the position behind them.
 pub fn put_little(out: &mut [u8], at: usize, n: u64, l: usize) -> usize
     requires { ⌜ at + l ≤ length (now out) ⌝ }
     ensures { λ r. ⌜ Written at (littleEndian l n) (now (out .entry)) r (now (out .exit)) ⌝ }
