@@ -4,16 +4,14 @@
 -- every function that calls something, as `c .. .shared-slice-known .given i`, for each index i. At the end `accepted-answer`,
 -- `written-over` and `cleared-left` close the return; of a part lent to the core `lent-length`, `back-room` and `behind-lent` say the rest.
 use mathlib.Core.Path.{_≡_, sym, ap, _∙_}
-use mathlib.Core.Bool.{Bool, false}
 use mathlib.Core.Logic.{_≢_}
 use mathlib.Core.List.{List, _++_}
 use Prim.Native.Nat.{ℕ, _+_, _-_, _*_, _≤_}
 use native.Mathlib.Omega.{arith}
-use lib.Dec.{eqb}
 use lib.ListN.{length, take, drop, replicate, length-replicate}
 use lib.Seq.{length-take-le, length-front, drop-append-add, drop-drop}
-use borrow.Author.Tests.{eq-eqb, ne-eqb}
-use Rattle.lists.specs.Lists.{pick, over}
+use Rattle.lists.specs.Lists.{over}
+use Rattle.lists.proofs.Tests.{pick-in, pick-out}
 use Rattle.lists.proofs.Cuts.{over-cut, over-same}
 use Rattle.picture.specs.Pictures.{Picture, places}
 use Rattle.answers.specs.declared.Answer.{Answer}
@@ -22,29 +20,33 @@ use Rattle.answers.specs.Steps.{IsRefusal, IsValue, Finished}
 
 -- a refusal with the fault f: the number with the value 0, and every lent slice as it was
 module _ (f g : ℕ) (e : g ≡ f) (d : g ≢ 0) where
-  fails : eqb f 0 ≡ false
-  fails = ne-eqb f 0 (λ z. d (e ∙ z))
+  fails : f ≢ 0
+  fails z = d (e ∙ z)
 
   pub refused-answer : (v : ℕ) (r : Answer) → IsRefusal g r → Answered f v r
   refused-answer v r q =
       record {
         number = ap (λ (s : Answer). s .number) q ∙ e;
-        value = ap (λ (s : Answer). s .value) q ∙ sym (ap (λ (t : Bool). pick t v 0) fails);
+        value = ap (λ (s : Answer). s .value) q ∙ sym (pick-out f 0 v 0 fails);
       }
 
   pub refused-left : {A : Type 0} (new old : List A) → old ≡ afterCall f new old
-  refused-left new old = sym (ap (λ (t : Bool). pick t new old) fails)
+  refused-left new old = sym (pick-out f 0 new old fails)
 
 -- success: the number 0 with the value, and every lent slice with its new content
 pub accepted-answer : (f v u : ℕ) (r : Answer) → f ≡ 0 → u ≡ v → IsValue u r → Answered f v r
 accepted-answer f v u r z w e =
     record {
       number = ap (λ (s : Answer). s .number) e ∙ sym z;
-      value = ap (λ (s : Answer). s .value) e ∙ (w ∙ sym (ap (λ (t : Bool). pick t v 0) (eq-eqb f 0 z)));
+      value = ap (λ (s : Answer). s .value) e ∙ (w ∙ sym (pick-in f 0 v 0 z));
     }
 
 pub written-left : {A : Type 0} (f : ℕ) (new old : List A) → f ≡ 0 → new ≡ afterCall f new old
-written-left f new old z = sym (ap (λ (t : Bool). pick t new old) (eq-eqb f 0 z))
+written-left f new old z = sym (pick-in f 0 new old z)
+
+-- the value of an unrefused call
+pub answered-value : (f v : ℕ) (r : Answer) → Answered f v r → f ≡ 0 → r .value ≡ v
+answered-value f v r a z = a .value ∙ pick-in f 0 v 0 z
 
 -- the content ys that a core wrote to the whole of a lent part of n entries
 pub written-over :

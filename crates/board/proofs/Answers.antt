@@ -1,14 +1,15 @@
 -- Demand 3 in what the tree call and the pass call answer for a picture and for its watershed.
 use mathlib.Core.Path.{_≡_, refl, sym, ap, ap₂, subst, _∙_}
-use mathlib.Core.Bool.{Bool, true}
+use mathlib.Core.Bool.{true}
 use mathlib.Core.Logic.{⊎-elim, _↔_}
 use mathlib.Core.List.{List, [], _∷_, _++_, map}
 use Prim.Native.Nat.{ℕ, suc, _≤_, _<_}
 use native.Mathlib.Omega.{arith}
 use lib.ListN.{length, getD, drop}
 use borrow.Author.Tests.{eq-eqb}
+use Rattle.answers.proofs.Calls.{written-left, answered-value}
 use Rattle.lists.proofs.Cuts.{over-front}
-use Rattle.lists.specs.Lists.{pick, tally, range, over}
+use Rattle.lists.specs.Lists.{tally, range, over}
 use Rattle.picture.specs.Pictures.{Picture, places, isPicture}
 use Rattle.picture.specs.Passes.{pass}
 use Rattle.picture.specs.Trees.{nodes, nodeAt, fatherOf, treeOf}
@@ -31,8 +32,7 @@ use Rattle.board.proofs.LentTrees.{no-places-fault, no-checked-fault}
 -- an entry of a list that a call without a fault left in front of another
 in-front : (f : ℕ) (xs old new : List ℕ) → f ≡ 0 → new ≡ afterCall f (over xs old) old → (i : ℕ) → i < length xs → getD new i 0 ≡ getD xs i 0
 in-front f xs old new z e i h =
-    ap (λ (l : List ℕ). getD l i 0) (e ∙ ap (λ (t : Bool). pick t (over xs old) old) (eq-eqb f 0 z)) ∙
-    over-front xs old i h
+    ap (λ (l : List ℕ). getD l i 0) (e ∙ sym (written-left f (over xs old) old z)) ∙ over-front xs old i h
 
 -- such a list begins with the other
 begins-append : (xs ys : List ℕ) → begins xs (xs ++ ys) ≡ true
@@ -41,7 +41,7 @@ begins-append (x ∷ xs) ys = and-both (eq-eqb x x refl) (begins-append xs ys)
 
 begins-front : (f : ℕ) (xs old new : List ℕ) → f ≡ 0 → new ≡ afterCall f (over xs old) old → begins xs new ≡ true
 begins-front f xs old new z e =
-    ap (begins xs) (e ∙ ap (λ (t : Bool). pick t (over xs old) old) (eq-eqb f 0 z)) ∙ begins-append xs (drop (length xs) old)
+    ap (begins xs) (e ∙ sym (written-left f (over xs old) old z)) ∙ begins-append xs (drop (length xs) old)
 
 -- what an unrefused tree call answers, node by node
 module _ (p : Picture) (hs hs′ fs fs′ ss ss′ m m′ q q′ : List ℕ) (r : Answer) (says : TreeSays p hs hs′ fs fs′ ss ss′ m m′ q q′ r) (unrefused : r .number ≡ 0) where
@@ -49,7 +49,7 @@ module _ (p : Picture) (hs hs′ fs fs′ ss ss′ m m′ q q′ : List ℕ) (r 
   fine = sym (says .call .answer .number) ∙ unrefused
 
   pub answered-count : r .value ≡ length (nodes p)
-  answered-count = says .call .answer .value ∙ ap (λ (t : Bool). pick t (length (nodes p)) 0) (eq-eqb (treeFaultOf p hs fs ss m q) 0 fine)
+  answered-count = answered-value (treeFaultOf p hs fs ss m q) (length (nodes p)) r (says .call .answer) fine
 
   pub answered-node : (i : ℕ) → i < length (nodes p) → answeredNode hs′ ss′ i ≡ nodeAt p i
   answered-node i h =
@@ -168,7 +168,7 @@ answered-pass p count hs fs ss m x y q q′ r says z =
     let fine = sym (says .answer .number) ∙ z in
     let f = placesFaultOf p hs fs ss m q x y in
     let b = no-places-fault p hs fs ss m q x y (no-checked-fault p count hs fs ss m f fine .0) in (
-      says .answer .value ∙ ap (λ (t : Bool). pick t (pass p x y) 0) (eq-eqb (checkedFault f p count hs fs ss m) 0 fine),
+      answered-value (checkedFault f p count hs fs ss m) (pass p x y) r (says .answer) fine,
       b .1,
       b .2,
     )

@@ -8,13 +8,13 @@ use native.Mathlib.Omega.{arith}
 use lib.Dec.{eqb, ltb, leb}
 use lib.ListN.{length, take, drop, replicate, length-replicate}
 use lib.Seq.{take-at}
-use borrow.Author.Tests.{eq-eqb, ltb-true, ltb-false, lt-ltb, le-ltb, lt-leb, leb-false}
+use borrow.Author.Tests.{ltb-true, ltb-false, lt-ltb, le-ltb, lt-leb, leb-false}
 use Rattle.lists.specs.Lists.{pick, over}
 use Rattle.picture.specs.Pictures.{Picture, places, valueAt}
 use Rattle.faults.specs.PictureFault.{firstOf, when, pictureFaultOf}
 use Rattle.picture.specs.Watersheds.{watershed}
 use Rattle.picture.specs.Patches.{patchAt}
-use Rattle.lists.proofs.Tests.{on-test}
+use Rattle.lists.proofs.Tests.{on-test, pick-in}
 use Rattle.p5.specs.Files.{readFile, outcomeNumber, headerOf}
 use Rattle.lists.specs.Writing.{Written}
 use Rattle.answers.specs.declared.Answer.{Answer}
@@ -175,13 +175,13 @@ module _ (p : Picture) (x : ℕ) (cells left : List ℕ) (r : Queried) (s : Quer
   answered-value : r .value ≡ valueAt p x
   answered-value =
       ap (λ (u : Queried). u .value) (s .answer) ∙
-      ap (λ (t : Bool). pick t (valueAt p x) 0) (eq-eqb (placeFaultOf p cells x) 0 z)
+      pick-in (placeFaultOf p cells x) 0 (valueAt p x) 0 z
 
   answered-number : patchNumber (r .ground) ≡ patchAt p x
   answered-number =
       ap (λ (u : Queried). patchNumber (u .ground)) (s .answer) ∙
       (ground-number (pick (eqb (placeFaultOf p cells x) 0) (patchAt p x) 0) ∙
-      ap (λ (t : Bool). pick t (patchAt p x) 0) (eq-eqb (placeFaultOf p cells x) 0 z))
+      pick-in (placeFaultOf p cells x) 0 (patchAt p x) 0 z)
 
 module _ (p : Picture) (x : ℕ) (o q : List ℕ) where
   pub place-refused : (r : ℕ) → r ≡ placeFaultForC p (length o) (length q) x → r ≢ 0 → PlaceForC p x o o q q r

@@ -2,27 +2,16 @@
 use mathlib.Core.Path.{_≡_, refl}
 use mathlib.Core.Bool.{true, false, _&&_}
 use mathlib.Core.List.{List}
-use Prim.Native.Nat.{ℕ, _*_, _-_, _≤_, zero-le}
-use native.Mathlib.Nat.{mul-le-mul}
-use borrow.Author.Tests.{leb-true, eq-eqb, ne-eqb}
-use lib.Dec.{eqb, leb}
+use Prim.Native.Nat.{ℕ, _*_, _-_}
+use borrow.Author.Tests.{eq-eqb, ne-eqb}
+use lib.Dec.{eqb}
 use lib.ListN.{length}
 use Rattle.picture.specs.Pictures.{sideFits}
 use Rattle.p5.specs.declared.header.Header.{Header}
-use Rattle.p5.specs.declared.header.Walk.{Walk}
-use Rattle.p5.specs.declared.header.Walk.the-variants.{Walked, Stopped}
 use Rattle.p5.specs.declared.file.Outcome.{Outcome}
 use Rattle.p5.specs.declared.file.Outcome.the-variants.{Accepted, NotP5, Malformed, SideOutside, LargestOutside, CountDiffers, PixelAbove}
 use Rattle.p5.specs.Headers.{beginsP5, leading, walk}
 use Rattle.p5.specs.Files.{largestFits, atMost, onPixels, onHeader, onWalk, readFile, outcomeNumber, headerOf, noHeader}
-use Rattle.lists.proofs.Tests.{on-pick, and-left, and-right}
-use Rattle.p5.proofs.Walking.{offset-within}
-
--- sides in range leave at most 1,600 places
-pub area : (w h : ℕ) → sideFits w && sideFits h ≡ true → w * h ≤ 1600
-area w h e =
-    mul-le-mul (leb-true w 40 (and-right (leb 1 w) _ (and-left (sideFits w) _ e)))
-    (leb-true h 40 (and-right (leb 1 h) _ (and-right (sideFits w) _ e)))
 
 module _ (h : Header) (s : List ℕ) where
   pub pixels-fit : leading (atMost (h .largest)) s ≡ length s → Accepted h ≡ onPixels h s
@@ -60,29 +49,7 @@ module _ (f : List ℕ) where
   unfolding readFile
   read-p5 e = rw e
 
--- the offset of an answer lies within the file, 0 on a refusal
-header-within : (h : Header) (s : List ℕ) (n : ℕ) → h .offset ≤ n → headerOf (onHeader h s) .offset ≤ n
-unfolding onHeader onPixels
-header-within h s n e =
-    on-pick Within (sideFits (h .width) && sideFits (h .height))
-    (λ _. on-pick Within (largestFits (h .largest))
-    (λ _. on-pick Within (eqb (length s) (h .width * h .height))
-    (λ _. on-pick Within (eqb (leading (atMost (h .largest)) s) (length s)) (λ _. e) (λ _. zero-le))
-    (λ _. zero-le))
-    (λ _. zero-le))
-    (λ _. zero-le)
-  where
-    Within : Outcome → Type 0
-    Within o = headerOf o .offset ≤ n
-
-pub answer-within : (f : List ℕ) → headerOf (readFile f) .offset ≤ length f
-unfolding readFile
-answer-within f = on-pick (λ (o : Outcome). headerOf o .offset ≤ length f) (beginsP5 f) (λ _. walked (walk f) refl) (λ _. zero-le)
-  where
-    walked : (w : Walk) → walk f ≡ w → headerOf (onWalk f w) .offset ≤ length f
-    walked (Walked h) e = header-within h _ (length f) (offset-within f e)
-    walked (Stopped p) e = zero-le
-
+-- the header of a refusal
 pub refused-header : (o : Outcome) → (outcomeNumber o ≡ 0 → ⊥) → headerOf o ≡ noHeader
 refused-header (Accepted h) n = absurd (n refl)
 refused-header NotP5 n = refl

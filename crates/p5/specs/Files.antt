@@ -1,5 +1,5 @@
 -- What reading one P5 file answers, with the numbers of the scope document.
-use mathlib.Core.Bool.{Bool, _&&_}
+use mathlib.Core.Bool.{Bool, _&&_, not}
 use mathlib.Core.List.{List}
 use Prim.Native.Nat.{ℕ, _*_}
 use lib.Dec.{eqb, leb}
@@ -30,9 +30,9 @@ onPixels h s =
 -- the ranges of a walked header, in the order of the numbers, then the pixels' count, then the pixels
 unfoldable pub onHeader : Header → List ℕ → Outcome
 onHeader h s =
-    pick (sideFits (h .width) && sideFits (h .height))
-    (pick (largestFits (h .largest)) (pick (eqb (length s) (h .width * h .height)) (onPixels h s) CountDiffers) LargestOutside)
-    SideOutside
+    pick (not (sideFits (h .width) && sideFits (h .height))) SideOutside
+    (pick (not (largestFits (h .largest))) LargestOutside
+    (pick (not (eqb (length s) (h .width * h .height))) CountDiffers (onPixels h s)))
 
 -- ranges are tested only after the whole header is walked
 abbrev pub onWalk : List ℕ → Walk → Outcome
@@ -41,7 +41,7 @@ onWalk f (Stopped p) = Malformed p
 
 -- the answer for a file
 unfoldable pub readFile : List ℕ → Outcome
-readFile f = pick (beginsP5 f) (onWalk f (walk f)) NotP5
+readFile f = pick (not (beginsP5 f)) NotP5 (onWalk f (walk f))
 
 -- the number of an answer, 0 for an accepted file
 abbrev pub outcomeNumber : Outcome → ℕ

@@ -1,6 +1,6 @@
 -- The laws of the call that lists the patches: its fault, the records read off the figures, and what the call leaves.
 use mathlib.Core.Path.{_≡_, refl, sym, ap, subst, _∙_}
-use mathlib.Core.Bool.{Bool, true}
+use mathlib.Core.Bool.{true}
 use mathlib.Core.Logic.{_≢_}
 use mathlib.Core.List.{List, [], _++_, map}
 use Prim.Native.Nat.{ℕ, _+_, _*_, _≤_, _<_}
@@ -9,11 +9,12 @@ use native.Mathlib.Omega.{arith}
 use lib.Dec.{ltb}
 use lib.ListN.{length, getD, take, drop, replicate, length-replicate, length-map, List·getD-append, List·getD-map}
 use lib.Seq.{length-front, ext-getD}
-use borrow.Author.Tests.{ltb-false, ne-eqb}
-use Rattle.lists.specs.Lists.{pick, range}
+use borrow.Author.Tests.{ltb-false}
+use Rattle.lists.specs.Lists.{range}
 use Rattle.picture.specs.Pictures.{Picture, places, isPicture}
 use Rattle.faults.specs.PictureFault.{firstOf, when}
 use Rattle.picture.specs.Patches.{patches}
+use Rattle.lists.proofs.Tests.{pick-out}
 use Rattle.lists.proofs.Lists.{length-range, getD-map-range}
 use Rattle.topology.proofs.Accepted.{Accepted, accepted-is, pixels-few}
 use Rattle.topology.proofs.PatchSums.{count-few, patch-number}
@@ -113,7 +114,7 @@ module _ (p : Picture) (room : ℕ) (q : List ℕ) where
         answer = refused-answer (listFault p room (length q)) g e d (length (patches p)) _ refl;
         fits = omega arith;
         entries = record { entry = λ i b. absurd (omega arith) };
-        records = sym (ap (λ (t : Bool). pick t (map recordOf (patches p)) []) (ne-eqb g 0 d));
+        records = sym (pick-out g 0 (map recordOf (patches p)) [] d);
         enough = λ z. absurd (d z);
         left = sym (refused-left g g refl d _ q) ∙ refused-left g g refl d _ q;
       })

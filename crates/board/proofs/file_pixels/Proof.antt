@@ -5,7 +5,8 @@ use native.Mathlib.Nat.{add-zero}
 use borrow.Author.Needs.{needs}
 use denote.Ref.{now}
 use Rattle.lists.proofs.Cuts.{take-rest}
-use Rattle.p5.proofs.Answers.{answer-within, refused-header}
+use Rattle.p5.proofs.Answers.{refused-header}
+use Rattle.p5.proofs.Verdicts.{answer-within}
 use Rattle.p5.specs.Files.{outcomeNumber, readFile}
 use Rattle.board.proofs.Pixels.{pixels-read, pixels-none}
 use Rattle.board.proofs.file_pixels.Statement.{statement}

@@ -5,7 +5,7 @@ use Prim.Native.Nat.{ℕ}
 use native.Mathlib.Omega.{arith}
 use Rattle.picture.specs.Pictures.{isPicture, pictureOf}
 use Rattle.p5.specs.Files.{readFile, outcomeNumber}
-use Rattle.p5.proofs.Answers.{answer-within}
+use Rattle.p5.proofs.Verdicts.{answer-within}
 use Rattle.lists.specs.Writing.{Written}
 use Rattle.hold_lines.specs.Lines.{refusedLine}
 use Rattle.hold_list.specs.HoldText.{pictureIn, holdList}
