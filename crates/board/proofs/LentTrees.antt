@@ -21,7 +21,8 @@ use Rattle.tree_lists.specs.Lists.{ListsRoom}
 use Rattle.lent_tree.specs.Lent.{HoldsTree}
 use Rattle.verify.specs.Checked.{IsTreeAnswer, decided-yes, decided-never}
 use Rattle.lent_tree.specs.Passes.{PassReady}
-use Rattle.faults.specs.Faults.{outputFault, Admitted}
+use Rattle.faults.specs.Faults.{outputFault}
+use Rattle.faults.specs.Steps.{Admitted}
 use Rattle.board.specs.Trees.{begins, isTree, shortest, treeFaultOf, placesFaultOf, checkedFault}
 use Rattle.board.specs.LentTrees.{TreeLent}
 use Rattle.faults.proofs.Faults.{admitted, output-enough, first-some, first-none, first-later, then-none}

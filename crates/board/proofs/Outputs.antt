@@ -6,7 +6,7 @@ use Prim.Native.Nat.{ℕ, _*_, _≤_}
 use lib.ListN.{length, getD, drop}
 use Rattle.picture.specs.Pictures.{Picture, places}
 use Rattle.faults.proofs.Faults.{output-enough, admitted}
-use Rattle.faults.specs.Faults.{Admitted}
+use Rattle.faults.specs.Steps.{Admitted}
 use Rattle.answers.specs.declared.Answer.{Answer}
 use Rattle.answers.specs.Steps.{IsRefusal, Finished}
 use Rattle.answers.proofs.Calls.{refused-left, written-over, work-refused, work-done}

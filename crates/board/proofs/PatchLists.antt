@@ -10,7 +10,8 @@ use Rattle.picture.specs.Pictures.{Picture}
 use Rattle.picture.specs.Patches.{patches}
 use Rattle.patch_records.specs.declared.Patch.{Patch as PatchRecord}
 use Rattle.patch_records.specs.Records.{records}
-use Rattle.patch_lists.specs.PatchLists.{listFault, recordOf, Gathered}
+use Rattle.patch_lists.specs.PatchLists.{listFault, recordOf}
+use Rattle.patch_lists.specs.Steps.{Gathered}
 use Rattle.answers.specs.declared.Answer.{Answer}
 use Rattle.answers.specs.Answers.{afterCall, workAfter, cleared}
 use Rattle.board.specs.PatchLists.{PatchesSay}

@@ -18,7 +18,7 @@ use Rattle.board.specs.Trees.{TreeSays, PassSays}
 abbrev pub leftBy : Picture → List ℕ → Picture
 leftBy p o = withPixels p (take (places p) o)
 
--- demand 3 of the watershed call: what it leaves keeps the picture's parts, tree and passes, and every other picture nowhere above that fails to keep the parts
+-- demand 3 of the watershed call: what it leaves keeps the picture's parts, tree and passes, and every other picture nowhere above it fails to keep the parts
 abbrev pub Demand-3-of-call : Type 0
 Demand-3-of-call =
     (p : Picture) (o o′ q q′ : List ℕ) (r : Answer) → allBytes (p .pixels) ≡ true → WatershedSays p o o′ q q′ r → r .number ≡ 0 →

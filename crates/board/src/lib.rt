@@ -195,8 +195,8 @@ pub fn pass_between(
     if fault != 0 {
         return refused(fault);
     }
-    let height = pass(pixels, heights, fathers, map, x as usize, y as usize);
-    finish(work, pixels.len(), height as u32)
+    let lowest = pass(pixels, heights, fathers, map, x as usize, y as usize);
+    finish(work, pixels.len(), lowest as u32)
 }
 
 // Whether the pixel at a place is lowerable: answers 1 for yes, 0 for no.

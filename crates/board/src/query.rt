@@ -6,7 +6,7 @@ ghost use Prim.Native.Nat.{_*_, _<_};
 ghost use lib.ListN.{length};
 ghost use Rattle.picture.specs.Pictures.{pictureOf};
 ghost use Rattle.picture.specs.Patches.{patchAt};
-ghost use Rattle.faults.specs.Faults.{Admitted};
+ghost use Rattle.faults.specs.Steps.{Admitted};
 ghost use Rattle.answers.specs.Answers.{cleared};
 ghost use Rattle.board.specs.Calls.{groundOf, patchNumber, QueryIs};
 

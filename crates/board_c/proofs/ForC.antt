@@ -19,7 +19,8 @@ use Rattle.p5.specs.Files.{readFile, outcomeNumber, headerOf}
 use Rattle.lists.specs.Writing.{Written}
 use Rattle.answers.specs.declared.Answer.{Answer}
 use Rattle.board.specs.declared.query.Queried.{Queried}
-use Rattle.faults.specs.Faults.{workFault, workFaultOf, outputFault, Faultless}
+use Rattle.faults.specs.Faults.{workFault, workFaultOf, outputFault}
+use Rattle.faults.specs.Steps.{Faultless}
 use Rattle.answers.specs.Answers.{afterCall, workAfter}
 use Rattle.board.specs.Calls.{outputFaultOf, placeFaultOf, groundOf, patchNumber, WatershedSays, QuerySays}
 use Rattle.faults.proofs.Faults.{first-later, then-failed, then-none, work-size, work-none, output-none, output-enough, place-counted, faultless}

@@ -64,7 +64,7 @@ pub record PlaceForC (p : Picture) (x : ℕ) (o o′ q q′ : List ℕ) (r : ℕ
   pub output : o′ ≡ afterCall (placeFaultForC p (length o) (length q) x) (over (pair (valueAt p x) (patchAt p x)) o) o
   pub work : q′ ≡ bytesAfter (placeFaultForC p (length o) (length q) x) p q
 
--- demand 3 of the watershed for C: what it leaves keeps the picture's parts, tree and passes, and every other picture nowhere above that fails to keep the parts
+-- demand 3 of the watershed for C: what it leaves keeps the picture's parts, tree and passes, and every other picture nowhere above it fails to keep the parts
 abbrev pub Demand-3-for-C : Type 0
 Demand-3-for-C =
     (p : Picture) (o o′ q q′ : List ℕ) (r : ℕ) → allBytes (p .pixels) ≡ true → WatershedForC p o o′ q q′ r → r ≡ 0 →

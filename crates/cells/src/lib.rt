@@ -12,7 +12,7 @@ pub fn wide(x: u16) -> usize
     x as usize
 }
 
-// A pixel's value as a number.
+// A byte, as a pixel, as a number.
 pub fn value(pixel: u8) -> usize
     ensures { λ r. ⌜ r ≡ pixel ⌝ }
 {

@@ -12,7 +12,8 @@ use Rattle.faults.specs.PictureFault.{firstOf, when, pictureFault, pictu
 use Rattle.picture.proofs.Sides.{sides-area}
 use Rattle.faults.proofs.Accepted.{no-fault, accepted}
 use Rattle.topology.proofs.Accepted.{at-byte}
-use Rattle.faults.specs.Faults.{workFault, workFaultOf, outputFault, placeFault, Faultless, Admitted}
+use Rattle.faults.specs.Faults.{workFault, workFaultOf, outputFault, placeFault}
+use Rattle.faults.specs.Steps.{Faultless, Admitted}
 
 -- the first of two numbers
 pub first-some : (f g r : ℕ) → r ≡ f → r ≢ 0 → r ≡ firstOf f g

@@ -1,3 +1,4 @@
 -- The faults of a call.
 pub mod PictureFault
 pub mod Faults
+pub mod Steps

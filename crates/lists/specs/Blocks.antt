@@ -19,6 +19,6 @@ pub record Overwritten (f : ℕ → ℕ) (b n : ℕ) (cells after : List ℕ) : 
   pub kept : UntouchedOutside b n cells after
   pub inside : (i : ℕ) → i < n → getD after (b + i) 0 ≡ f i
 
--- the n entries from b on are v
+-- the n entries from b on are v, and the others as they were
 abbrev pub Filled : ℕ → ℕ → ℕ → List ℕ → List ℕ → Type 0
 Filled b n v cells after = Overwritten (λ _. v) b n cells after

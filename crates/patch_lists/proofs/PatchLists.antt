@@ -24,7 +24,8 @@ use Rattle.patch_records.specs.Records.{Entry, Entries, recordAt, records}
 use Rattle.answers.specs.declared.Answer.{Answer}
 use Rattle.faults.specs.Faults.{workFaultOf}
 use Rattle.answers.specs.Steps.{IsRefusal, IsValue}
-use Rattle.patch_lists.specs.PatchLists.{listFault, recordOf, Figured, Gathered}
+use Rattle.patch_lists.specs.PatchLists.{listFault, recordOf}
+use Rattle.patch_lists.specs.Steps.{Figured, Gathered}
 use Rattle.faults.proofs.Faults.{then-none}
 use Rattle.answers.proofs.Calls.{refused-answer, refused-left, accepted-answer, cleared-left, lent-length, behind-lent}
 

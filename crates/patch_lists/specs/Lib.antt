@@ -1,2 +1,3 @@
 -- The list of patches.
 pub mod PatchLists
+pub mod Steps

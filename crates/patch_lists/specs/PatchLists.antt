@@ -1,18 +1,13 @@
--- What the functions behind the list of patches promise.
-use mathlib.Core.Path.{_≡_}
-use mathlib.Core.List.{List, [], map}
-use Prim.Native.Nat.{ℕ, _*_, _≤_}
-use lib.Dec.{eqb, ltb}
-use lib.ListN.{length, drop}
-use Rattle.lists.specs.Lists.{pick}
+-- The fault of a list of patches, and the record of a patch in it.
+use Prim.Native.Nat.{ℕ}
+use lib.Dec.{ltb}
+use lib.ListN.{length}
 use Rattle.picture.specs.Pictures.{Picture}
 use Rattle.faults.specs.PictureFault.{firstOf, when}
 use Rattle.faults.specs.Faults.{workFaultOf}
 use Rattle.picture.specs.Patches.{Patch, patches}
 use Rattle.patch_records.specs.declared.Patch.{Patch as PatchRecord}
-use Rattle.patch_records.specs.Records.{Entries, records}
-use Rattle.answers.specs.declared.Answer.{Answer}
-use Rattle.answers.specs.Answers.{afterCall, workAfter, cleared, Answered}
+use Rattle.patch_records.specs.Records.{records}
 
 -- the fault of a call that lends a list of so many records and work of so many entries: that of the picture and work, then 9 for fewer records than patches
 unfoldable pub listFault : Picture → ℕ → ℕ → ℕ
@@ -29,19 +24,3 @@ recordOf x =
       columns = x .columns;
       rows = x .rows;
     }
-
--- the figures of the r patches are in the first 5 n entries of work
-pub record Figured (p : Picture) (q q′ : List ℕ) (r : ℕ) : Type 0 where
-  pub count : r ≡ length (patches p)
-  pub entries : Entries (length (p .pixels)) q′ r
-  pub records : records (length (p .pixels)) q′ r ≡ map recordOf (patches p)
-  pub rest : drop (5 * length (p .pixels)) q′ ≡ drop (5 * length (p .pixels)) q
-
--- the answer, with as many figures in work as it says; work is to be cleared if there is no refusal
-pub record Gathered (p : Picture) (room : ℕ) (q q′ : List ℕ) (r : Answer) : Type 0 where
-  pub answer : Answered (listFault p room (length q)) (length (patches p)) r
-  pub fits : r .value ≤ room
-  pub entries : Entries (length (p .pixels)) q′ (r .value)
-  pub records : records (length (p .pixels)) q′ (r .value) ≡ pick (eqb (r .number) 0) (map recordOf (patches p)) []
-  pub enough : r .number ≡ 0 → (length (p .pixels) ≤ 1600) × (5 * length (p .pixels) ≤ length q′)
-  pub left : afterCall (r .number) (cleared (length (p .pixels)) q′) q′ ≡ workAfter (r .number) p q

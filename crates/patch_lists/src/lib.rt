@@ -12,7 +12,8 @@ ghost use Prim.Native.Nat.{_*_, _≤_};
 ghost use lib.ListN.{length};
 ghost use Rattle.picture.specs.Pictures.{isPicture, pictureOf};
 ghost use Rattle.picture.specs.Patches.{patches};
-ghost use Rattle.patch_lists.specs.PatchLists.{listFault, Figured, Gathered};
+ghost use Rattle.patch_lists.specs.PatchLists.{listFault};
+ghost use Rattle.patch_lists.specs.Steps.{Figured, Gathered};
 
 // The number of patches of a picture.
 fn count_patches(a: u32, w: u32, h: u32, pixels: &[u8]) -> usize

@@ -1,4 +1,4 @@
--- The list of neighbours and the test of adjacency agree.
+-- What the code asks and says of a place and its list of neighbours; the list and the test of adjacency agree.
 use mathlib.Core.Path.{_≡_, refl, sym, ap, ap₂, _∙_}
 use mathlib.Core.Bool.{Bool, true, false, _&&_, _||_, not, true≢false}
 use mathlib.Core.List.{List, _∷_, map}

@@ -35,18 +35,28 @@ h3 = pictureOf 4 5 1 (3 ∷ 1 ∷ 4 ∷ 0 ∷ 2 ∷ [])
 abbrev pub h10 : Picture
 h10 = pictureOf 4 3 2 (0 ∷ 5 ∷ 2 ∷ 3 ∷ 3 ∷ 3 ∷ [])
 
--- H1 to H10, in order
+-- the pictures worked by hand in the scope document
 abbrev pub table : List Row
 table =
+    -- H1
     row (pictureOf 4 1 1 (9 ∷ [])) (9 ∷ []) ∷
+    -- H2
     row (pictureOf 4 2 1 (0 ∷ 1 ∷ [])) (0 ∷ 0 ∷ []) ∷
+    -- H3
     row h3 (1 ∷ 1 ∷ 4 ∷ 0 ∷ 0 ∷ []) ∷
+    -- H4
     row (pictureOf 4 2 2 (0 ∷ 5 ∷ 5 ∷ 0 ∷ [])) (0 ∷ 5 ∷ 5 ∷ 0 ∷ []) ∷
+    -- H5
     row (pictureOf 8 2 2 (0 ∷ 5 ∷ 5 ∷ 0 ∷ [])) (0 ∷ 0 ∷ 0 ∷ 0 ∷ []) ∷
+    -- H6
     row (pictureOf 4 3 3 (7 ∷ 7 ∷ 7 ∷ 7 ∷ 7 ∷ 7 ∷ 7 ∷ 7 ∷ 7 ∷ [])) (7 ∷ 7 ∷ 7 ∷ 7 ∷ 7 ∷ 7 ∷ 7 ∷ 7 ∷ 7 ∷ []) ∷
+    -- H7
     row (pictureOf 4 3 3 (0 ∷ 0 ∷ 0 ∷ 0 ∷ 5 ∷ 0 ∷ 0 ∷ 0 ∷ 0 ∷ [])) (0 ∷ 0 ∷ 0 ∷ 0 ∷ 0 ∷ 0 ∷ 0 ∷ 0 ∷ 0 ∷ []) ∷
+    -- H8
     row (pictureOf 4 5 1 (0 ∷ 3 ∷ 3 ∷ 3 ∷ 1 ∷ [])) (0 ∷ 0 ∷ 0 ∷ 3 ∷ 1 ∷ []) ∷
+    -- H9
     row (pictureOf 4 4 1 (0 ∷ 3 ∷ 3 ∷ 1 ∷ [])) (0 ∷ 0 ∷ 3 ∷ 1 ∷ []) ∷
+    -- H10
     row h10 (0 ∷ 3 ∷ 2 ∷ 0 ∷ 0 ∷ 3 ∷ []) ∷
     []
 

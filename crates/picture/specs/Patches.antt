@@ -22,6 +22,18 @@ byFirst (n ∷ ns) = insertByFirst n (byFirst ns)
 unfoldable pub patchNodes : Picture → List Node
 patchNodes p = byFirst (select (isLeaf p) (nodes p))
 
+-- the number from i on of the first leaf whose patch holds x, 0 for none
+abbrev pub patchFrom : ℕ → Picture → ℕ → List Node → ℕ
+patchFrom i p x ns = indexFrom 0 i (λ n. isIn x (componentOf p n)) ns
+
+-- the number of the patch of a place, 0 on the line (in a watershed: the watershed line)
+unfoldable pub patchAt : Picture → ℕ → ℕ
+patchAt p x = patchFrom 1 p x (patchNodes p)
+
+-- how many places of a picture are on the line (in a watershed: the watershed line)
+unfoldable pub lineCount : Picture → ℕ
+lineCount p = tally (λ x. eqb (patchAt p x) 0) (range 0 (places p))
+
 -- a patch's depth: its father's height, or for the root the largest value, less its own height (this is not what the literature calls the dynamics of a minimum)
 unfoldable pub depthOf : Picture → Node → ℕ
 depthOf p n =
@@ -58,18 +70,6 @@ patchesFrom i p (n ∷ ns) = patchOf p i n ∷ patchesFrom (suc i) p ns
 -- the patches of a picture (a patch is a regional minimum), numbered from 1 by first place
 unfoldable pub patches : Picture → List Patch
 patches p = patchesFrom 1 p (patchNodes p)
-
--- the number from i on of the first leaf whose patch holds x, 0 for none
-abbrev pub patchFrom : ℕ → Picture → ℕ → List Node → ℕ
-patchFrom i p x ns = indexFrom 0 i (λ n. isIn x (componentOf p n)) ns
-
--- the number of the patch of a place, 0 on the line (in a watershed: the watershed line)
-unfoldable pub patchAt : Picture → ℕ → ℕ
-patchAt p x = patchFrom 1 p x (patchNodes p)
-
--- how many places of a picture are on the line (in a watershed: the watershed line)
-unfoldable pub lineCount : Picture → ℕ
-lineCount p = tally (λ x. eqb (patchAt p x) 0) (range 0 (places p))
 
 -- a centre (standard term: centroid) in tenths: ten times a sum of columns or rows by the size, remainder dropped
 abbrev pub centre : ℕ → ℕ → ℕ

@@ -6,7 +6,7 @@ use native.Mathlib.Omega.{arith}
 use lib.ListN.{length, length-append}
 use mir.Syntax.{w8, w32, w64}
 use mir.Val.{Fits}
-use Rattle.p5.proofs.Answers.{answer-within}
+use Rattle.p5.proofs.Verdicts.{answer-within}
 use Rattle.p5.proofs.Places.{place-within}
 use Rattle.reading.specs.declared.Read.{Read}
 use Rattle.reading.specs.Reads.{ReadSays}

@@ -1,2 +1,3 @@
 -- The answer for a file.
 pub mod Reads
+pub mod Steps

@@ -5,7 +5,7 @@ use native.Mathlib.Omega.{arith}
 use lib.ListN.{length, getD}
 use Rattle.picture.specs.Pictures.{Picture, pictureOf}
 use Rattle.board.specs.Trees.{treeFaultOf, checkedFault}
-use Rattle.faults.specs.Faults.{Admitted}
+use Rattle.faults.specs.Steps.{Admitted}
 use Rattle.answers.proofs.Calls.{work-refused, work-done}
 use Rattle.board.proofs.LentTrees.{lists-fault, tree-admitted, lent-tree, no-checked-fault}
 use borrow.Author.Needs.{needs}

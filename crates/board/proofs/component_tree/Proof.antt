@@ -7,7 +7,7 @@ use Rattle.picture.specs.Pictures.{Picture, places, pictureOf}
 use Rattle.lists.proofs.Cuts.{drop-more}
 use Rattle.topology.proofs.Nodes.{nodes-few}
 use Rattle.board.specs.Trees.{shortest, treeFaultOf}
-use Rattle.faults.specs.Faults.{Admitted}
+use Rattle.faults.specs.Steps.{Admitted}
 use Rattle.answers.proofs.Calls.{refused-left, written-left, work-refused, work-done}
 use Rattle.board.proofs.LentTrees.{lists-fault, tree-admitted, tree-rooms}
 use borrow.Author.Needs.{needs}

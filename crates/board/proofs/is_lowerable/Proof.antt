@@ -8,7 +8,8 @@ use Rattle.lists.specs.Lists.{pick}
 use Rattle.picture.specs.Pictures.{Picture, places, pictureOf}
 use Rattle.board.specs.Calls.{placeFaultOf}
 use Rattle.faults.proofs.Faults.{place-enough, admitted}
-use Rattle.faults.specs.Faults.{workFaultOf, Admitted}
+use Rattle.faults.specs.Faults.{workFaultOf}
+use Rattle.faults.specs.Steps.{Admitted}
 use Rattle.answers.proofs.Calls.{lent-length, back-room, behind-lent, work-refused, work-done}
 use borrow.Author.Needs.{needs}
 use Rattle.board.proofs.is_lowerable.Statement.{statement}

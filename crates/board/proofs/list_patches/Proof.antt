@@ -51,7 +51,7 @@ use Rattle.patch_records.proofs.write_records.Symbol.{name as #write}
 use Rattle.patch_records.proofs.write_records.Met as write-thm
 use Rattle.answers.specs.declared.Answer.{Answer}
 use Rattle.answers.specs.Answers.{afterCall, cleared}
-use Rattle.patch_lists.specs.PatchLists.{Gathered}
+use Rattle.patch_lists.specs.Steps.{Gathered}
 use Rattle.answers.proofs.Answer as S
 use Rattle.answers.proofs.Answer.Laws as S′
 use Rattle.board.proofs.Lending.{LentAgain, SharedAgain, lends-again, comes-back, shares-again, unshared}

@@ -8,7 +8,7 @@ use Rattle.picture.specs.Pictures.{Picture, places, pictureOf}
 use Rattle.picture.specs.Passes.{pass}
 use Rattle.board.specs.Trees.{treeFaultOf, placesFaultOf, checkedFault, isTree}
 use Rattle.board.specs.LentTrees.{TreeLent}
-use Rattle.faults.specs.Faults.{Admitted}
+use Rattle.faults.specs.Steps.{Admitted}
 use Rattle.answers.proofs.Calls.{work-refused, work-done}
 use Rattle.board.proofs.LentTrees.{lists-fault, tree-admitted, lent-tree, places-counted, no-places-fault, no-checked-fault, pass-ready, pass-low, tree-entries}
 use borrow.Author.Needs.{needs}

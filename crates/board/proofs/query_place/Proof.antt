@@ -4,7 +4,7 @@ use Prim.Native.Nat.{_<_}
 use native.Mathlib.Omega.{arith}
 use lib.ListN.{length}
 use Rattle.picture.specs.Pictures.{Picture, places, pictureOf}
-use Rattle.faults.specs.Faults.{Admitted}
+use Rattle.faults.specs.Steps.{Admitted}
 use Rattle.faults.proofs.Faults.{place-enough, admitted}
 use Rattle.board.specs.Calls.{placeFaultOf}
 use Rattle.board.proofs.Queries.{refused-query, answered-query}

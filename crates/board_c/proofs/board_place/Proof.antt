@@ -4,7 +4,7 @@ use Prim.Native.Nat.{_/_}
 use native.Mathlib.Omega.{arith}
 use lib.ListN.{length}
 use Rattle.picture.specs.Pictures.{Picture, pictureOf}
-use Rattle.faults.specs.Faults.{Faultless}
+use Rattle.faults.specs.Steps.{Faultless}
 use Rattle.board_c.specs.CalledByC.{placeFaultForC}
 use Rattle.board_c.proofs.ForC.{unpack-room, pack-room, place-fault, place-refused, place-lent, place-room, place-done}
 use borrow.Author.Needs.{needs}

@@ -4,7 +4,8 @@ use Prim.Native.Nat.{_/_}
 use native.Mathlib.Omega.{arith}
 use lib.ListN.{length}
 use Rattle.picture.specs.Pictures.{Picture, pictureOf}
-use Rattle.faults.specs.Faults.{outputFault, Faultless}
+use Rattle.faults.specs.Faults.{outputFault}
+use Rattle.faults.specs.Steps.{Faultless}
 use Rattle.board_c.proofs.ForC.{unpack-room, pack-room, water-refused, water-lent, water-done}
 use borrow.Author.Needs.{needs}
 use Rattle.board_c.proofs.board_watershed.Statement.{statement}

@@ -7,7 +7,7 @@ use Rattle.topology.proofs.Accepted.{accepted-is}
 use Rattle.topology.proofs.PatchBounds.{patches-few}
 use Rattle.patch_lists.specs.PatchLists.{listFault}
 use Rattle.faults.proofs.Faults.{admitted}
-use Rattle.faults.specs.Faults.{Admitted}
+use Rattle.faults.specs.Steps.{Admitted}
 use Rattle.patch_lists.proofs.PatchLists.{list-enough, gathered-refused, gathered-accepted}
 use borrow.Author.Needs.{needs}
 use Rattle.patch_lists.proofs.gather.Statement.{statement}

@@ -4,7 +4,7 @@ use borrow.Author.Needs.{needs}
 use denote.Ref.{now}
 use Rattle.io.proofs.Counting.{counts}
 use Rattle.lists.proofs.Writings.{written-length}
-use Rattle.p5.proofs.Answers.{answer-within}
+use Rattle.p5.proofs.Verdicts.{answer-within}
 use Rattle.p5.proofs.Places.{place-within}
 use Rattle.read_report.proofs.Lines.{line-room, report-is}
 use Rattle.read_report.proofs.put_report.Statement.{statement}
