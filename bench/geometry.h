@@ -26,18 +26,15 @@ static const struct { int8_t column, row; } steps[8] = {
     { 0, 1 }, { -1, 1 }, { -1, 0 }, { -1, -1 },
 };
 
-/* Writes the neighbours of the place x in the table's order; answers how many there are. Inner places need no test, as in ours;
- * with -DEVERY_EDGE_TESTED every step is tested. */
+/* Writes the neighbours of the place x in the table's order; answers how many there are. Inner places need no test, as in ours. */
 static inline unsigned neighbours(struct grid g, unsigned x, uint16_t *near)
 {
     unsigned column = x % g.width, row = x / g.width, count = 0;
-#ifndef EVERY_EDGE_TESTED
     if (column - 1 < g.width - 2 && row - 1 < g.height - 2) {
         for (unsigned i = 0; i < 8; i += g.stride)
             near[count++] = (uint16_t)(x + (unsigned)steps[i].row * g.width + (unsigned)steps[i].column);
         return count;
     }
-#endif
     for (unsigned i = 0; i < 8; i += g.stride) {
         unsigned c = column + (unsigned)steps[i].column;
         unsigned r = row + (unsigned)steps[i].row;
