@@ -16,6 +16,8 @@
 
 #define STACK_ROOM 65536
 #define RETURN_ADDRESS 8
+#define RECORD 10               /* bytes of a patch's record */
+#define MOST_PATCHES 800        /* of a checkerboard of 40 by 40 with adjacency 4 */
 #define MEMORY_OF_CONTROLLER 32768
 #define HEADER "P5\n40 40\n255\n"
 #define HEADER_LENGTH 13
@@ -83,6 +85,14 @@ static void query_place(void)
                                             work, 5 * n);
 }
 
+/* All of list_patches but the records, which C cannot lend. */
+static void list_patches(void)
+{
+    answer = ((uint64_t (*)(uint32_t, uint32_t, uint32_t, const uint8_t *, size_t,
+                            size_t, uint16_t *, size_t))function)(
+        a, side, side, pixels, n, MOST_PATCHES, work, 5 * n);
+}
+
 static void read_for_c(void)
 {
     answer = ((uint32_t (*)(const uint8_t *, size_t, uint8_t *, size_t))function)(
@@ -115,6 +125,7 @@ static const struct {
     { "pass_between", 28800, (any_function *)bench_pass_between, pass_between },
     { "watershed_of", 19200, (any_function *)bench_watershed_of, watershed_of },
     { "query_place", 17600, (any_function *)bench_query_place, query_place },
+    { "list_patches", 17600 + RECORD * MOST_PATCHES, (any_function *)bench_gather, list_patches },
     { "board_read", sizeof file + 32, (any_function *)board_read, read_for_c },
     { "board_watershed", 19200, (any_function *)board_watershed, watershed_for_c },
     { "board_place", 17616, (any_function *)board_place, place_for_c },
