@@ -130,7 +130,8 @@ pub extern "C" fn bench_figures(a: u32, w: u32, h: u32, pixels: &[u8], work: &mu
     if work_fault(a, w, h, pixels.len(), work.len()) != 0 {
         return 0;
     }
-    fill_figures(a, w, h, pixels, work) as u64
+    let mut cells = [0u16; 1600];
+    fill_figures(a, w, h, pixels, work, &mut cells) as u64
 }
 
 // What the list of patches answers for a list of so many records, with the figures of the patches left in work: all of `list_patches` but the records.

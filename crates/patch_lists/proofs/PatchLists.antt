@@ -7,7 +7,7 @@ use Prim.Native.Nat.{ℕ, _+_, _*_, _≤_, _<_}
 use native.Mathlib.Numerals.{add-one}
 use native.Mathlib.Omega.{arith}
 use lib.Dec.{ltb}
-use lib.ListN.{length, getD, take, drop, replicate, length-replicate, length-map, List·getD-append, List·getD-map}
+use lib.ListN.{length, getD, take, drop, length-map, List·getD-append, List·getD-map}
 use lib.Seq.{length-front, ext-getD}
 use borrow.Author.Tests.{ltb-false}
 use Rattle.lists.specs.Lists.{range}
@@ -43,9 +43,13 @@ module _ (p : Picture) (h : isPicture p ≡ true) where
   ok : Accepted p
   ok = accepted-is p h
 
-  -- a cell a pixel of a local array
-  pub cells-lent : length (p .pixels) ≡ length (take (length (p .pixels)) (replicate {A = ℕ} 1600 0))
-  cells-lent = lent-length (length (p .pixels)) (replicate {A = ℕ} 1600 0) (omega (arith, pixels-few p h, length-replicate {A = ℕ} 1600 0))
+  -- among 1600 cells there is one for each pixel
+  module _ (cells : List ℕ) (room : 1600 ≤ length cells) where
+    pub cells-enough : length (p .pixels) ≤ length cells
+    cells-enough = omega (arith, pixels-few p h, room)
+
+    pub cells-lent : length (p .pixels) ≡ length (take (length (p .pixels)) cells)
+    cells-lent = lent-length (length (p .pixels)) cells cells-enough
 
   -- the figures in the first 5 n entries of work, as records
   module _ (r : ℕ) (q ys cells : List ℕ) (room : 5 * length (p .pixels) ≤ length q) (long : length ys ≡ 5 * places p) (f : Figures p r ys cells) where

@@ -15,35 +15,49 @@ ghost use Rattle.picture.specs.Patches.{patches};
 ghost use Rattle.patch_lists.specs.PatchLists.{listFault};
 ghost use Rattle.patch_lists.specs.Steps.{Figured, Gathered};
 
-// The number of patches of a picture.
-fn count_patches(a: u32, w: u32, h: u32, pixels: &[u8]) -> usize
-    requires { ⌜ isPicture (pictureOf a w h (now pixels)) ≡ true ⌝ }
+// The number of patches of a picture, with cells for the floods.
+fn count_patches(a: u32, w: u32, h: u32, pixels: &[u8], cells: &mut [u16]) -> usize
+    requires { ⌜ (isPicture (pictureOf a w h (now pixels)) ≡ true) × (1600 ≤ length (now cells)) ⌝ }
     ensures { λ r. ⌜ r ≡ length (patches (pictureOf a w h (now (pixels .entry)))) ⌝ }
 {
     let n = pixels.len();
-    let mut cells = [0u16; 1600];
     count_minima(a, w, h, pixels, &mut cells[..n])
 }
 
-// The fault of the call, from the picture and the two lengths; 0 for none. Nothing lent is written.
-fn list_fault(a: u32, w: u32, h: u32, pixels: &[u8], room: usize, work: usize) -> u8
+// The fault of the call, from the picture and the two lengths; 0 for none. Nothing that the call is lent is written.
+fn list_fault(
+    a: u32,
+    w: u32,
+    h: u32,
+    pixels: &[u8],
+    room: usize,
+    work: usize,
+    cells: &mut [u16],
+) -> u8
+    requires { ⌜ 1600 ≤ length (now cells) ⌝ }
     ensures { λ r. ⌜ r ≡ listFault (pictureOf a w h (now (pixels .entry))) room work ⌝ }
 {
     let fault = work_fault(a, w, h, pixels.len(), work);
     if fault != 0 {
         return fault;
     }
-    short_after(0, room, count_patches(a, w, h, pixels))
+    short_after(0, room, count_patches(a, w, h, pixels, cells))
 }
 
 // Leaves the figures of the patches in the first 5 n entries of work, and answers how many patches there are.
-pub fn fill_figures(a: u32, w: u32, h: u32, pixels: &[u8], work: &mut [u16]) -> usize
-    requires { ⌜ (isPicture (pictureOf a w h (now pixels)) ≡ true) × (5 * length (now pixels) ≤ length (now work)) ⌝ }
+pub fn fill_figures(
+    a: u32,
+    w: u32,
+    h: u32,
+    pixels: &[u8],
+    work: &mut [u16],
+    cells: &mut [u16],
+) -> usize
+    requires { ⌜ (isPicture (pictureOf a w h (now pixels)) ≡ true) × (5 * length (now pixels) ≤ length (now work)) × (1600 ≤ length (now cells)) ⌝ }
     ensures { λ r. ⌜ Figured (pictureOf a w h (now (pixels .entry))) (now (work .entry)) (now (work .exit)) r ⌝ }
 {
     let n = pixels.len();
     let whole = 5 * n;
-    let mut cells = [0u16; 1600];
     patch_figures(a, w, h, pixels, &mut work[..whole], &mut cells[..n])
 }
 
@@ -51,10 +65,12 @@ pub fn fill_figures(a: u32, w: u32, h: u32, pixels: &[u8], work: &mut [u16]) -> 
 pub fn gather(a: u32, w: u32, h: u32, pixels: &[u8], room: usize, work: &mut [u16]) -> Answer
     ensures { λ r. ⌜ Gathered (pictureOf a w h (now (pixels .entry))) room (now (work .entry)) (now (work .exit)) r ⌝ }
 {
-    let fault = list_fault(a, w, h, pixels, room, work.len());
+    // one array for the count and the figures: two would not fit the controller
+    let mut cells = [0u16; 1600];
+    let fault = list_fault(a, w, h, pixels, room, work.len(), &mut cells);
     if fault != 0 {
         return refused(fault);
     }
-    let count = fill_figures(a, w, h, pixels, work);
+    let count = fill_figures(a, w, h, pixels, work, &mut cells);
     accepted(count as u32)
 }
