@@ -15,7 +15,7 @@ ghost use Rattle.picture.specs.Patches.{patches};
 ghost use Rattle.patch_lists.specs.PatchLists.{listFault};
 ghost use Rattle.patch_lists.specs.Steps.{Figured, Gathered};
 
-// The number of patches of a picture, with cells for the floods.
+// The number of patches of a picture. The cells may hold anything.
 fn count_patches(a: u32, w: u32, h: u32, pixels: &[u8], cells: &mut [u16]) -> usize
     requires { ⌜ (isPicture (pictureOf a w h (now pixels)) ≡ true) × (1600 ≤ length (now cells)) ⌝ }
     ensures { λ r. ⌜ r ≡ length (patches (pictureOf a w h (now (pixels .entry)))) ⌝ }
@@ -24,7 +24,7 @@ fn count_patches(a: u32, w: u32, h: u32, pixels: &[u8], cells: &mut [u16]) -> us
     count_minima(a, w, h, pixels, &mut cells[..n])
 }
 
-// The fault of the call, from the picture and the two lengths; 0 for none. Nothing that the call is lent is written.
+// The fault of the call, from the picture and the two lengths; 0 for none. Only the cells are written.
 fn list_fault(
     a: u32,
     w: u32,
@@ -44,7 +44,7 @@ fn list_fault(
     short_after(0, room, count_patches(a, w, h, pixels, cells))
 }
 
-// Leaves the figures of the patches in the first 5 n entries of work, and answers how many patches there are.
+// Leaves the figures of the patches in the first 5 n entries of work, and answers how many patches there are. The cells may hold anything.
 pub fn fill_figures(
     a: u32,
     w: u32,
