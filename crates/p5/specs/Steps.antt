@@ -1,17 +1,16 @@
--- What the functions that leave a walk say.
+-- Where a field and a walk end, for the functions that leave a walk.
+use Prim.Native.Nat.{ℕ}
 use Rattle.p5.specs.declared.field.Field.{Field}
 use Rattle.p5.specs.declared.field.Field.the-variants.{Number, Unfit}
 use Rattle.p5.specs.declared.header.Walk.{Walk}
 use Rattle.p5.specs.declared.header.Walk.the-variants.{Walked, Stopped}
-use Rattle.p5.specs.declared.file.Outcome.{Outcome}
-use Rattle.p5.specs.declared.file.Outcome.the-variants.{Malformed}
 
--- the position where the walk stops at a field; a number does not come here
-abbrev pub stoppedAt : Field → Walk
-stoppedAt (Number n p) = Stopped p
-stoppedAt (Unfit p) = Stopped p
+-- the position where the reading of a field ended
+abbrev pub fieldEnd : Field → ℕ
+fieldEnd (Number n p) = p
+fieldEnd (Unfit p) = p
 
--- the refusal of a walk that stopped; a whole header does not come here
-abbrev pub malformedAt : Walk → Outcome
-malformedAt (Walked h) = Malformed (h .offset)
-malformedAt (Stopped p) = Malformed p
+-- the position where a walk ended
+abbrev pub walkEnd : Walk → ℕ
+walkEnd (Walked h) = h .offset
+walkEnd (Stopped p) = p

@@ -7,11 +7,22 @@ ghost use Prim.Native.Nat.{_+_, _-_, _*_, _<_};
 ghost use lib.Dec.{eqb};
 ghost use Rattle.lists.specs.Lists.{pick};
 ghost use Rattle.p5.specs.Headers.{isDigit, gapEnd, digitsAt, numberAt};
+ghost use Rattle.p5.specs.Steps.{fieldEnd};
 
 // A number with the position after it, or the unfit position.
 pub enum Field {
     Number(u32, usize),
     Unfit(usize),
+}
+
+// The position where the reading of a field ended: behind its number, or the unfit one.
+pub fn field_end(field: Field) -> usize
+    ensures { λ r. ⌜ r ≡ fieldEnd field ⌝ }
+{
+    match field {
+        Field::Number(_, end) => end,
+        Field::Unfit(place) => place,
+    }
 }
 
 // The gap before a number: the position after it, `at` itself where there is none.

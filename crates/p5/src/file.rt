@@ -1,6 +1,7 @@
 // The whole file: the letters P5, the header, the ranges, the pixels' count and the pixels.
 use crate::header::Header;
 use crate::header::Walk;
+use crate::header::walk_end;
 use crate::header::walk_header;
 use crate::samples::count_fits;
 use crate::samples::first_above;
@@ -9,7 +10,6 @@ use ranges::sides_fit;
 ghost use mathlib.Core.Path.{_≡_};
 ghost use Rattle.p5.specs.Headers.{beginsP5};
 ghost use Rattle.p5.specs.Files.{onPixels, onHeader, readFile};
-ghost use Rattle.p5.specs.Steps.{malformedAt};
 
 // The first two bytes of a file.
 pub const P5: [u8; 2] = *b"P5";
@@ -70,16 +70,6 @@ pub fn on_header(header: Header, pixels: &[u8]) -> Outcome
     on_pixels(header, pixels)
 }
 
-// The walk stopped at an unfit position.
-fn malformed(walk: Walk) -> Outcome
-    ensures { λ r. ⌜ r ≡ malformedAt walk ⌝ }
-{
-    match walk {
-        Walk::Walked(header) => Outcome::Malformed(header.offset),
-        Walk::Stopped(place) => Outcome::Malformed(place),
-    }
-}
-
 // Reads one file.
 pub fn read(file: &[u8]) -> Outcome
     ensures { λ r. ⌜ r ≡ readFile (now (file .entry)) ⌝ }
@@ -89,7 +79,7 @@ pub fn read(file: &[u8]) -> Outcome
     }
     let walk = walk_header(file);
     let Walk::Walked(header) = walk else {
-        return malformed(walk);
+        return Outcome::Malformed(walk_end(walk));
     };
     let offset = header.offset;
     on_header(header, &file[offset..])

@@ -1,10 +1,11 @@
 // The header of a P5 file: three numbers and one white space byte.
 use crate::characters::is_white;
 use crate::field::Field;
+use crate::field::field_end;
 use crate::reader::Reader;
 ghost use mathlib.Core.Path.{_≡_};
 ghost use Rattle.p5.specs.Headers.{walk, endAt};
-ghost use Rattle.p5.specs.Steps.{stoppedAt};
+ghost use Rattle.p5.specs.Steps.{fieldEnd, walkEnd};
 
 // The numbers of a header, and where the pixels begin.
 pub struct Header {
@@ -20,14 +21,21 @@ pub enum Walk {
     Stopped(usize),
 }
 
-// The walk stops at a field that is not well formed.
-pub fn stopped(field: Field) -> Walk
-    ensures { λ r. ⌜ r ≡ stoppedAt field ⌝ }
+// The position where a walk ended: behind the header, or the unfit one.
+pub fn walk_end(walk: Walk) -> usize
+    ensures { λ r. ⌜ r ≡ walkEnd walk ⌝ }
 {
-    match field {
-        Field::Number(_, end) => Walk::Stopped(end),
-        Field::Unfit(place) => Walk::Stopped(place),
+    match walk {
+        Walk::Walked(header) => header.offset,
+        Walk::Stopped(place) => place,
     }
+}
+
+// The walk stops where the reading of a field ended.
+pub fn stopped(field: Field) -> Walk
+    ensures { λ r. ⌜ r ≡ Walk.Stopped (fieldEnd field) ⌝ }
+{
+    Walk::Stopped(field_end(field))
 }
 
 // The white space byte after the third number ends the header.

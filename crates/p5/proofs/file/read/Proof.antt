@@ -5,7 +5,8 @@ use mathlib.Core.Path.{sym, ap, _∙_}
 use borrow.Author.Needs.{needs}
 use denote.Ref.{now}
 use Rattle.p5.specs.Files.{onHeader, onWalk}
-use Rattle.p5.specs.Steps.{malformedAt}
+use Rattle.p5.specs.Steps.{walkEnd}
+use Rattle.p5.specs.declared.file.Outcome.the-variants.{Malformed}
 use Rattle.p5.proofs.Answers.{read-other, read-p5}
 use Rattle.p5.proofs.Walking.{offset-within}
 use Rattle.p5.proofs.file.read.Statement.{statement}
@@ -26,15 +27,15 @@ enum-known-walk c = search needs
 enum-told : tie.Need-enum-told
 enum-told c = search needs
 
-malformed-requires : tie.Need-malformed-requires
-malformed-requires c κs = search needs
+walk-end-requires : tie.Need-walk-end-requires
+walk-end-requires c κs = search needs
 
 returns-2 : tie.Need-returns-2
 returns-2 c =
     let told = c .before .enum-told .given in
     let walked = c .before .before .before in
     let f = now (walked .before .before .before .before .args .file) in
-    c .malformed .ensures ∙ ap malformedAt (told .1)
+    ap Malformed (c .walk-end .ensures ∙ ap walkEnd (told .1))
     ∙ sym (ap (onWalk f) (sym (walked .walk-header .ensures) ∙ told .1))
     ∙ read-p5 f (was-true (walked .before .before .begins-p5 .ensures) (walked .before .if1 .left))
 
@@ -69,7 +70,7 @@ read-spec =
     walk-header-requires
     enum-known-walk
     enum-told
-    malformed-requires
+    walk-end-requires
     returns-2
     sub-on-header
     part-on-header-start

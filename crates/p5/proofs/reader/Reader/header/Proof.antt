@@ -46,11 +46,12 @@ use denote.Triple.Walked.{says, Stays, stay-none, walkOf, goes-none, Walks, ends
 use denote.Exit.{yes}
 use denote.Triple.Clauses.{ensured, lasts}
 use Rattle.p5.specs.Headers.{numberAt, endAt, fromLargest, fromHeight, fromWidth}
-use Rattle.p5.specs.Steps.{stoppedAt}
+use Rattle.p5.specs.Steps.{fieldEnd}
 use Rattle.p5.specs.declared.reader.Reader.{Reader}
 use Rattle.p5.specs.declared.field.Field.{Field}
 use Rattle.p5.specs.declared.field.Field.the-variants.{Number, Unfit}
 use Rattle.p5.specs.declared.header.Walk.{Walk}
+use Rattle.p5.specs.declared.header.Walk.the-variants.{Stopped}
 use Rattle.p5.proofs.FieldValues.{spelled, respelled, number-fits, position-fits}
 use Rattle.p5.proofs.reader.Reader as T
 use Rattle.p5.proofs.reader.Reader.Laws as T′
@@ -171,8 +172,8 @@ module _ {M : Type 1} (𝓤 : URA M) (H : Heap 𝓤) (A : Atoms 𝓤) (W : Given
       qed W [] ∵ nothing ! $ owned ! F.the-row (Is F.the-row) (EL.makes F.the-type F′.the-plain 𝓤 H A) r _ is $ fjoin ! $ nothing ! $
       use2 W (raw (TheStop 𝓤 H A mem run .pre (to-stop r))) (qed W (‵ ftrue ∷ ‵ (owns (F.the-row ∷ []) (r, tt) (F′.lowered r ∷ [], tt)) ∷ []) ∵ join ! $ frame ! $ done !) $ done !
 
-  stop-said : (r : Field) (t : Walk) → ent 𝓤 (ensured 𝓤 H A stopped.ended (stopped.clauses 𝓤 H A mem run) tt (r, tt) tt t) (fact 𝓤 (t ≡ stoppedAt r))
-  stop-said r t = exE 𝓤 _ (λ ws. snd∗ 𝓤 (sem 𝓤 H A (lasts stopped.ended tt (r, tt) ws)) (fact 𝓤 (t ≡ stoppedAt r)))
+  stop-said : (r : Field) (t : Walk) → ent 𝓤 (ensured 𝓤 H A stopped.ended (stopped.clauses 𝓤 H A mem run) tt (r, tt) tt t) (fact 𝓤 (t ≡ Stopped (fieldEnd r)))
+  stop-said r t = exE 𝓤 _ (λ ws. snd∗ 𝓤 (sem 𝓤 H A (lasts stopped.ended tt (r, tt) ws)) (fact 𝓤 (t ≡ Stopped (fieldEnd r))))
 
   -- the call of `end` at a position, with the three numbers
   abbrev end-args : ℕ → ℕ → ℕ → ℕ → Args end.signature (κ, tt)
@@ -217,12 +218,12 @@ module _ {M : Type 1} (𝓤 : URA M) (H : Heap 𝓤) (A : Atoms 𝓤) (W : Given
         facts ! F.the-row (Is F.the-row) (shows 𝓤 H A F.the-row) r (u ∷ []) (λ is. k r u is e))))
 
     calls-stopped : Triple 𝓤 (C #p5·stopped) (TheStop 𝓤 H A mem run) → (r : Field) → Is F.the-row r (F′.lowered r ∷ []) → Opds Go W (raw (TheStop 𝓤 H A mem run .pre (to-stop r)) ∷ Γ) E xs (F′.lowered r ∷ [])
-        → ((t : Walk) (u : Val) → Is S.the-row t (u ∷ []) → t ≡ stoppedAt r → Sq W (‵ (S.the-row .own t (u ∷ [])) ∷ Γ) (lands C Λ E to u rest then))
+        → ((t : Walk) (u : Val) → Is S.the-row t (u ∷ []) → t ≡ Stopped (fieldEnd r) → Sq W (‵ (S.the-row .own t (u ∷ [])) ∷ Γ) (lands C Λ E to u rest then))
         → Sq W Γ (runs C Λ E (seq (call #p5·stopped xs to) rest) then)
     calls-stopped known r is os k =
         use0 W (raw (TheStop 𝓤 H A mem run .pre (to-stop r))) (goes-stop r is) $ calls-at ! fm (TheStop 𝓤 H A mem run) known (to-stop r) os (λ u.
         use1 W (later (some (λ (t : Walk). (‵ ftrue ⊛ ‵ (S.the-row .own t (u ∷ []))) ⊛ raw (ensured 𝓤 H A stopped.ended (stopped.clauses 𝓤 H A mem run) tt (r, tt) tt t)))) (id⊢ 𝓤 _) $ await ! tt $ pick ! (λ t.
-        split ! $ move ! (1 ∷ []) $ use1 W (raw (fact 𝓤 (t ≡ stoppedAt r))) (stop-said r t) $ heard ! (t ≡ stoppedAt r) (λ e. split ! $ drop ! $
+        split ! $ move ! (1 ∷ []) $ use1 W (raw (fact 𝓤 (t ≡ Stopped (fieldEnd r)))) (stop-said r t) $ heard ! (t ≡ Stopped (fieldEnd r)) (λ e. split ! $ drop ! $
         peeks ! S.the-row (Is S.the-row) (shows 𝓤 H A S.the-row) t (u ∷ []) (λ is′. k t u is′ e))))
 
     calls-end : Triple 𝓤 (C #p5·end) (TheEnd 𝓤 H A mem run) → (p w h m : ℕ) → p < 2 ^ 64 → w < 2 ^ 32 → h < 2 ^ 32 → m < 2 ^ 32
