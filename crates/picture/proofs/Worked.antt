@@ -1,17 +1,18 @@
--- The pictures worked by hand, H1 to H10, their trees, a pass, labels and patches: each table by one test that antt computes.
+-- The pictures worked by hand, H1 to H10, their parts, trees, a pass, labels and patches: each table by one test that antt computes.
 use mathlib.Core.Path.{_≡_, refl}
 use mathlib.Core.Bool.{Bool, true, false, _&&_}
 use mathlib.Core.List.{List, [], _∷_, map}
 use Prim.Native.Nat.{ℕ}
 use lib.Dec.{eqb}
 use Rattle.lists.specs.Lists.{all, range}
-use Rattle.picture.specs.Pictures.{Picture, places, adjacent, isPicture, pictureOf}
+use Rattle.picture.specs.Pictures.{Picture, places, withPixels, adjacent, isPicture, pictureOf}
 use Rattle.picture.specs.Components.{componentAt, components}
 use Rattle.picture.specs.Passes.{pass}
 use Rattle.picture.specs.Labels.{labels}
 use Rattle.picture.specs.Trees.{Tree, isBranch, nodesAt, nodes, fatherOf, mapOf, treeOf, isLeaf}
 use Rattle.picture.specs.Watersheds.{lowerable, best, watershed}
 use Rattle.picture.specs.Patches.{patchNodes, depthOf, Patch, patchOf, patches, patchAt, lineCount, centre}
+use Rattle.picture.specs.Kept.{keepsAt, flat}
 
 -- two lists hold the same numbers
 abbrev pub sameList : List ℕ → List ℕ → Bool
@@ -68,6 +69,16 @@ rowHolds r = isPicture (r .picture) && sameList (watershed (r .picture) .pixels)
 pub worked : all rowHolds table ≡ true
 unfolding adjacent isPicture componentAt components lowerable best watershed
 worked = refl
+
+-- each worked watershed keeps its picture's parts at the heights from 0 to 9, above which no pixel lies
+pub worked-parts : all (λ r. all (keepsAt (r .picture) (withPixels (r .picture) (r .water))) (range 0 10)) table ≡ true
+unfolding adjacent componentAt components keepsAt
+worked-parts = refl
+
+-- the flat grey wall does not keep H3's: at height 1 its one component contains two of them
+pub worked-wall : keepsAt h3 (flat h3 0) 1 ≡ false
+unfolding adjacent componentAt components keepsAt
+worked-wall = refl
 
 -- a tree worked by hand: its picture, heights, first places, fathers and map
 pub record TreeRow : Type 0 where

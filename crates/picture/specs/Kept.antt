@@ -4,14 +4,14 @@ use mathlib.Core.Bool.{Bool, true, false, _&&_}
 use mathlib.Core.List.{List, [], _∷_}
 use Prim.Native.Nat.{ℕ, _≤_, _<_}
 use lib.Dec.{eqb, leb}
-use lib.ListN.{length}
+use lib.ListN.{length, replicate}
 use Rattle.lists.specs.Lists.{all, tally, range, allWithin}
 use Rattle.picture.specs.Pictures.{Picture, places, withPixels, allBytes, isPicture}
 use Rattle.picture.specs.Components.{components}
 use Rattle.picture.specs.Passes.{pass}
 use Rattle.picture.specs.Trees.{Node, nodes, nodeAt, componentOf, fatherOf}
 use Rattle.picture.specs.Watersheds.{watershed}
-use Rattle.picture.specs.Patches.{patchAt}
+use Rattle.picture.specs.Patches.{patches, patchAt}
 
 -- b keeps f's parts at height k (standard term: b is an extension of f there): each component of f lies in exactly one of b's, and each of b's contains exactly one of f's
 unfoldable pub keepsAt : Picture → Picture → ℕ → Bool
@@ -83,3 +83,11 @@ OthersFail f a =
 -- demand 3, whole
 abbrev pub Demand-3 : Type 0
 Demand-3 = (f : Picture) → isPicture f ≡ true → Kept f (watershed f)
+
+-- the flat picture of one value, with f's adjacency and sides
+abbrev pub flat : Picture → ℕ → Picture
+flat f v = withPixels f (replicate (places f) v)
+
+-- the flat grey wall: of a picture with two patches or more, no flat picture keeps the parts
+abbrev pub Flat-fails : Type 0
+Flat-fails = (f : Picture) → isPicture f ≡ true → 2 ≤ length (patches f) → (v : ℕ) → keepsParts f (flat f v) ≡ false

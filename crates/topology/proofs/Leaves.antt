@@ -19,7 +19,7 @@ use Rattle.lists.proofs.Rising.{rising-is-select}
 use Rattle.topology.proofs.Connected.{start, conn-target}
 use Rattle.topology.proofs.Adjacency.{At, Joined}
 use Rattle.topology.proofs.Accepted.{Accepted, value-byte}
-use Rattle.topology.proofs.Reached.{firstAt, component-same, first-joined, first-first}
+use Rattle.topology.proofs.Reached.{firstAt, component-same, first-joined, first-same, first-first}
 use Rattle.topology.proofs.Parts.{isFirst, first-is, is-first, components-mem}
 use Rattle.topology.proofs.Branches.{below-joined}
 use Rattle.lists.proofs.Indices.{mem-index}
@@ -82,6 +82,18 @@ module _ (p : Picture) where
   bottom-is x b h =
       let (s, e) = first-is p (valueAt p x) x b (and-left (isFirst p (valueAt p x) x) (leafAt p (valueAt p x) x) h) in
       (s, e, and-right (isFirst p (valueAt p x) x) (leafAt p (valueAt p x) x) h)
+
+  -- the same by the height of the minimum
+  pub bottom-at :
+      (k x : ℕ) → x < places p → bottom p x ≡ true → valueAt p x ≡ k → At p k x × (firstAt p k x ≡ x) × (leafAt p k x ≡ true)
+  bottom-at k x b h v = subst (λ (l : ℕ). At p l x × (firstAt p l x ≡ x) × (leafAt p l x ≡ true)) v (bottom-is x b h)
+
+  -- first places of minima of one height that are joined are the same
+  pub bottom-one :
+      (k x y : ℕ) → x < places p → y < places p → bottom p x ≡ true → bottom p y ≡ true → valueAt p x ≡ k → valueAt p y ≡ k →
+      Joined p k x y → x ≡ y
+  bottom-one k x y xb yb bx by vx vy c =
+      sym (bottom-at k x xb bx vx .1) ∙ (first-same p k c ∙ bottom-at k y yb by vy .1)
 
   pub is-bottom : (k x : ℕ) → At p k x → firstAt p k x ≡ x → leafAt p k x ≡ true → bottom p x ≡ true
   unfolding bottom

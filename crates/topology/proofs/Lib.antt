@@ -27,5 +27,6 @@ pub mod ComponentNumbers
 pub mod LeafNodes
 pub mod PatchSums
 pub mod PatchesKept
+pub mod FlatWall
 pub mod PatchBounds
 pub mod TreeLists

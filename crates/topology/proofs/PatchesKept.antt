@@ -12,14 +12,14 @@ use Rattle.picture.specs.Patches.{patches}
 use Rattle.topology.proofs.Connected.{conn-target, conn-trans}
 use Rattle.topology.proofs.Keeping.{Keeps}
 use Rattle.topology.proofs.Adjacency.{Adj, At, Joined, joined-sym}
-use Rattle.topology.proofs.Reached.{firstAt, first-joined, first-same, first-at}
+use Rattle.topology.proofs.Reached.{firstAt, first-joined, first-at}
 use Rattle.topology.proofs.Accepted.{Accepted, accepted-is}
 use Rattle.topology.proofs.Water.{watershed-shape, watershed-watered}
 use Rattle.topology.proofs.Branches.{joined-kept}
 use Rattle.lists.proofs.Indices.{pigeonhole}
 use Rattle.topology.proofs.Minima.{flat-kept}
 use Rattle.lists.proofs.Positions.{tally-rises, tally-inject}
-use Rattle.topology.proofs.Leaves.{leafAt, bottom, leaf-sound, leaf-complete, leaf-same, bottom-is, first-bottom}
+use Rattle.topology.proofs.Leaves.{leafAt, bottom, leaf-sound, leaf-complete, leaf-same, bottom-is, bottom-at, bottom-one, first-bottom}
 use Rattle.topology.proofs.PatchFigures.{patches-count}
 use Rattle.topology.proofs.PatchSums.{patch-begins}
 use Rattle.topology.proofs.Demand.{demand-3}
@@ -45,10 +45,6 @@ module _ (f : Picture) (xs : List ℕ) (keeps : (k : ℕ) → Keeps (places f) (
     partner :
         (z w k : ℕ) → z < places f → w < places f → bottom f z ≡ true → bottom a w ≡ true → tally (bottom f) (range 0 z) ≡ i →
         tally (bottom a) (range 0 w) ≡ j → valueAt f z ≡ k → valueAt a w ≡ k → Joined a k z w → Partner i j
-
-  -- the first place of a minimum by its height
-  begins : (p : Picture) (x k : ℕ) → x < places p → bottom p x ≡ true → valueAt p x ≡ k → At p k x × (firstAt p k x ≡ x) × (leafAt p k x ≡ true)
-  begins p x k b h v = subst (λ (l : ℕ). At p l x × (firstAt p l x ≡ x) × (leafAt p l x ≡ true)) v (bottom-is p x b h)
 
   -- each patch of f has a partner
   forth : Accepted f → (i : ℕ) → i < length (patches f) → (j : ℕ) × (j < tally (bottom a) (range 0 (places f))) × Partner i j
@@ -87,9 +83,9 @@ module _ (f : Picture) (xs : List ℕ) (keeps : (k : ℕ) → Keeps (places f) (
       (p : Picture) (x y k : ℕ) → x < places p → y < places p → bottom p x ≡ true → bottom p y ≡ true → valueAt p x ≡ k → valueAt p y ≡ k →
       (At p k x → At p k y → Joined p k x y) → tally (bottom p) (range 0 x) ≡ tally (bottom p) (range 0 y)
   same-number p x y k xb yb bx by vx vy c =
-      let (sx, fx, lx) = begins p x k xb bx vx in
-      let (sy, fy, ly) = begins p y k yb by vy in
-      ap (λ (z : ℕ). tally (bottom p) (range 0 z)) (sym fx ∙ (first-same p k (c sx sy) ∙ fy))
+      let sx = bottom-at p k x xb bx vx .0 in
+      let sy = bottom-at p k y yb by vy .0 in
+      ap (λ (z : ℕ). tally (bottom p) (range 0 z)) (bottom-one p k x y xb yb bx by vx vy (c sx sy))
 
   one-left : (i j n : ℕ) → Partner i n → Partner j n → i ≡ j
   one-left i j n (partner z w k zb wb bz bw ti tn vz vw c) (partner y u l yb ub by bu tj tm vy vu d) =
