@@ -9,19 +9,19 @@ use lib.ListN.{length}
 use Rattle.picture.specs.Patches.{centre}
 use Rattle.text.specs.Decimal.{fields}
 use Rattle.hold_lines.specs.Lines.{lineOf}
-use Rattle.text.proofs.Decimals.{four-digits, five-digits, six-digits, last-length, next-length}
+use Rattle.text.proofs.Decimals.{decimal-length, last-length, next-length}
 
 -- the line of a patch
 pub line-length :
     (a b c d e g : ℕ) → a < 10000 → b < 100000 → c < 100000 → d < 100000 → e < 1000000 → g < 1000000 →
     length (fields (a ∷ b ∷ c ∷ d ∷ e ∷ g ∷ [])) ≤ 37
 line-length a b c d e g ha hb hc hd he hg =
-    let la = four-digits a ha in
-    let lb = five-digits b hb in
-    let lc = five-digits c hc in
-    let ld = five-digits d hd in
-    let le = six-digits e he in
-    let lg = six-digits g hg in
+    let la = decimal-length 3 a ha in
+    let lb = decimal-length 4 b hb in
+    let lc = decimal-length 4 c hc in
+    let ld = decimal-length 4 d hd in
+    let le = decimal-length 5 e he in
+    let lg = decimal-length 5 g hg in
     let p = next-length a b (c ∷ d ∷ e ∷ g ∷ []) in
     let q = next-length b c (d ∷ e ∷ g ∷ []) in
     let r = next-length c d (e ∷ g ∷ []) in

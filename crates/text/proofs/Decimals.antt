@@ -2,7 +2,7 @@
 use mathlib.Core.Path.{_≡_, refl, sym, ap, _∙_}
 use mathlib.Core.Logic.{by-cases}
 use mathlib.Core.List.{List, [], _∷_, _++_, append-nil, append-assoc}
-use Prim.Native.Nat.{ℕ, zero, suc, _+_, _/_, _%_, _^_, _≤_, _<_}
+use Prim.Native.Nat.{ℕ, zero, suc, _+_, _*_, _/_, _%_, _^_, _≤_, _<_}
 use native.Mathlib.Nat.{pow-suc}
 use native.Mathlib.Decide.{decLt}
 use native.Mathlib.Omega.{arith}
@@ -96,25 +96,15 @@ spaced-room (n ∷ (m ∷ ns)) (suc i) h =
     let k = length-append (decimal n) (32 ∷ []) in
     omega arith
 
--- a number below a power of ten has no more digits than the power
-pub four-digits : (n : ℕ) → n < 10000 → length (decimal n) ≤ 4
-four-digits n h = decimal-length 3 n h
-
-pub five-digits : (n : ℕ) → n < 100000 → length (decimal n) ≤ 5
-five-digits n h = decimal-length 4 n h
-
-pub six-digits : (n : ℕ) → n < 1000000 → length (decimal n) ≤ 6
-six-digits n h = decimal-length 5 n h
-
 pub last-length : (n : ℕ) → length (fields (n ∷ [])) ≡ suc (length (decimal n))
 last-length n = length-append (decimal n) (10 ∷ []) ∙ omega arith
 
 pub next-length : (n m : ℕ) (ns : List ℕ) → length (fields (n ∷ m ∷ ns)) ≡ length (decimal n) + suc (length (fields (m ∷ ns)))
 next-length n m ns = length-append (decimal n) (32 ∷ fields (m ∷ ns))
 
--- one number and two as fields
-pub one-length : (n : ℕ) → n < 100000 → length (fields (n ∷ [])) ≤ 6
-one-length n h = let l = five-digits n h in let e = last-length n in omega arith
+-- one number and two as fields, of at most suc l digits each
+pub one-length : (l n : ℕ) → n < 10 ^ suc l → length (fields (n ∷ [])) ≤ suc (suc l)
+one-length l n h = omega (arith, decimal-length l n h, last-length n)
 
-pub two-length : (n m : ℕ) → n < 100000 → m < 100000 → length (fields (n ∷ m ∷ [])) ≤ 12
-two-length n m h g = let l = five-digits n h in let e = next-length n m [] in let k = one-length m g in omega arith
+pub two-length : (l n m : ℕ) → n < 10 ^ suc l → m < 10 ^ suc l → length (fields (n ∷ m ∷ [])) ≤ 2 * suc (suc l)
+two-length l n m h g = omega (arith, decimal-length l n h, next-length n m [], one-length l m g)

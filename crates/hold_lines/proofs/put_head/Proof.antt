@@ -22,14 +22,14 @@ slice-aggregate-put-word-2 c = search needs
 put-word-requires : tie.Need-put-word-requires
 put-word-requires c κs =
     let s = c .before .before .before .before in
-    let l = two-length (s .args .w) (s .args .h) (s .pre .0) (s .pre .1) in
+    let l = two-length 4 (s .args .w) (s .args .h) (s .pre .0) (s .pre .1) in
     (search needs, omega (arith, s .pre .4))
 
 put-count-requires : tie.Need-put-count-requires
 put-count-requires c κs =
     let s = c .before .before .before .before .before .before .before .before in
     let w = c .before .before .before .put-word .ensures in
-    let l = two-length (s .args .w) (s .args .h) (s .pre .0) (s .pre .1) in
+    let l = two-length 4 (s .args .w) (s .args .h) (s .pre .0) (s .pre .1) in
     let e = w .end in
     let k = written-length (omega (arith, s .pre .4)) w in
     (s .pre .2, omega (arith, s .pre .4))
@@ -45,8 +45,8 @@ put-word-requires-2 c κs =
     let s = c .before .before .before .before .before .before .before .before .before .before .before .before .before .before in
     let w = c .before .before .before .before .before .before .before .before .before .put-word .ensures in
     let v = c .before .before .before .before .before .put-count .ensures in
-    let l = two-length (s .args .w) (s .args .h) (s .pre .0) (s .pre .1) in
-    let m = one-length (s .args .line) (s .pre .3) in
+    let l = two-length 4 (s .args .w) (s .args .h) (s .pre .0) (s .pre .1) in
+    let m = one-length 4 (s .args .line) (s .pre .3) in
     let e = w .end in
     let k = written-length (omega (arith, s .pre .4)) w in
     let k₂ = written-length (omega (arith, s .pre .4, v .1)) (v .0) in
@@ -61,8 +61,8 @@ returns c =
     let w = c .before .before .before .before .before .before .before .before .before .before .before .before .put-word .ensures in
     let v = c .before .before .before .before .before .before .before .before .put-count .ensures in
     let u = c .before .before .put-word2 .ensures in
-    let l = two-length (s .args .w) (s .args .h) (s .pre .0) (s .pre .1) in
-    let m = one-length (s .args .line) (s .pre .3) in (
+    let l = two-length 4 (s .args .w) (s .args .h) (s .pre .0) (s .pre .1) in
+    let m = one-length 4 (s .args .line) (s .pre .3) in (
       subst (λ (xs : List ℕ). Written 0 xs (s .args .out .now) (c .before .before .put-word2 .result) (c .before .before .put-word2 .last .0))
           (head-is pictureWord (fields (s .args .w ∷ s .args .h ∷ [])) patchesWord (decimal (s .args .count)) lineWord (fields (s .args .line ∷ [])))
           (written-then (omega arith) (written-then (omega arith) w (v .0)) u),

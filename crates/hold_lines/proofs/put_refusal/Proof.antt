@@ -14,7 +14,7 @@ slice-aggregate-put-word-2 c = search needs
 put-word-requires : tie.Need-put-word-requires
 put-word-requires c κs =
     let s = c .before .before .before .before in
-    let l = one-length (s .args .number) (s .pre .0) in
+    let l = one-length 4 (s .args .number) (s .pre .0) in
     (search needs, omega (arith, s .pre .1))
 
 same-length : tie.Need-same-length
@@ -24,7 +24,7 @@ returns : tie.Need-returns
 returns c =
     let s = c .before .before .before .before .before .before .before in
     let w = c .before .before .put-word .ensures in
-    let l = one-length (s .args .number) (s .pre .0) in
+    let l = one-length 4 (s .args .number) (s .pre .0) in
     (w, omega (arith, w .end))
 
 pub put-refusal-spec : {M : Type 1} → statement M
