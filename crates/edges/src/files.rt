@@ -50,10 +50,10 @@ fn put_spaces(out: &mut [u8], at: usize, count: usize) -> usize
     put_bytes(out, at, &spaces[..count])
 }
 
-// Writes the sides and the largest sample in two lines and answers the position behind them; they have at most 18 bytes.
+// Writes the sides and the largest sample in two lines and answers the position behind them; they have at most 10 bytes.
 fn put_numbers(out: &mut [u8], at: usize, w: u32, h: u32, largest: u32) -> usize
-    requires { ⌜ (w < 100000) × (h < 100000) × (largest < 100000) × (at + 18 ≤ length (now out)) ⌝ }
-    ensures { λ r. ⌜ Written at (numberLines w h largest) (now (out .entry)) r (now (out .exit)) × (r ≤ at + 18) ⌝ }
+    requires { ⌜ (w < 100) × (h < 100) × (largest < 1000) × (at + 10 ≤ length (now out)) ⌝ }
+    ensures { λ r. ⌜ Written at (numberLines w h largest) (now (out .entry)) r (now (out .exit)) × (r ≤ at + 10) ⌝ }
 {
     let sides = [w, h];
     let next = put_fields(out, at, &sides);
@@ -61,9 +61,9 @@ fn put_numbers(out: &mut [u8], at: usize, w: u32, h: u32, largest: u32) -> usize
     put_fields(out, next, &sample)
 }
 
-// Writes a file and answers its length.
+// Writes a file and answers its length; without pixels and spaces it has at most 13 bytes.
 pub fn put_file(out: &mut [u8], w: u32, h: u32, largest: u32, count: u32, spaces: usize) -> usize
-    requires { ⌜ (w < 100000) × (h < 100000) × (largest < 100000) × (count ≤ 2000) × (spaces ≤ 2500) × (21 + spaces + count ≤ length (now out)) ⌝ }
+    requires { ⌜ (w < 100) × (h < 100) × (largest < 1000) × (count ≤ 2000) × (spaces ≤ 2500) × (13 + spaces + count ≤ length (now out)) ⌝ }
     ensures { λ r. ⌜ Written 0 (edgeFile w h largest count spaces) (now (out .entry)) r (now (out .exit)) ⌝ }
 {
     let first = put_bytes(out, 0, b"P5\n");

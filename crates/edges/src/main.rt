@@ -9,30 +9,30 @@ ghost use Prim.Native.Nat.{_+_, _<_, _≤_};
 ghost use lib.ListN.{length};
 ghost use Rattle.text.specs.Decimal.{fields};
 
-// Prints the name of a case, then what `holds` prints for its file.
-fn print_case(name: &[u8], file: &[u8]) {
+// Prints the name of a case, then what `holds` prints for the first `count` bytes of its input.
+fn print_case(name: &[u8], input: &[u8; 4097], count: usize) {
     io::write_all(1, name);
     let mut out = [0u8; 59264];
-    let end = put_text(file, &mut out);
+    let end = put_text(input, count, &mut out);
     io::write_all(1, &out[..end]);
 }
 
 // The case of a file of some sides, largest sample, number of pixels and spaces; its name is a word and numbers.
 fn print_file(word: &[u8], numbers: &[u32], w: u32, h: u32, largest: u32, count: u32, spaces: usize)
     requires { ⌜ (1 ≤ length (now numbers)) × (length (now word) + length (fields (now numbers)) ≤ 64) ⌝ }
-    requires { ⌜ (w < 100000) × (h < 100000) × (largest < 100000) × (count ≤ 2000) × (spaces ≤ 2500) ⌝ }
+    requires { ⌜ (w < 100) × (h < 100) × (largest < 1000) × (count ≤ 2000) × (spaces ≤ 2500) × (13 + spaces + count ≤ 4097) ⌝ }
 {
     let mut name = [0u8; 64];
     let name_end = put_word(&mut name, 0, word, numbers);
-    let mut file = [0u8; 4521];
-    let end = put_file(&mut file, w, h, largest, count, spaces);
-    print_case(&name[..name_end], &file[..end]);
+    let mut input = [0u8; 4097];
+    let end = put_file(&mut input, w, h, largest, count, spaces);
+    print_case(&name[..name_end], &input, end);
 }
 
 // The case of a file whose name is a word and one number.
 fn print_numbered(word: &[u8], number: u32, w: u32, h: u32, largest: u32, count: u32, spaces: usize)
     requires { ⌜ (length (now word) ≤ 8) × (number < 100000) ⌝ }
-    requires { ⌜ (w < 100000) × (h < 100000) × (largest < 100000) × (count ≤ 2000) × (spaces ≤ 2500) ⌝ }
+    requires { ⌜ (w < 100) × (h < 100) × (largest < 1000) × (count ≤ 2000) × (spaces ≤ 2500) × (13 + spaces + count ≤ 4097) ⌝ }
 {
     let numbers = [number];
     print_file(word, &numbers, w, h, largest, count, spaces);
@@ -72,8 +72,8 @@ fn print_pixels(count: u32)
 
 // The case of empty input.
 fn print_empty() {
-    let file = [0u8; 1];
-    print_case(b"empty\n", &file[..0]);
+    let input = [0u8; 4097];
+    print_case(b"empty\n", &input, 0);
 }
 
 // The case of a length: a picture of 40 by 40, which has 1,613 bytes, and spaces.

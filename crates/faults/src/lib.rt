@@ -1,5 +1,6 @@
 // The fault of a call's arguments, from numbers and lengths alone; 0 for none.
 use crate::picture_fault::picture_fault;
+use ranges::lesser;
 
 mod picture_fault;
 
@@ -66,16 +67,6 @@ pub fn places_fault(fault: u8, n: usize, x: u32, y: u32) -> u8
     ensures { λ r. ⌜ r ≡ firstOf fault (when (leb n x || leb n y) 10) ⌝ }
 {
     place_after(place_after(fault, n, y), n, x)
-}
-
-// The lesser of two lengths.
-fn lesser(a: usize, b: usize) -> usize
-    ensures { λ r. ⌜ r ≡ min a b ⌝ }
-{
-    if a < b {
-        return a;
-    }
-    b
 }
 
 // The least of four lengths.

@@ -5,7 +5,7 @@ use mathlib.Core.Logic.{_≢_, inl}
 use mathlib.Core.List.{List}
 use Prim.Native.Nat.{ℕ, _+_, _-_, _≤_, _<_}
 use native.Mathlib.Omega.{arith}
-use lib.ListN.{length, getD, take, drop, length-drop}
+use lib.ListN.{length, getD, take, drop, length-take, length-drop}
 use lib.Seq.{getD-drop}
 use borrow.Author.Tests.{eq-eqb, ne-eqb, lt-ltb, le-ltb}
 use Rattle.picture.specs.Pictures.{Picture, withPixels, isPicture, pictureOf}
@@ -59,6 +59,10 @@ module _ (f : List ℕ) where
   read-picture w h o ew eh eo =
       ap (picture w h) (take-rest o f ∙ ap (λ (i : ℕ). drop i f) eo) ∙
       ap₂ (λ (a b : ℕ). picture a b (drop (headerOf (readFile f) .offset) f)) ew eh
+
+-- a count above 4,096 of an input that is longer than that
+pub text-counted : (count : ℕ) (input : List ℕ) → 4096 < count → 4096 < length input → holdText (take count input) ≡ refusedLine 12
+text-counted count input h g = text-long (take count input) (omega (arith, length-take count input))
 
 -- bytes that are the pixels of the watershed of an accepted picture
 module _ (p : Picture) (h : isPicture p ≡ true) (xs : List ℕ) (e : xs ≡ watershed p .pixels) where

@@ -4,16 +4,18 @@ use hold_lines::put_lines;
 use hold_lines::put_refusal;
 use patches::cores::patch_figures;
 use patches::places::count_line;
+use ranges::lesser;
 use reading::read_file;
 use watershed::whole::watershed_core;
 ghost use mathlib.Core.Path.{_≡_};
 ghost use mathlib.Core.Bool.{true};
-ghost use Prim.Native.Nat.{_*_, _≤_};
-ghost use lib.ListN.{length};
+ghost use Prim.Native.Nat.{_*_, _≤_, _<_};
+ghost use lib.ListN.{length, take};
 ghost use Rattle.picture.specs.Pictures.{isPicture, pictureOf};
 ghost use Rattle.patches.specs.Figures.{Figures};
 ghost use Rattle.patch_numbers.specs.Numbers.{FiveBlocks};
 ghost use Rattle.lists.specs.Writing.{Written};
+ghost use Rattle.hold_lines.specs.Lines.{refusedLine};
 ghost use Rattle.hold_list.specs.HoldText.{patchList, holdList, holdText};
 
 // Writes the list of the patches of a picture with adjacency 4 from their figures, and answers the position behind it.
@@ -102,8 +104,8 @@ fn put_holds(w: u32, h: u32, pixels: &[u8], out: &mut [u8]) -> usize
     )
 }
 
-// Writes the text for a file and answers the position behind it: 64 bytes and 37 for each of 1,600 patches are room enough.
-pub fn put_text(file: &[u8], out: &mut [u8]) -> usize
+// Writes the text for a file and answers the position behind it.
+fn put_file_text(file: &[u8], out: &mut [u8]) -> usize
     requires { ⌜ 59264 ≤ length (now out) ⌝ }
     ensures { λ r. ⌜ Written 0 (holdText (now (file .entry))) (now (out .entry)) r (now (out .exit)) ⌝ }
 {
@@ -117,4 +119,16 @@ pub fn put_text(file: &[u8], out: &mut [u8]) -> usize
     }
     let offset = answer.offset;
     put_holds(answer.width, answer.height, &file[offset..], out)
+}
+
+// Writes the text for the first `count` bytes of an input and answers the position behind it.
+// The input has one byte more than a file may have, so that a longer file is seen; a count above its length is taken as its length.
+// 64 bytes and 37 for each of 1,600 patches are room for every text.
+pub fn put_text(input: &[u8; 4097], count: usize, out: &mut [u8; 59264]) -> usize
+    ensures { λ r. ⌜ Written 0 (holdText (take count (now (input .entry)))) (now (out .entry)) r (now (out .exit)) ⌝ }
+    ensures { λ r. ⌜ (4096 < count → holdText (take count (now (input .entry))) ≡ refusedLine 12) ⌝ }
+{
+    let bytes: &[u8] = input;
+    let length = lesser(count, bytes.len());
+    put_file_text(&bytes[..length], out)
 }

@@ -1,7 +1,10 @@
 -- Lists cut in two: what `take` and `drop` leave.
 use mathlib.Core.Path.{_≡_, refl, sym, ap, subst, _∙_}
 use mathlib.Core.List.{List, _++_, append-nil}
-use Prim.Native.Nat.{ℕ, _+_, _-_, _≤_, _<_}
+use mathlib.Core.Logic.{by-cases}
+use Prim.Native.Nat.{ℕ, _+_, _-_, _≤_, _<_, min}
+use native.Mathlib.Nat.{min-eq-left}
+use native.Mathlib.Decide.{decLe}
 use native.Mathlib.Omega.{arith}
 use lib.ListN.{length, getD, take, drop, length-append, length-drop, drop-of-length-le, List·getD-append}
 use lib.Seq.{drop-drop, getD-drop, getD-append-add, take-all, take-add, take-at}
@@ -51,6 +54,13 @@ from-at b i l = ap (λ (m : List ℕ). getD m i 0) (take-rest b l) ∙ getD-drop
 
 pub from-length : (b : ℕ) (l : List ℕ) → length (from b l) ≡ length l - b
 from-length b l = ap length (take-rest b l) ∙ length-drop b l
+
+-- a count above the length takes the whole list
+pub take-counted : {A : Type 0} (l : List A) (n r : ℕ) → r ≡ min n (length l) → take r l ≡ take n l
+take-counted l n r e =
+    by-cases (decLe n (length l))
+    (λ h. ap (λ (m : ℕ). take m l) (e ∙ min-eq-left h))
+    (λ h. take-all r l (omega arith) ∙ sym (take-all n l (omega arith)))
 
 -- a part u that stands from p on, before q
 pub take-part : (f : List ℕ) (p q : ℕ) (u s : List ℕ) → drop p f ≡ u ++ s → q ≡ p + length u → take q f ≡ take p f ++ u

@@ -1,6 +1,7 @@
-// Numbers in a range, and the sides of a picture.
+// Numbers in a range, the lesser of two, and the sides of a picture.
 ghost use mathlib.Core.Path.{_≡_};
 ghost use mathlib.Core.Bool.{_&&_};
+ghost use Prim.Native.Nat.{min};
 ghost use lib.Dec.{leb};
 ghost use Rattle.picture.specs.Pictures.{sideFits};
 
@@ -12,6 +13,16 @@ pub fn between(low: usize, x: usize, high: usize) -> bool
         return false;
     }
     x <= high
+}
+
+// The lesser of two numbers.
+pub fn lesser(a: usize, b: usize) -> usize
+    ensures { λ r. ⌜ r ≡ min a b ⌝ }
+{
+    if a < b {
+        return a;
+    }
+    b
 }
 
 // Both sides are 1 to 40.

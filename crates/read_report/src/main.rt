@@ -1,18 +1,22 @@
 // Prints what reading answers for the file on standard input: number, place, width, height, largest sample, offset.
-ghost use Prim.Native.Nat.{_≤_};
-ghost use lib.ListN.{length};
+use board::read_file;
+use ranges::lesser;
+use text::put_fields;
+ghost use lib.ListN.{take};
 ghost use Rattle.io.specs.Counts.{Counts};
 ghost use Rattle.text.specs.Decimal.{fields};
 ghost use Rattle.lists.specs.Writing.{Written};
 ghost use Rattle.read_report.specs.Reports.{report};
 
-// Writes the line of a file and answers the position behind it.
-fn put_report(out: &mut [u8], file: &[u8]) -> usize
-    requires { ⌜ (66 ≤ length (now out)) × (length (now file) ≤ 65536) ⌝ }
-    ensures { λ r. ⌜ Written 0 (fields (report (now (file .entry)))) (now (out .entry)) r (now (out .exit)) ⌝ }
+// Writes the line of the file in the first `count` bytes of an input and answers the position behind it.
+// A count above the input's length is taken as its length; six numbers of at most ten digits have room in 66 bytes.
+fn put_report(input: &[u8; 65536], count: usize, out: &mut [u8; 66]) -> usize
+    ensures { λ r. ⌜ Written 0 (fields (report (take count (now (input .entry))))) (now (out .entry)) r (now (out .exit)) ⌝ }
     ensures { λ r. ⌜ Counts r (now (out .exit)) ⌝ }
 {
-    let answer = board::read_file(file);
+    let bytes: &[u8] = input;
+    let length = lesser(count, bytes.len());
+    let answer = read_file(&bytes[..length]);
     let line = [
         answer.number as u32,
         answer.place as u32,
@@ -21,13 +25,13 @@ fn put_report(out: &mut [u8], file: &[u8]) -> usize
         answer.largest,
         answer.offset as u32,
     ];
-    text::put_fields(out, 0, &line)
+    put_fields(out, 0, &line)
 }
 
 fn main() {
     let mut input = io::large_buffer();
     let count = io::read_full(0, &mut input);
     let mut out: [u8; 66] = [0; 66];
-    let end = put_report(&mut out, &input[..count]);
+    let end = put_report(&input, count, &mut out);
     io::write_all(1, &out[..end]);
 }

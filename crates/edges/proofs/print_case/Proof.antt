@@ -7,17 +7,14 @@ use Rattle.edges.proofs.print_case.Tie as tie
 write-all-requires : tie.Need-write-all-requires
 write-all-requires c κs = search needs
 
-slice-aggregate-put-text : tie.Need-slice-aggregate-put-text
-slice-aggregate-put-text c = search needs
-
 put-text-requires : tie.Need-put-text-requires
 put-text-requires c κs = search needs
 
 array-share-prefix-out : tie.Need-array-share-prefix-out
-array-share-prefix-out c = text-within (c .before .put-text .ensures) .0
+array-share-prefix-out c = text-within (c .put-text .ensures .0) .0
 
 slice-aggregate-write-all : tie.Need-slice-aggregate-write-all
-slice-aggregate-write-all c = text-within (c .before .before .put-text .ensures) .1
+slice-aggregate-write-all c = text-within (c .before .put-text .ensures .0) .1
 
 write-all-requires-2 : tie.Need-write-all-requires-2
 write-all-requires-2 c κs = search needs
@@ -30,7 +27,6 @@ print-case-spec =
     tie.close
     (tie.spec
     write-all-requires
-    slice-aggregate-put-text
     put-text-requires
     array-share-prefix-out
     slice-aggregate-write-all

@@ -22,12 +22,6 @@ array-share-prefix-name c = text-within (c .before .before .before .before .put-
 slice-aggregate-print-case : tie.Need-slice-aggregate-print-case
 slice-aggregate-print-case c = text-within (c .before .before .before .before .before .put-word .ensures) .1
 
-array-share-prefix-file : tie.Need-array-share-prefix-file
-array-share-prefix-file c = text-within (c .before .before .put-file .ensures) .0
-
-slice-aggregate-print-case-2 : tie.Need-slice-aggregate-print-case-2
-slice-aggregate-print-case-2 c = text-within (c .before .before .before .put-file .ensures) .1
-
 print-case-requires : tie.Need-print-case-requires
 print-case-requires c κs = search needs
 
@@ -44,7 +38,5 @@ print-file-spec =
     put-file-requires
     array-share-prefix-name
     slice-aggregate-print-case
-    array-share-prefix-file
-    slice-aggregate-print-case-2
     print-case-requires
     returns)

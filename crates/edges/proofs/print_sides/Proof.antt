@@ -18,9 +18,9 @@ mul-print-file c = let s = c .before .before in omega (arith, mul-le-mul (s .pre
 print-file-requires : tie.Need-print-file-requires
 print-file-requires c κs =
     let s = c .before .before in
-    let l = two-length (s .args .w) (s .args .h) (omega (arith, s .pre .0)) (omega (arith, s .pre .1)) in
+    let l = two-length 4 (s .args .w) (s .args .h) (omega (arith, s .pre .0)) (omega (arith, s .pre .1)) in
     let m = mul-le-mul (s .pre .0) (s .pre .1) in
-    ((search needs, omega arith), (omega (arith, s .pre .0), omega (arith, s .pre .1), search needs, omega arith, search needs))
+    ((search needs, omega arith), (omega (arith, s .pre .0), omega (arith, s .pre .1), search needs, omega arith, search needs, omega arith))
 
 returns : tie.Need-returns
 returns c = search needs

@@ -1,4 +1,4 @@
--- `hold_list::put_text` meets its contract: too long a file, a refused one, an accepted one.
+-- `hold_list::put_file_text` meets its contract: too long a file, a refused one, an accepted one.
 use mathlib.Core.Path.{_≡_, sym, ap, subst, _∙_}
 use mathlib.Core.List.{List}
 use Prim.Native.Nat.{ℕ}
@@ -12,8 +12,8 @@ use Rattle.hold_list.specs.HoldText.{pictureIn, holdList}
 use Rattle.lists.proofs.Cuts.{from}
 use Rattle.hold_list.proofs.Texts.{text-long, text-refused, text-list, file-picture, read-picture}
 use borrow.Author.Needs.{needs}
-use Rattle.hold_list.proofs.put_text.Statement.{statement}
-use Rattle.hold_list.proofs.put_text.Tie as tie
+use Rattle.hold_list.proofs.put_file_text.Statement.{statement}
+use Rattle.hold_list.proofs.put_file_text.Tie as tie
 
 -- past both refusals the file is accepted
 abbrev origin : tie.Else2 → tie.Start
@@ -88,8 +88,8 @@ returns-3 c =
     (ap holdList (lent e) ∙ sym (text-list (s .args .file .now) (omega arith) (none e)))
     (p .ensures)
 
-pub put-text-spec : {M : Type 1} → statement M
-put-text-spec =
+pub put-file-text-spec : {M : Type 1} → statement M
+put-file-text-spec =
     tie.close
     (tie.spec
     put-refusal-requires

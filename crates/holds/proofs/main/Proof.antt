@@ -10,23 +10,14 @@ slice-aggregate-read-full c = search needs
 read-full-requires : tie.Need-read-full-requires
 read-full-requires c κs = search needs
 
-array-share-prefix-file : tie.Need-array-share-prefix-file
-array-share-prefix-file c = search needs
-
-slice-aggregate-put-text : tie.Need-slice-aggregate-put-text
-slice-aggregate-put-text c = search needs
-
-slice-aggregate-put-text-2 : tie.Need-slice-aggregate-put-text-2
-slice-aggregate-put-text-2 c = search needs
-
 put-text-requires : tie.Need-put-text-requires
 put-text-requires c κs = search needs
 
 array-share-prefix-out : tie.Need-array-share-prefix-out
-array-share-prefix-out c = text-within (c .before .put-text .ensures) .0
+array-share-prefix-out c = text-within (c .put-text .ensures .0) .0
 
 slice-aggregate-write-all : tie.Need-slice-aggregate-write-all
-slice-aggregate-write-all c = text-within (c .before .before .put-text .ensures) .1
+slice-aggregate-write-all c = text-within (c .before .put-text .ensures .0) .1
 
 write-all-requires : tie.Need-write-all-requires
 write-all-requires c κs = search needs
@@ -40,9 +31,6 @@ main-spec =
     (tie.spec
     slice-aggregate-read-full
     read-full-requires
-    array-share-prefix-file
-    slice-aggregate-put-text
-    slice-aggregate-put-text-2
     put-text-requires
     array-share-prefix-out
     slice-aggregate-write-all
