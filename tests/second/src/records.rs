@@ -7,8 +7,8 @@ use crate::literal::{Adjacency, Patch, Picture};
 use crate::question::patches_of;
 
 /// The length of the list and of work, of which a call is lent the front.
-const LIST: usize = 81;
-const WORK: usize = 601;
+const LIST: usize = 801;
+const WORK: usize = 8001;
 
 /// `room` records and `entries` entries of work are lent.
 #[derive(Clone)]

@@ -1,0 +1,2 @@
+-- What the function that lends records promises.
+pub mod Lending
