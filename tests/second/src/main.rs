@@ -6,7 +6,7 @@
 //!     second compare HOLDS [count]  compares a `holds` program with this one
 //!     second cases [count]          test cases for the C client
 //!     second calls [count]          test cases for the calls on 16-bit memory
-//!     second records                what `list_patches` leaves for standard input
+//!     second records                what `patch_report` prints for standard input
 //!     second wall                   an example picture as a P5 file
 
 mod arguments;
