@@ -15,8 +15,6 @@ const LIST: u32 = 801;
 const WORK: u32 = 8001;
 // What an entry of work holds before a call.
 const BEFORE: u16 = 7;
-// The most pixels of a picture.
-const MOST_PIXELS: usize = 1600;
 // The entries of work that a pixel needs.
 const ENTRIES_A_PIXEL: u32 = 5;
 // A side that is too long.
@@ -241,21 +239,15 @@ fn print_picture(width: u32, height: u32, pixels: &[u8], more: &[u8])
     print_refused(5, width, height, pixels, more);
 }
 
-// Prints the calls on the picture of a file. A refused file has no pixels; an accepted one has at most 1,600, behind a header.
+// Prints the calls on the picture of a file, if it is accepted.
 fn print_file(file: &[u8]) {
     let read = board::read_file(file);
+    let number = read.number;
+    if number != 0 {
+        return;
+    }
     let pixels = board::file_pixels(file);
-    let n = pixels.len();
-    if n == 0 {
-        return;
-    }
-    if n > MOST_PIXELS {
-        return;
-    }
-    if n >= file.len() {
-        return;
-    }
-    let front = file.len() - n - 1;
+    let front = file.len() - pixels.len() - 1;
     print_picture(read.width, read.height, pixels, &file[front..]);
 }
 
