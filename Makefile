@@ -3,7 +3,7 @@
 run:
 	@rt check holds >&2
 	@target/bin/holds < examples/wall.pgm
-# The whole gate: tests, proofs, must-fail edits, programs.
+# The whole gate: proofs, must-fail edits, programs, tests.
 test:
 	bash .ci/run
 # Measurements against peers in C; not a part of the gate.

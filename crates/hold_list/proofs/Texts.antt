@@ -60,7 +60,7 @@ module _ (f : List ℕ) where
       ap (picture w h) (take-rest o f ∙ ap (λ (i : ℕ). drop i f) eo) ∙
       ap₂ (λ (a b : ℕ). picture a b (drop (headerOf (readFile f) .offset) f)) ew eh
 
--- a count above 4,096 of an input that is longer than that
+-- more than 4,096 bytes of an input: refusal 12
 pub text-counted : (count : ℕ) (input : List ℕ) → 4096 < count → 4096 < length input → holdText (take count input) ≡ refusedLine 12
 text-counted count input h g = text-long (take count input) (omega (arith, length-take count input))
 

@@ -1,4 +1,4 @@
--- Where a field and a walk end, for the functions that leave a walk.
+-- The positions where a field and a walk end.
 use Prim.Native.Nat.{ℕ}
 use Rattle.p5.specs.declared.field.Field.{Field}
 use Rattle.p5.specs.declared.field.Field.the-variants.{Number, Unfit}

@@ -31,7 +31,7 @@ pub fn walk_end(walk: Walk) -> usize
     }
 }
 
-// The walk stops where the reading of a field ended.
+// The walk that stops where the reading of a field ended; only an unfit field comes here.
 pub fn stopped(field: Field) -> Walk
     ensures { λ r. ⌜ r ≡ Walk.Stopped (fieldEnd field) ⌝ }
 {

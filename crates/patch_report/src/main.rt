@@ -85,7 +85,7 @@ fn unwritten_end(list: [Patch; 801], start: u32) -> u32 {
 }
 
 // The lesser of two numbers.
-fn least(m: u32, n: u32) -> u32
+fn lesser(m: u32, n: u32) -> u32
     ensures { λ r. ⌜ r ≤ n ⌝ }
 {
     if m < n {
@@ -180,7 +180,7 @@ fn print_call(
     print_arguments(adjacency, width, height, pixels.len() as u32, room, entries);
     print_left(answer, left, &work);
     print_records(left, answer.value);
-    least(answer.value, LIST)
+    lesser(answer.value, LIST)
 }
 
 // Prints calls that are lent more than enough, just enough and one too little of each.

@@ -75,10 +75,10 @@ pub worked-parts : all (λ r. all (keepsAt (r .picture) (withPixels (r .picture)
 unfolding adjacent componentAt components keepsAt
 worked-parts = refl
 
--- the flat grey wall does not keep H3's: at height 1 its one component contains two of them
-pub worked-wall : keepsAt h3 (flat h3 0) 1 ≡ false
+-- no flat grey wall keeps H3's parts: at height 1 that of value 0 has one component for two of them, that of value 9 has none
+pub worked-walls : (keepsAt h3 (flat h3 0) 1 ≡ false) × (keepsAt h3 (flat h3 9) 1 ≡ false)
 unfolding adjacent componentAt components keepsAt
-worked-wall = refl
+worked-walls = (refl, refl)
 
 -- a tree worked by hand: its picture, heights, first places, fathers and map
 pub record TreeRow : Type 0 where

@@ -1,4 +1,4 @@
-// Prints what reading answers for the file on standard input: number, place, width, height, largest sample, offset.
+// Prints what reading answers for the first 65,536 bytes of standard input: number, place, width, height, largest sample, offset.
 use board::read_file;
 use ranges::lesser;
 use text::put_fields;

@@ -1,15 +1,14 @@
 -- The flat grey wall: a picture of one value does not keep the parts of a picture with two minima.
 -- At the height of the higher minimum the wall's section is the whole grid, so keeping parts would join the two.
-use mathlib.Core.Path.{_≡_, refl, sym, ap, _∙_}
+use mathlib.Core.Path.{_≡_, refl, sym, ap}
 use mathlib.Core.Bool.{true}
 use mathlib.Core.Logic.{by-cases}
 use Prim.Native.Nat.{ℕ, _≤_, _<_}
 use native.Mathlib.Decide.{decLe}
 use native.Mathlib.Omega.{arith}
-use lib.ListN.{length, getD-replicate}
+use lib.ListN.{getD-replicate}
 use Rattle.lists.specs.Lists.{tally, range}
 use Rattle.picture.specs.Pictures.{Picture, places, valueAt}
-use Rattle.picture.specs.Patches.{patches}
 use Rattle.picture.specs.Kept.{keepsParts, flat, Flat-fails}
 use Rattle.lists.proofs.Tests.{test-false}
 use Rattle.topology.proofs.Connected.{conn-trans}

@@ -1,9 +1,8 @@
 -- `hold_list::put_text` meets its contract: no more bytes are counted than the input has.
-use mathlib.Core.Path.{_≡_, subst}
+use mathlib.Core.Path.{subst}
 use mathlib.Core.List.{List}
 use Prim.Native.Nat.{ℕ}
 use native.Mathlib.Omega.{arith}
-use lib.ListN.{length}
 use Rattle.lists.specs.Writing.{Written}
 use Rattle.lists.proofs.Cuts.{take-counted}
 use Rattle.answers.proofs.Calls.{lent-length}
@@ -13,17 +12,13 @@ use borrow.Author.Needs.{needs}
 use Rattle.hold_list.proofs.put_text.Statement.{statement}
 use Rattle.hold_list.proofs.put_text.Tie as tie
 
--- the input has 4,097 bytes, by its type
-long : (c : tie.After-bytes) → length (c .before .args .input .now) ≡ 4097
-long c = omega (arith, c .bytes .given)
-
 lesser-requires : tie.Need-lesser-requires
 lesser-requires c κs = search needs
 
 slice-aggregate-put-file-text : tie.Need-slice-aggregate-put-file-text
 slice-aggregate-put-file-text c =
     let e = c .before in
-    lent-length (e .lesser .result) (e .before .before .args .input .now) (omega (arith, e .lesser .ensures, long (e .before)))
+    lent-length (e .lesser .result) (e .before .before .args .input .now) (omega (arith, e .lesser .ensures, e .before .bytes .given))
 
 put-file-text-requires : tie.Need-put-file-text-requires
 put-file-text-requires c κs = search needs
@@ -35,9 +30,9 @@ returns c =
     let input = s .args .input .now in
     let p = c .put-file-text in (
       subst (λ (file : List ℕ). Written 0 (holdText file) (s .args .out .now) (p .result) (p .last .1 .0))
-          (take-counted input (s .args .count) (e .lesser .result) (omega (arith, e .lesser .ensures, long (e .before))))
+          (take-counted input (s .args .count) (e .lesser .result) (omega (arith, e .lesser .ensures, e .before .bytes .given)))
           (p .ensures),
-      λ h. text-counted (s .args .count) input h (omega (arith, long (e .before))),
+      λ h. text-counted (s .args .count) input h (omega (arith, e .before .bytes .given)),
     )
 
 pub put-text-spec : {M : Type 1} → statement M

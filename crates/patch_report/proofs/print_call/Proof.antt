@@ -29,8 +29,8 @@ print-left-requires c κs = search needs
 print-records-requires : tie.Need-print-records-requires
 print-records-requires c κs = search needs
 
-least-requires : tie.Need-least-requires
-least-requires c κs = search needs
+lesser-requires : tie.Need-lesser-requires
+lesser-requires c κs = search needs
 
 returns : tie.Need-returns
 returns c = search needs
@@ -47,5 +47,5 @@ print-call-spec =
     print-arguments-requires
     print-left-requires
     print-records-requires
-    least-requires
+    lesser-requires
     returns)

@@ -17,16 +17,12 @@ use Rattle.read_report.proofs.Lines.{line-room, report-is}
 use Rattle.read_report.proofs.put_report.Statement.{statement}
 use Rattle.read_report.proofs.put_report.Tie as tie
 
--- the input has 65,536 bytes, by its type
-long : (c : tie.After-bytes) → length (c .before .args .input .now) ≡ 65536
-long c = omega (arith, c .bytes .given)
-
 -- the bytes that are read: no more than the input has
 abbrev read : tie.After-lesser → List ℕ
 read c = take (c .lesser .result) (c .before .before .args .input .now)
 
 few : (c : tie.After-lesser) → length (read c) ≤ 65536
-few c = omega (arith, length-take (c .lesser .result) (c .before .before .args .input .now), long (c .before))
+few c = omega (arith, length-take (c .lesser .result) (c .before .before .args .input .now), c .before .bytes .given)
 
 lesser-requires : tie.Need-lesser-requires
 lesser-requires c κs = search needs
@@ -34,7 +30,7 @@ lesser-requires c κs = search needs
 slice-aggregate-read-file : tie.Need-slice-aggregate-read-file
 slice-aggregate-read-file c =
     let e = c .before in
-    lent-length (e .lesser .result) (e .before .before .args .input .now) (omega (arith, e .lesser .ensures, long (e .before)))
+    lent-length (e .lesser .result) (e .before .before .args .input .now) (omega (arith, e .lesser .ensures, e .before .bytes .given))
 
 read-file-requires : tie.Need-read-file-requires
 read-file-requires c κs = search needs
@@ -70,7 +66,7 @@ returns c =
     let l = e .before .before in
     let s = l .before .before in
     let p = c .put-fields in
-    let counted = take-counted (s .args .input .now) (s .args .count) (l .lesser .result) (omega (arith, l .lesser .ensures, long (l .before))) in (
+    let counted = take-counted (s .args .input .now) (s .args .count) (l .lesser .result) (omega (arith, l .lesser .ensures, l .before .bytes .given)) in (
       subst (λ (file : List ℕ). Written 0 (fields (report file)) (s .args .out .now) (p .result) (p .last .0)) counted
           (rw (report-is (read l) _ (e .read-file .ensures)) (p .ensures)),
       text-within (p .ensures),
