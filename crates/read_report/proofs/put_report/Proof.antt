@@ -1,5 +1,5 @@
 -- `read_report::put_report` meets its contract: no more bytes are counted than the input has, and the line has room.
-use mathlib.Core.Path.{_≡_, subst}
+use mathlib.Core.Path.{subst}
 use mathlib.Core.List.{List}
 use Prim.Native.Nat.{ℕ, _≤_}
 use native.Mathlib.Omega.{arith}
