@@ -1,10 +1,12 @@
-// The neighbours of a place, from a table of eight steps.
+// The neighbours of a place, from a table of eight steps. Columns, rows and places have 32 bits inside: a 64-bit one takes two registers of
+// the controller, and a library function for each product and quotient.
 use picture::Step;
 use ranges::between;
 ghost use mathlib.Core.Path.{_≡_};
+ghost use mathlib.Core.Bool.{true, _&&_};
 ghost use mathlib.Core.List.{[], _∷_};
 ghost use Prim.Native.Nat.{_+_, _-_, _*_, _≤_, _<_};
-ghost use mathlib.Core.Bool.{true};
+ghost use lib.Dec.{leb};
 ghost use lib.ListN.{length, set};
 ghost use Rattle.lists.specs.Writing.{Written};
 ghost use Rattle.picture.specs.Geometry.{plusOne, reached, neighboursOf};
@@ -27,11 +29,11 @@ pub const STEPS: [Step; 8] = [
 ];
 
 // A step with one added, which is not negative.
-fn plus_one(step: i8) -> usize
+fn plus_one(step: i8) -> u32
     requires { ⌜ isUnit step ≡ true ⌝ }
     ensures { λ r. ⌜ r ≡ plusOne step ⌝ }
 {
-    (step as isize + 1) as usize
+    (step as i32 + 1) as u32
 }
 
 // The distance in the table from a step that an adjacency uses to the next.
@@ -45,7 +47,7 @@ fn stride(a: u32) -> usize
 }
 
 // A column or a row does not lie at the edge.
-fn off_edge(c: usize, side: usize) -> bool
+fn off_edge(c: u32, side: u32) -> bool
     requires { ⌜ c < 1600 ⌝ }
     ensures { λ r. ⌜ r ≡ offEdge side c ⌝ }
 {
@@ -56,7 +58,7 @@ fn off_edge(c: usize, side: usize) -> bool
 }
 
 // Neither the column nor the row lies at the edge: every step stays inside.
-fn is_inner(w: usize, h: usize, column: usize, row: usize) -> bool
+fn is_inner(w: u32, h: u32, column: u32, row: u32) -> bool
     requires { ⌜ (column < 1600) × (row < 1600) ⌝ }
     ensures { λ r. ⌜ r ≡ isInner w h column row ⌝ }
 {
@@ -67,7 +69,7 @@ fn is_inner(w: usize, h: usize, column: usize, row: usize) -> bool
 }
 
 // Puts the place of a column and a row, each given plus one, behind the first m cells, and answers the number of cells in front.
-fn put_place(w: usize, right: usize, down: usize, cells: &mut [u16], m: usize) -> usize
+fn put_place(w: u32, right: u32, down: u32, cells: &mut [u16], m: usize) -> usize
     requires { ⌜ (1 ≤ right) × (1 ≤ down) × ((down - 1) * w + (right - 1) < 1600) × (m < length (now cells)) ⌝ }
     ensures { λ r. ⌜ (r ≡ m + 1) × (now (cells .exit) ≡ set (now (cells .entry)) m ((down - 1) * w + (right - 1))) ⌝ }
 {
@@ -77,10 +79,10 @@ fn put_place(w: usize, right: usize, down: usize, cells: &mut [u16], m: usize) -
 
 // Puts the place that a step leads to from an inner column and row behind the first m cells, and answers the number of cells in front.
 fn put_inner(
-    w: usize,
-    h: usize,
-    column: usize,
-    row: usize,
+    w: u32,
+    h: u32,
+    column: u32,
+    row: u32,
     step: Step,
     cells: &mut [u16],
     m: usize,
@@ -93,12 +95,19 @@ fn put_inner(
     put_place(w, right, down, cells, m)
 }
 
+// A column or a row, given plus one, lies inside a side; the one test of a range takes `usize`.
+fn within(x: u32, side: u32) -> bool
+    ensures { λ r. ⌜ r ≡ leb 1 x && leb x side ⌝ }
+{
+    between(1, x as usize, side as usize)
+}
+
 // Puts the place that a step leads to from any column and row behind the first m cells, if it stays inside the edge, and answers the number of cells in front.
 fn put_tested(
-    w: usize,
-    h: usize,
-    column: usize,
-    row: usize,
+    w: u32,
+    h: u32,
+    column: u32,
+    row: u32,
     step: Step,
     cells: &mut [u16],
     m: usize,
@@ -108,10 +117,10 @@ fn put_tested(
 {
     let right = column + plus_one(step.column);
     let down = row + plus_one(step.row);
-    if !between(1, right, w) {
+    if !within(right, w) {
         return m;
     }
-    if !between(1, down, h) {
+    if !within(down, h) {
         return m;
     }
     put_place(w, right, down, cells, m)
@@ -120,10 +129,10 @@ fn put_tested(
 // Puts the place that a step leads to, if it stays inside the edge: an inner place needs no test.
 fn put_step(
     inner: bool,
-    w: usize,
-    h: usize,
-    column: usize,
-    row: usize,
+    w: u32,
+    h: u32,
+    column: u32,
+    row: u32,
     step: Step,
     cells: &mut [u16],
     m: usize,
@@ -142,18 +151,17 @@ pub fn neighbours(a: u32, w: u32, h: u32, x: usize, cells: &mut [u16]) -> usize
     requires { ⌜ Placed w h x × (8 ≤ length (now cells)) ⌝ }
     ensures { λ r. ⌜ Listed (neighboursOf a w h x) (now (cells .entry)) r (now (cells .exit)) ⌝ }
 {
-    let width = w as usize;
-    let height = h as usize;
-    let column = x % width;
-    let row = x / width;
-    let inner = is_inner(width, height, column, row);
+    let place = x as u32;
+    let column = place % w;
+    let row = place / w;
+    let inner = is_inner(w, h, column, row);
     let next = stride(a);
     // a local, since each reading of a constant table writes it to the stack
     let steps = STEPS;
     let mut m = 0;
     let mut i = 0;
     while i < 8 {
-        m = put_step(inner, width, height, column, row, steps[i], cells, m);
+        m = put_step(inner, w, h, column, row, steps[i], cells, m);
         i += next;
     }
     m

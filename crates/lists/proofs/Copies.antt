@@ -1,16 +1,12 @@
 -- A copy from the front: the entries passed are those of the source from b on, the others as they were.
 use mathlib.Core.Path.{_≡_, ap, _∙_}
 use mathlib.Core.List.{List}
-use Prim.Native.Nat.{ℕ, _+_, _≤_}
+use Prim.Native.Nat.{ℕ, _≤_}
 use native.Mathlib.Omega.{arith}
 use lib.ListN.{length, getD}
 use lib.Seq.{ext-getD}
-use Rattle.lists.specs.Blocks.{Overwritten}
+use Rattle.lists.specs.Blocks.{Copied}
 use Rattle.lists.proofs.Blocks.{overwritten-entry}
-
--- the first m entries are copied
-abbrev pub Copied : List ℕ → ℕ → ℕ → List ℕ → List ℕ → Type 0
-Copied from b m old new = Overwritten (λ i. getD from (b + i) 0) 0 m old new
 
 -- a whole list copied
 pub copy-all : (from old new : List ℕ) (m : ℕ) → length old ≡ length from → length from ≤ m → Copied from 0 m old new → new ≡ from

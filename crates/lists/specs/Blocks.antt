@@ -22,3 +22,7 @@ pub record Overwritten (f : ℕ → ℕ) (b n : ℕ) (cells after : List ℕ) : 
 -- the n entries from b on are v, and the others as they were
 abbrev pub Filled : ℕ → ℕ → ℕ → List ℕ → List ℕ → Type 0
 Filled b n v cells after = Overwritten (λ _. v) b n cells after
+
+-- the first m entries are those of the source from b on, and the others as they were
+abbrev pub Copied : List ℕ → ℕ → ℕ → List ℕ → List ℕ → Type 0
+Copied from b m cells after = Overwritten (λ i. blockEntry from b i) 0 m cells after

@@ -11,8 +11,7 @@ use Rattle.topology.proofs.TreeLists.{length-heights, length-fathers, length-fi
 use Rattle.lists.specs.Lists.{over}
 use Rattle.lists.proofs.Cuts.{over-same}
 use Rattle.lists.proofs.Blocks.{overwritten-front}
-use Rattle.lists.proofs.Copies.{Copied}
-use Rattle.lists.specs.Blocks.{blockEntry}
+use Rattle.lists.specs.Blocks.{blockEntry, Copied}
 use Rattle.tree.specs.Built.{Built}
 use Rattle.tree_lists.specs.Lists.{Bytes, TreeHanded}
 

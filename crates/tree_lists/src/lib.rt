@@ -1,26 +1,15 @@
 // The component tree as lists: built in blocks of work, then copied.
+use cells::copy;
 use tree::build::build;
 ghost use mathlib.Core.Path.{_≡_};
 ghost use mathlib.Core.Bool.{true};
-ghost use Prim.Native.Nat.{_≤_, _+_, _*_};
+ghost use Prim.Native.Nat.{_≤_, _*_};
 ghost use lib.ListN.{length};
 ghost use Rattle.picture.specs.Pictures.{isPicture, pictureOf};
 ghost use Rattle.picture.specs.Trees.{treeOf};
 ghost use Rattle.lists.specs.Lists.{over};
-ghost use Rattle.lists.proofs.Copies.{Copied};
+ghost use Rattle.lists.specs.Blocks.{Copied};
 ghost use Rattle.tree_lists.specs.Lists.{Bytes, ListsRoom, TreeHanded};
-
-// Copies m entries from b on to the front of a list.
-fn copy(from: &[u16], b: usize, to: &mut [u16], m: usize)
-    requires { ⌜ (b + m ≤ length (now from)) × (m ≤ length (now to)) ⌝ }
-    ensures { λ _. ⌜ Copied (now (from .entry)) b m (now (to .entry)) (now (to .exit)) ⌝ }
-{
-    let mut i = 0;
-    while i < m {
-        to[i] = from[b + i];
-        i += 1;
-    }
-}
 
 // Copies m entries, each a byte, to the front of a list of bytes.
 fn copy_bytes(from: &[u16], to: &mut [u8], m: usize)

@@ -12,10 +12,16 @@ use Rattle.geometry.proofs.neighbours.Statement.{statement}
 use Rattle.geometry.proofs.neighbours.Tie as tie
 
 abbrev Inv-loop : tie.InvT-loop
-Inv-loop a w h x cells₀ width height column row inner next steps m₀ i₀ cells m i = Front a w h x cells₀ cells m i
+Inv-loop a w h x cells₀ place column row inner next steps m₀ i₀ cells m i = Front a w h x cells₀ cells m i
 
 abbrev μ-loop : tie.MeasureT-loop
-μ-loop a w h x cells₀ width height column row inner next steps m₀ i₀ cells m i = 8 - i
+μ-loop a w h x cells₀ place column row inner next steps m₀ i₀ cells m i = 8 - i
+
+cast-place : tie.Need-cast-place Inv-loop μ-loop
+cast-place c =
+    let s = c .before in
+    let p = s .pre .0 in
+    record { fits = omega (arith, p .inside, area-most (s .args .w) (s .args .h) (p .wide) (p .high)) }
 
 rem-column : tie.Need-rem-column Inv-loop μ-loop
 rem-column c = search needs
@@ -87,6 +93,7 @@ neighbours-spec =
     (tie.spec
     Inv-loop
     μ-loop
+    cast-place
     rem-column
     div-row
     is-inner-requires

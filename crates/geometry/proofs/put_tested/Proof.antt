@@ -18,30 +18,30 @@ plus-one-requires-2 c κs = search needs
 add-down : tie.Need-add-down
 add-down c = let f = down-fits _ _ _ _ _ _ _ (c .before .before .before .before .before .pre) _ (c .plus-one2 .ensures) in record { fits = omega arith }
 
-between-requires : tie.Need-between-requires
-between-requires c κs = search needs
+within-requires : tie.Need-within-requires
+within-requires c κs = search needs
 
 returns : tie.Need-returns
 returns c =
-    let t = c .before .between in
+    let t = c .before .within in
     put-beside _ _ _ _ _ _ (step-leads _ _ _ _ _ _ _ (c .before .before .before .before .before .before .before .pre) _ _ (c .before .before .before .before .plus-one .ensures) (c .before .before .plus-one2 .ensures)) _ _
     (was-false (t .ensures) (c .if1 .taken))
 
-between-requires-2 : tie.Need-between-requires-2
-between-requires-2 c κs = search needs
+within-requires-2 : tie.Need-within-requires-2
+within-requires-2 c κs = search needs
 
 returns-2 : tie.Need-returns-2
 returns-2 c =
-    let t = c .before .before .before .between in
-    let u = c .before .between2 in
+    let t = c .before .before .before .within in
+    let u = c .before .within2 in
     put-beyond _ _ _ _ _ _ (step-leads _ _ _ _ _ _ _ (c .before .before .before .before .before .before .before .before .before .pre) _ _ (c .before .before .before .before .before .before .plus-one .ensures) (c .before .before .before .before .plus-one2 .ensures)) _ _
     (was-true (t .ensures) (c .before .before .if1 .left))
     (was-false (u .ensures) (c .if2 .taken))
 
 put-place-requires : tie.Need-put-place-requires
 put-place-requires c κs =
-    let t = c .before .before .before .before .between in
-    let u = c .before .before .between2 in
+    let t = c .before .before .before .before .within in
+    let u = c .before .before .within2 in
     target-place _ _ _ _ _ _ _ (c .before .before .before .before .before .before .before .before .before .before .pre) _ _ (c .before .before .before .before .before .before .before .plus-one .ensures) (c .before .before .before .before .before .plus-one2 .ensures)
     (was-true (t .ensures) (c .before .before .before .if1 .left))
     (was-true (u .ensures) (c .before .if2 .left))
@@ -51,8 +51,8 @@ same-length c = search needs
 
 returns-3 : tie.Need-returns-3
 returns-3 c =
-    let t = c .before .before .before .before .before .before .before .between in
-    let u = c .before .before .before .before .before .between2 in
+    let t = c .before .before .before .before .before .before .before .within in
+    let u = c .before .before .before .before .before .within2 in
     let p = c .before .before .before .before .before .before .before .before .before .before .before .before .before .pre in
     let q = c .before .before .put-place .ensures in
     put-written _ _ _ _ _ _ (step-leads _ _ _ _ _ _ _ p _ _ (c .before .before .before .before .before .before .before .before .before .before .plus-one .ensures) (c .before .before .before .before .before .before .before .before .plus-one2 .ensures)) _ _ _ _
@@ -70,9 +70,9 @@ put-tested-spec =
     add-right
     plus-one-requires-2
     add-down
-    between-requires
+    within-requires
     returns
-    between-requires-2
+    within-requires-2
     returns-2
     put-place-requires
     same-length

@@ -5,7 +5,7 @@ use native.Mathlib.Omega.{arith}
 use lib.ListN.{getD}
 use borrow.Author.Needs.{needs}
 use Rattle.lists.proofs.Blocks.{overwritten-start, overwritten-next, overwritten-end}
-use Rattle.lists.proofs.Copies.{Copied}
+use Rattle.lists.specs.Blocks.{Copied}
 use Rattle.tree_lists.proofs.copy_bytes.Statement.{statement}
 use Rattle.tree_lists.proofs.copy_bytes.Tie as tie
 

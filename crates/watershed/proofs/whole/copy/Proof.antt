@@ -4,7 +4,8 @@ use Prim.Native.Nat.{ℕ, _+_, _-_, _≤_}
 use native.Mathlib.Omega.{arith}
 use lib.ListN.{length, getD}
 use Rattle.lists.proofs.Blocks.{overwritten-start, overwritten-next}
-use Rattle.lists.proofs.Copies.{Copied, copy-all}
+use Rattle.lists.specs.Blocks.{Copied}
+use Rattle.lists.proofs.Copies.{copy-all}
 use borrow.Author.Needs.{needs}
 use Rattle.watershed.proofs.whole.copy.Statement.{statement}
 use Rattle.watershed.proofs.whole.copy.Tie as tie

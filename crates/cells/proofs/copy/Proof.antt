@@ -1,12 +1,12 @@
--- `tree_lists::copy` meets its contract. The loop's invariant: the first i entries are copied.
+-- `cells::copy` meets its contract. The loop's invariant: the first i entries are copied.
 use mathlib.Core.Path.{refl}
 use Prim.Native.Nat.{_-_, _≤_}
 use native.Mathlib.Omega.{arith}
 use borrow.Author.Needs.{needs}
 use Rattle.lists.proofs.Blocks.{overwritten-start, overwritten-next, overwritten-end}
-use Rattle.lists.proofs.Copies.{Copied}
-use Rattle.tree_lists.proofs.copy.Statement.{statement}
-use Rattle.tree_lists.proofs.copy.Tie as tie
+use Rattle.lists.specs.Blocks.{Copied}
+use Rattle.cells.proofs.copy.Statement.{statement}
+use Rattle.cells.proofs.copy.Tie as tie
 
 abbrev Inv-loop : tie.InvT-loop
 Inv-loop from b to₀ m i₀ to i = (i ≤ m) × Copied from b i to₀ to
