@@ -26,17 +26,20 @@
 #define ROUND_SECONDS 400e-6
 #define BESIDE_ROUNDS 500
 #define BESIDE_CALLS 10
+#define FILLING 171             /* a byte of memory that no call wrote */
 
 /* All memory that a call may be lent. */
 struct memory {
     uint8_t heights[LARGEST_N], bytes[LARGEST_N];
     uint16_t fathers[LARGEST_N], firsts[LARGEST_N], map[LARGEST_N];
     uint16_t labels[LARGEST_N], work[5 * LARGEST_N];
+    uint16_t figures[FIGURES][MOST_PATCHES];
 };
 
 static uint8_t pixels[LARGEST_N];
 static struct memory ours, peer;
 static uint32_t a, w, n, count, place;
+static size_t room = MOST_PATCHES;      /* of each list of figures */
 static uint8_t median;
 
 static uint8_t median_pixel(void)
@@ -59,41 +62,62 @@ static uint32_t largest_place(void)
     return best;
 }
 
+static uint64_t list_patches(int is_ours, struct memory *m)
+{
+    return (is_ours ? controller_list_patches : peer_list_patches)(a, w, w,
+        pixels, n, m->figures[0], room, m->figures[1], room,
+        m->figures[2], room, m->figures[3], room, m->figures[4], room,
+        m->work, 5 * n);
+}
+
 static uint64_t run(unsigned call, int is_ours, struct memory *m)
 {
     switch (call) {
     case LABEL_MEDIAN:
     case LABEL_255:
-        return (is_ours ? bench_label_section : peer_label_section)(a, w, w,
+        return (is_ours ? controller_label_section : peer_label_section)(a, w, w,
             pixels, n, call == LABEL_255 ? 255 : median, m->labels, n,
             m->work, 5 * n);
     case LOWERABLE:
-        return (is_ours ? bench_is_lowerable : peer_is_lowerable)(a, w, w,
+        return (is_ours ? controller_is_lowerable : peer_is_lowerable)(a, w, w,
             pixels, n, place, m->work, 5 * n);
     case TREE:
-        return (is_ours ? bench_component_tree : peer_component_tree)(a, w, w,
+        return (is_ours ? controller_component_tree : peer_component_tree)(a, w, w,
             pixels, n, m->heights, n, m->fathers, n, m->firsts, n, m->map, n,
             m->work, 5 * n);
     case CHECK:
-        return (is_ours ? bench_check_tree : peer_check_tree)(a, w, w,
+        return (is_ours ? controller_check_tree : peer_check_tree)(a, w, w,
             pixels, n, count, m->heights, n, m->fathers, n, m->firsts, n,
             m->map, n, m->work, 5 * n);
     case PASS:
-        return (is_ours ? bench_pass_between : peer_pass_between)(a, w, w,
+        return (is_ours ? controller_pass_between : peer_pass_between)(a, w, w,
             pixels, n, count, m->heights, n, m->fathers, n, m->firsts, n,
             m->map, n, 0, n - 1, m->work, 5 * n);
     case WATERSHED:
-        return (is_ours ? bench_watershed_of : peer_watershed_of)(a, w, w,
+        return (is_ours ? controller_watershed_of : peer_watershed_of)(a, w, w,
             pixels, n, m->bytes, n, m->work, 5 * n);
-    default:
-        return (is_ours ? bench_query_place : peer_query_place)(a, w, w,
+    case QUERY:
+        return (is_ours ? controller_query_place : peer_query_place)(a, w, w,
             pixels, n, place, m->work, 5 * n);
+    default:
+        return list_patches(is_ours, m);
     }
+}
+
+/* Fills what calls only write: an entry that an earlier call left there would hide a wrong one. */
+static void fill(struct memory *m)
+{
+    memset(m->bytes, FILLING, sizeof m->bytes);
+    memset(m->labels, FILLING, sizeof m->labels);
+    memset(m->work, FILLING, sizeof m->work);
+    memset(m->figures, FILLING, sizeof m->figures);
 }
 
 /* Runs a call of both and ends the program if an answer or an entry differs. */
 static void same(unsigned call, unsigned picture)
 {
+    fill(&ours);
+    fill(&peer);
     uint64_t first = run(call, 1, &ours), second = run(call, 0, &peer);
     if (first == second && memcmp(&ours, &peer, sizeof ours) == 0)
         return;
@@ -112,9 +136,9 @@ static void take(unsigned picture, unsigned side, uint32_t adjacency)
     make_picture(picture, w, pixels);
     median = median_pixel();
     place = largest_place();
-    memset(&ours, 171, sizeof ours);
+    memset(&ours, FILLING, sizeof ours);
     peer = ours;
-    count = (uint32_t)run(TREE, 1, &ours);
+    count = controller_value(run(TREE, 1, &ours));
     run(TREE, 0, &peer);
 }
 
@@ -141,7 +165,17 @@ static void compare_damaged_trees(unsigned picture)
     }
 }
 
-/* Compares all calls, at all places where a call takes one; trees with one entry changed are compared too. */
+/* Compares lists of patches that are just long enough, and one entry too short. */
+static void compare_short_lists(unsigned picture)
+{
+    room = controller_value(run(PATCHES, 1, &ours));
+    same(PATCHES, picture);
+    room--;
+    same(PATCHES, picture);
+    room = MOST_PATCHES;
+}
+
+/* Compares all calls, at all places where a call takes one; also trees with one entry changed, and short lists. */
 static void compare(unsigned picture)
 {
     for (unsigned call = 0; call < CALLS; call++)
@@ -155,6 +189,7 @@ static void compare(unsigned picture)
         same(QUERY, picture);
     }
     compare_damaged_trees(picture);
+    compare_short_lists(picture);
     median = median_pixel();
     place = largest_place();
 }
@@ -205,14 +240,6 @@ static void measure(struct times *least)
         }
 }
 
-static double figures_round(void)
-{
-    double begin = now();
-    for (unsigned i = 0; i < BESIDE_CALLS; i++)
-        sink = bench_figures(a, w, w, pixels, n, ours.work, 5 * n);
-    return (now() - begin) / BESIDE_CALLS;
-}
-
 /* The three in turn in every round, so that a slow phase of the machine is none of one alone. */
 static struct against_tree measure_against_tree(void)
 {
@@ -220,18 +247,16 @@ static struct against_tree measure_against_tree(void)
     for (unsigned i = 0; i < BESIDE_ROUNDS; i++) {
         least.tree = lesser(least.tree, round_of(TREE, 1, BESIDE_CALLS));
         least.query = lesser(least.query, round_of(QUERY, 1, BESIDE_CALLS));
-        least.figures = lesser(least.figures, figures_round());
+        least.patches = lesser(least.patches, round_of(PATCHES, 1, BESIDE_CALLS));
     }
     return least;
 }
 
-/* The call CALLS is that of the figures of all patches, with our tree in the peer's place. */
+/* The call CALLS is our list of patches, with our tree in the peer's place. */
 __attribute__((noinline)) static void counted(unsigned call, int is_ours)
 {
-    if (call == CALLS && is_ours)
-        sink = bench_figures(a, w, w, pixels, n, ours.work, 5 * n);
-    else if (call == CALLS)
-        sink = run(TREE, 1, &ours);
+    if (call == CALLS)
+        sink = run(is_ours ? PATCHES : TREE, 1, &ours);
     else
         sink = run(call, is_ours, is_ours ? &ours : &peer);
 }
@@ -244,7 +269,7 @@ static void run_once(void)
             for (unsigned call = 0; call <= CALLS; call++) {
                 printf("%u|%s|%s\n", adjacency, picture_names[p],
                        call < CALLS ? call_names[call]
-                       : "figures of all patches, over our component_tree");
+                       : "list_patches, over our component_tree");
                 counted(call, 1);
                 counted(call, 0);
             }

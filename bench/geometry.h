@@ -8,6 +8,8 @@
 
 #define LARGEST_SIDE 40
 #define LARGEST_N (LARGEST_SIDE * LARGEST_SIDE)
+#define MOST_PATCHES (LARGEST_N / 2)    /* of a checkerboard with adjacency 4 */
+#define FIGURES 5               /* of a patch: size, height, depth, column sum, row sum */
 
 struct grid {
     unsigned stride;            /* 2 for adjacency 4, 1 for adjacency 8 */

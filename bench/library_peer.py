@@ -18,8 +18,8 @@ ROUNDS = 15
 ours = ctypes.CDLL("target/bench/libours.so")
 bytes_pointer = ctypes.POINTER(ctypes.c_uint8)
 words_pointer = ctypes.POINTER(ctypes.c_uint16)
-ours.bench_component_tree.restype = ctypes.c_uint64
-ours.bench_label_section.restype = ctypes.c_uint64
+ours.controller_component_tree.restype = ctypes.c_uint64
+ours.controller_label_section.restype = ctypes.c_uint64
 count = ctypes.c_uint.in_dll(ours, "picture_count").value
 names = (ctypes.c_char_p * count).in_dll(ours, "picture_names")
 
@@ -55,12 +55,13 @@ def row(number, adjacency):
     connectivity = 1 if adjacency == 4 else 2
 
     def our_tree():
-        ours.bench_component_tree(adjacency, SIDE, SIDE, pixels_pointer, size, heights.ctypes.data_as(bytes_pointer), size,
-                                  lists[0][1], size, lists[1][1], size, lists[2][1], size, work_pointer, work_length)
+        ours.controller_component_tree(adjacency, SIDE, SIDE, pixels_pointer, size,
+                                       heights.ctypes.data_as(bytes_pointer), size, lists[0][1], size,
+                                       lists[1][1], size, lists[2][1], size, work_pointer, work_length)
 
     def our_labels():
-        return ours.bench_label_section(adjacency, SIDE, SIDE, pixels_pointer, size, ctypes.c_uint8(height),
-                                        lists[0][1], size, work_pointer, work_length)
+        return ours.controller_label_section(adjacency, SIDE, SIDE, pixels_pointer, size, ctypes.c_uint8(height),
+                                             lists[0][1], size, work_pointer, work_length)
 
     theirs = label(section, connectivity=connectivity)
     if our_labels() != theirs.max():

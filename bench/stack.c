@@ -16,8 +16,6 @@
 
 #define STACK_ROOM 65536
 #define RETURN_ADDRESS 8
-#define RECORD 10               /* bytes of a patch's record */
-#define MOST_PATCHES 800        /* of a checkerboard of 40 by 40 with adjacency 4 */
 #define MEMORY_OF_CONTROLLER 32768
 #define HEADER "P5\n40 40\n255\n"
 #define HEADER_LENGTH 13
@@ -33,6 +31,7 @@ static uint8_t heights[LARGEST_N], bytes[LARGEST_N];
 static uint8_t packed_work[10 * LARGEST_N];
 static uint16_t fathers[LARGEST_N], firsts[LARGEST_N], map[LARGEST_N];
 static uint16_t labels[LARGEST_N], work[5 * LARGEST_N];
+static uint16_t figures[FIGURES][MOST_PATCHES];
 static uint32_t a, count, place;
 static uint64_t answer;
 
@@ -85,12 +84,11 @@ static void query_place(void)
                                             work, 5 * n);
 }
 
-/* All of list_patches but the records, which C cannot lend. */
 static void list_patches(void)
 {
-    answer = ((uint64_t (*)(uint32_t, uint32_t, uint32_t, const uint8_t *, size_t,
-                            size_t, uint16_t *, size_t))function)(
-        a, side, side, pixels, n, MOST_PATCHES, work, 5 * n);
+    answer = ((list_patches_call *)function)(a, side, side, pixels, n,
+        figures[0], MOST_PATCHES, figures[1], MOST_PATCHES, figures[2], MOST_PATCHES,
+        figures[3], MOST_PATCHES, figures[4], MOST_PATCHES, work, 5 * n);
 }
 
 static void read_for_c(void)
@@ -118,14 +116,14 @@ static const struct {
     unsigned lent;              /* bytes, the picture or the file too */
     any_function *ours, *with_arguments;
 } calls[] = {
-    { "label_section", 20800, (any_function *)bench_label_section, label_section },
-    { "is_lowerable", 17600, (any_function *)bench_is_lowerable, is_lowerable },
-    { "component_tree", 28800, (any_function *)bench_component_tree, component_tree },
-    { "check_tree", 28800, (any_function *)bench_check_tree, check_tree },
-    { "pass_between", 28800, (any_function *)bench_pass_between, pass_between },
-    { "watershed_of", 19200, (any_function *)bench_watershed_of, watershed_of },
-    { "query_place", 17600, (any_function *)bench_query_place, query_place },
-    { "list_patches", 17600 + RECORD * MOST_PATCHES, (any_function *)bench_gather, list_patches },
+    { "label_section", 20800, (any_function *)controller_label_section, label_section },
+    { "is_lowerable", 17600, (any_function *)controller_is_lowerable, is_lowerable },
+    { "component_tree", 28800, (any_function *)controller_component_tree, component_tree },
+    { "check_tree", 28800, (any_function *)controller_check_tree, check_tree },
+    { "pass_between", 28800, (any_function *)controller_pass_between, pass_between },
+    { "watershed_of", 19200, (any_function *)controller_watershed_of, watershed_of },
+    { "query_place", 17600, (any_function *)controller_query_place, query_place },
+    { "list_patches", 17600 + sizeof figures, (any_function *)controller_list_patches, list_patches },
     { "board_read", sizeof file + 32, (any_function *)board_read, read_for_c },
     { "board_watershed", 19200, (any_function *)board_watershed, watershed_for_c },
     { "board_place", 17616, (any_function *)board_place, place_for_c },
@@ -168,8 +166,8 @@ static unsigned largest_used(any_function *f, any_function *with_arguments)
     for (unsigned p = 0; p < PICTURE_COUNT; p++)
         for (a = 4; a <= 8; a += 4) {
             make_picture(p, side, pixels);
-            count = (uint32_t)bench_component_tree(a, side, side, pixels, n,
-                heights, n, fathers, n, firsts, n, map, n, work, 5 * n);
+            count = controller_value(controller_component_tree(a, side, side, pixels, n,
+                heights, n, fathers, n, firsts, n, map, n, work, 5 * n));
             function = f;
             for (place = 0; place < n; place += 533) {
                 most = larger(most, used(with_arguments, 0xa5));

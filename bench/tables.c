@@ -9,7 +9,7 @@ const unsigned sides[SIDES] = { 5, 10, 20, 40 };
 const char *const call_names[CALLS] = {
     "label_section, median", "label_section, 255", "is_lowerable",
     "component_tree", "check_tree", "pass_between", "watershed_of",
-    "query_place",
+    "query_place", "list_patches",
 };
 
 struct times table[2][SIDES][PICTURE_COUNT][CALLS];
@@ -80,14 +80,15 @@ static void print_growth(unsigned adjacency, unsigned picture)
 
 static void print_against_tree(void)
 {
-    printf("\nTime of query_place and of the figures of all patches over time of component_tree, ours, 40 by 40\n");
-    printf("\n| picture | query_place, 4 | query_place, 8 | figures, 4 | figures, 8 |\n|---|---|---|---|---|\n");
+    printf("\nTime of query_place and of list_patches over time of component_tree, ours, 40 by 40\n");
+    printf("\n| picture | query_place, 4 | query_place, 8 | list_patches, 4 | list_patches, 8 |\n");
+    printf("|---|---|---|---|---|\n");
     for (unsigned p = 0; p < PICTURE_COUNT; p++) {
         printf("| %s |", picture_names[p]);
         for (unsigned adjacency = 0; adjacency < 2; adjacency++)
             printf(" %.2f |", against_tree[adjacency][p].query / against_tree[adjacency][p].tree);
         for (unsigned adjacency = 0; adjacency < 2; adjacency++)
-            printf(" %.2f |", against_tree[adjacency][p].figures / against_tree[adjacency][p].tree);
+            printf(" %.2f |", against_tree[adjacency][p].patches / against_tree[adjacency][p].tree);
         printf("\n");
     }
 }

@@ -11,7 +11,7 @@
 
 enum {
     LABEL_MEDIAN, LABEL_255, LOWERABLE, TREE, CHECK, PASS, WATERSHED, QUERY,
-    CALLS
+    PATCHES, CALLS
 };
 
 extern const uint32_t adjacencies[2];
@@ -23,9 +23,9 @@ struct times {
     double ours, peer;
 };
 
-/* The least times in seconds of the tree, of the place query and of the figures of all patches. */
+/* The least times in seconds of the tree, of the place query and of the list of patches. */
 struct against_tree {
-    double tree, query, figures;
+    double tree, query, patches;
 };
 
 /* By adjacency, side, picture and call. */

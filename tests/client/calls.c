@@ -1,7 +1,7 @@
 /*
- * Checks the public calls on 16-bit memory through the functions of
- * bench/calls.h. Reads the cases that `second calls` writes from standard
- * input, one a line; TREE stands for COUNT HEIGHTS FATHERS FIRSTS MAP:
+ * Checks the functions of board_controller.h. Reads the cases that `second
+ * calls` writes from standard input, one a line; TREE stands for COUNT HEIGHTS
+ * FATHERS FIRSTS MAP:
  *
  *   label ADJACENCY WIDTH HEIGHT PIXELS K OUT-LENGTH WORK-LENGTH NUMBER
  *         [COUNT LABELS]
@@ -13,48 +13,61 @@
  *         [PASS]
  *   watershed ADJACENCY WIDTH HEIGHT PIXELS OUT-LENGTH WORK-LENGTH NUMBER [OUT]
  *   place ADJACENCY WIDTH HEIGHT PIXELS PLACE WORK-LENGTH NUMBER [VALUE PATCH]
- *   patches ADJACENCY WIDTH HEIGHT PIXELS ROOM WORK-LENGTH NUMBER
- *         [COUNT SIZES COLUMN-SUMS ROW-SUMS DEPTHS HEIGHTS]
+ *   patches ADJACENCY WIDTH HEIGHT PIXELS SIZES-LENGTH HEIGHTS-LENGTH
+ *         DEPTHS-LENGTH COLUMNS-LENGTH ROWS-LENGTH WORK-LENGTH NUMBER
+ *         [COUNT SIZES HEIGHTS DEPTHS COLUMN-SUMS ROW-SUMS]
  *
  * cases.h has the form of the fields. Lengths count entries; a 16-bit entry
  * is four hexadecimal digits, highest first. The fields in brackets stand
  * there only if the number is 0.
  */
 
-#include "calls.h"
+#include "board_controller.h"
 #include "cases.h"
 
 #define MOST_ENTRIES (MEMORY_ROOM / 2)
+#define MOST_PATCHES 800 /* enough for every picture, the header says */
+
+/* The lists of figures of patches, in the order of the arguments. */
+enum { SIZES, HEIGHTS, DEPTHS, COLUMNS, ROWS, FIGURES };
 
 /* A slice reaches C as pointer and length. */
 #define BYTES(memory) lent(&memory), memory.length
 #define ENTRIES(memory) lent_entries(&memory), memory.length / 2
 #define PICTURE adjacency, width, height, BYTES(pixels)
 #define TREE BYTES(heights), ENTRIES(fathers), ENTRIES(firsts), ENTRIES(map)
+#define LISTS                                                                \
+    ENTRIES(figures[SIZES]), ENTRIES(figures[HEIGHTS]),                      \
+        ENTRIES(figures[DEPTHS]), ENTRIES(figures[COLUMNS]),                 \
+        ENTRIES(figures[ROWS])
 
 /* The arguments of a call, and the lists that are lent or expected. */
 static uint32_t node_count, place, other_place;
 static uint8_t k;
-static size_t out_length, work_length, room;
+static size_t out_length, work_length;
 static size_t heights_length, fathers_length, firsts_length, map_length;
+static size_t figures_lengths[FIGURES];
 static struct given pixels_given, heights_given, fathers_given, firsts_given;
-static struct given map_given, out_given;
+static struct given map_given, out_given, figures_given[FIGURES];
 
-/* The figures of patches, a block of work each. */
-#define FIGURES 5
-static struct given figures_given[FIGURES];
-
-/* The number and the value that a call returns. */
-static uint64_t number, value;
+/* The number and the value that a call returns; of a place the value is made
+ * of the pixel and the patch. */
+static uint64_t number, value, pixel, patch;
 
 static struct memory pixels, heights, fathers, firsts, map, out, work;
+static struct memory figures[FIGURES];
 
 static const struct {
     const char *name;
     struct memory *memory;
 } memories[] = {{"pixels", &pixels}, {"heights", &heights},
                 {"fathers", &fathers}, {"firsts", &firsts},
-                {"map", &map}, {"output", &out}, {"work", &work}};
+                {"map", &map}, {"output", &out}, {"work", &work},
+                {"sizes", &figures[SIZES]},
+                {"heights of patches", &figures[HEIGHTS]},
+                {"depths", &figures[DEPTHS]},
+                {"column sums", &figures[COLUMNS]},
+                {"row sums", &figures[ROWS]}};
 #define MEMORIES (sizeof memories / sizeof *memories)
 
 static size_t take_length(void)
@@ -89,7 +102,7 @@ static void take_work_and_number(void)
 {
     work_length = take_length();
     number = take_number(12);
-    value = 0;
+    value = pixel = patch = 0;
 }
 
 static void take_label(void)
@@ -161,20 +174,25 @@ static void take_place(void)
     take_work_and_number();
     if (number != 0)
         return;
-    value = take_number(255) * 65536;
-    value += take_number(1600);
+    pixel = take_number(255);
+    patch = take_number(MOST_PATCHES);
+    value = pixel * 65536 + patch;
 }
 
 static void take_patches(void)
 {
     take_picture(&pixels_given);
-    room = take_length();
+    for (size_t list = 0; list < FIGURES; list++)
+        figures_lengths[list] = take_length();
     take_work_and_number();
     if (number != 0)
         return;
-    value = take_number(1600);
-    for (size_t index = 0; index < FIGURES; index++)
-        take_entries(&figures_given[index]);
+    value = take_number(MOST_PATCHES);
+    for (size_t list = 0; list < FIGURES; list++) {
+        take_entries(&figures_given[list]);
+        if (figures_given[list].length != 2 * value)
+            malformed = 1;
+    }
 }
 
 static uint16_t *lent_entries(struct memory *memory)
@@ -208,6 +226,13 @@ static void prepare_tree_output(unsigned turn)
     prepare(&map, 2 * map_length, 2, 15, turn);
 }
 
+static void prepare_figures(unsigned turn)
+{
+    for (unsigned list = 0; list < FIGURES; list++)
+        prepare(&figures[list], 2 * figures_lengths[list], 2, 17 + 2 * list,
+                turn);
+}
+
 /* Says that after success the memory begins with the bytes of a field. */
 static void expect_given(struct memory *memory, const struct given *given)
 {
@@ -215,16 +240,29 @@ static void expect_given(struct memory *memory, const struct given *given)
         expect(memory, given->bytes, given->length);
 }
 
-/* Checks the result and all memory. */
-static int compare(uint64_t result)
+/* Whether the result is the expected one, as a number and through the
+ * functions of the header. */
+static int is_right(uint64_t result)
 {
-    if (result != (number << 32) + value) {
+    return result == (number << 32) + value &&
+           controller_refusal(result) == number &&
+           controller_value(result) == value;
+}
+
+/* Checks the result and all memory; work is zero over 5 n entries after
+ * success. */
+static int check(uint64_t result)
+{
+    static const uint8_t zeros[MEMORY_ROOM];
+    if (!is_right(result)) {
         printf("returned %lu and %lu, expected %lu and %lu\n",
-               (unsigned long)(result >> 32),
-               (unsigned long)(result & UINT32_MAX), (unsigned long)number,
-               (unsigned long)value);
+               (unsigned long)controller_refusal(result),
+               (unsigned long)controller_value(result),
+               (unsigned long)number, (unsigned long)value);
         return 0;
     }
+    if (number == 0)
+        expect(&work, zeros, 10 * pixels_given.length);
     for (size_t index = 0; index < MEMORIES; index++)
         if (!as_expected(memories[index].memory)) {
             printf("memory differs: %s\n", memories[index].name);
@@ -233,32 +271,25 @@ static int compare(uint64_t result)
     return 1;
 }
 
-/* The same; work is zero over 5 n entries after success. */
-static int check(uint64_t result)
+/* Checks the two parts of the value for a place. */
+static int check_place(uint64_t result)
 {
-    static const uint8_t zeros[MEMORY_ROOM];
-    if (number == 0)
-        expect(&work, zeros, 10 * pixels_given.length);
-    return compare(result);
-}
-
-/* Says that after success each block of work begins with its figures; what
- * follows there is left open. */
-static void expect_figures(void)
-{
-    size_t block = 2 * pixels_given.length;
-    expect(&work, lent(&work), FIGURES * block);
-    for (size_t index = 0; index < FIGURES; index++)
-        memcpy(work.before + work.start + index * block,
-               figures_given[index].bytes, figures_given[index].length);
+    if (controller_pixel(result) == pixel &&
+        controller_patch(result) == patch)
+        return 1;
+    printf("pixel %lu and patch %lu, expected %lu and %lu\n",
+           (unsigned long)controller_pixel(result),
+           (unsigned long)controller_patch(result), (unsigned long)pixel,
+           (unsigned long)patch);
+    return 0;
 }
 
 static int run_label(unsigned turn)
 {
     prepare_picture_and_work(turn);
     prepare(&out, 2 * out_length, 2, 5, turn);
-    uint64_t result = bench_label_section(PICTURE, k, ENTRIES(out),
-                                          ENTRIES(work));
+    uint64_t result = controller_label_section(PICTURE, k, ENTRIES(out),
+                                               ENTRIES(work));
     expect_given(&out, &out_given);
     return check(result);
 }
@@ -266,14 +297,14 @@ static int run_label(unsigned turn)
 static int run_lowerable(unsigned turn)
 {
     prepare_picture_and_work(turn);
-    return check(bench_is_lowerable(PICTURE, place, ENTRIES(work)));
+    return check(controller_is_lowerable(PICTURE, place, ENTRIES(work)));
 }
 
 static int run_tree(unsigned turn)
 {
     prepare_picture_and_work(turn);
     prepare_tree_output(turn);
-    uint64_t result = bench_component_tree(PICTURE, TREE, ENTRIES(work));
+    uint64_t result = controller_component_tree(PICTURE, TREE, ENTRIES(work));
     expect_given(&heights, &heights_given);
     expect_given(&fathers, &fathers_given);
     expect_given(&firsts, &firsts_given);
@@ -285,22 +316,24 @@ static int run_check(unsigned turn)
 {
     prepare_picture_and_work(turn);
     prepare_lent_tree(turn);
-    return check(bench_check_tree(PICTURE, node_count, TREE, ENTRIES(work)));
+    return check(controller_check_tree(PICTURE, node_count, TREE,
+                                       ENTRIES(work)));
 }
 
 static int run_pass(unsigned turn)
 {
     prepare_picture_and_work(turn);
     prepare_lent_tree(turn);
-    return check(bench_pass_between(PICTURE, node_count, TREE, place,
-                                    other_place, ENTRIES(work)));
+    return check(controller_pass_between(PICTURE, node_count, TREE, place,
+                                         other_place, ENTRIES(work)));
 }
 
 static int run_watershed(unsigned turn)
 {
     prepare_picture_and_work(turn);
     prepare(&out, out_length, 1, 5, turn);
-    uint64_t result = bench_watershed_of(PICTURE, BYTES(out), ENTRIES(work));
+    uint64_t result = controller_watershed_of(PICTURE, BYTES(out),
+                                              ENTRIES(work));
     expect_given(&out, &out_given);
     return check(result);
 }
@@ -308,16 +341,18 @@ static int run_watershed(unsigned turn)
 static int run_place(unsigned turn)
 {
     prepare_picture_and_work(turn);
-    return check(bench_query_place(PICTURE, place, ENTRIES(work)));
+    uint64_t result = controller_query_place(PICTURE, place, ENTRIES(work));
+    return check(result) && check_place(result);
 }
 
 static int run_patches(unsigned turn)
 {
     prepare_picture_and_work(turn);
-    uint64_t result = bench_gather(PICTURE, room, ENTRIES(work));
-    if (number == 0)
-        expect_figures();
-    return compare(result);
+    prepare_figures(turn);
+    uint64_t result = controller_list_patches(PICTURE, LISTS, ENTRIES(work));
+    for (size_t list = 0; list < FIGURES; list++)
+        expect_given(&figures[list], &figures_given[list]);
+    return check(result);
 }
 
 int main(void)

@@ -18,7 +18,7 @@
 #define LINE_ROOM 65536
 #define MEMORY_ROOM 32768
 #define GUARD 64
-#define MAXIMUM_FIELDS 16
+#define MAXIMUM_FIELDS 18
 
 /* Memory that is lent to a call, with guard bytes before and behind. */
 struct memory {

@@ -11,15 +11,16 @@
 //!     pass ADJACENCY WIDTH HEIGHT PIXELS TREE PLACE PLACE WORK-LENGTH NUMBER [PASS]
 //!     watershed ADJACENCY WIDTH HEIGHT PIXELS OUT-LENGTH WORK-LENGTH NUMBER [OUT]
 //!     place ADJACENCY WIDTH HEIGHT PIXELS PLACE WORK-LENGTH NUMBER [VALUE PATCH]
-//!     patches ADJACENCY WIDTH HEIGHT PIXELS ROOM WORK-LENGTH NUMBER
-//!         [COUNT SIZES COLUMN-SUMS ROW-SUMS DEPTHS HEIGHTS]
+//!     patches ADJACENCY WIDTH HEIGHT PIXELS SIZES-LENGTH HEIGHTS-LENGTH DEPTHS-LENGTH
+//!         COLUMNS-LENGTH ROWS-LENGTH WORK-LENGTH NUMBER
+//!         [COUNT SIZES HEIGHTS DEPTHS COLUMN-SUMS ROW-SUMS]
 
 use crate::generate;
 use crate::lent::LentTree;
 use crate::limits::{self, Change};
 use crate::literal::{Adjacency, Picture};
 use crate::question::{
-    exact_call, exact_calls, other_adjacency, patches_of, tree_of, Call, Question, KINDS,
+    exact_call, exact_calls, other_adjacency, patches_of, tree_of, Call, Question, FIGURES, KINDS,
 };
 use crate::quick;
 use crate::random::Random;
@@ -47,6 +48,24 @@ fn questions_of_place(lent: &LentTree, count: u32, one: u32) -> Vec<Question> {
     questions
 }
 
+/// The patches of a picture into lists that are just long enough, then with
+/// each list alone an entry too short, then with each alone an entry longer.
+fn questions_of_patches(picture: &Picture) -> Vec<Question> {
+    let count = patches_of(picture).len();
+    let exact = Question::Patches {
+        lengths: [count; FIGURES],
+    };
+    let mut questions = vec![exact.clone()];
+    for length in [count - 1, count + 1] {
+        questions.extend((0..FIGURES).map(|which| {
+            let mut question = exact.clone();
+            question.set_length(which, length);
+            question
+        }));
+    }
+    questions
+}
+
 /// Every question about a picture, its tree lent right.
 fn questions_of_picture(picture: &Picture, lent: LentTree) -> Vec<Question> {
     let out_length = picture.count();
@@ -60,7 +79,10 @@ fn questions_of_picture(picture: &Picture, lent: LentTree) -> Vec<Question> {
     });
     questions.push(Question::Check { lent: lent.clone() });
     questions.push(Question::Watershed { out_length });
-    questions.extend((0..=out_length).map(|room| Question::Patches { room }));
+    questions.extend((0..=out_length).map(|length| Question::Patches {
+        lengths: [length; FIGURES],
+    }));
+    questions.extend(questions_of_patches(picture));
     questions.extend((0..count).flat_map(|place| questions_of_place(&lent, count, place)));
     questions
 }
@@ -117,7 +139,8 @@ fn pictures_of_many_nodes(random: &mut Random) -> Vec<Picture> {
     pictures
 }
 
-/// H10 for each kind of call, with no cause of refusal.
+/// H10, of 6 pixels and 2 patches, for each kind of call, with no cause of
+/// refusal.
 fn calls_of_h10() -> Vec<Call> {
     let picture = worked::four("0 5 2 / 3 3 3");
     let lent = LentTree::new(&tree_of(&picture)).lengthen(&mut Random::new(40_002), [6; 4]);
@@ -135,7 +158,9 @@ fn calls_of_h10() -> Vec<Call> {
         },
         Question::Watershed { out_length: 6 },
         Question::Place { place: 5 },
-        Question::Patches { room: 6 },
+        Question::Patches {
+            lengths: [2; FIGURES],
+        },
     ];
     exact_calls(&picture, questions)
 }
@@ -158,7 +183,11 @@ fn give_causes(call: &mut Call, set: usize) {
         lent.map[0] ^= 1;
     }
     if has(3) {
-        call.question.set_length(set % 4, 5);
+        let too_short = match call.question {
+            Question::Patches { .. } => 1,
+            _ => 5,
+        };
+        call.question.set_length(set % FIGURES, too_short);
     }
     if has(4) {
         call.work_length = 29;
@@ -205,6 +234,7 @@ const LIMITS: [(&[u32], &[Change<Call>]); 6] = [
             |call, length| call.question.set_length(1, length as usize),
             |call, length| call.question.set_length(2, length as usize),
             |call, length| call.question.set_length(3, length as usize),
+            |call, length| call.question.set_length(4, length as usize),
         ],
     ),
     (
@@ -303,9 +333,12 @@ fn question(random: &mut Random, kind: &str, picture: &Picture) -> Question {
             out_length: count + random.one_of(&[0, 0, 1, 7, 100]),
         },
         "place" => Question::Place { place },
-        _ => Question::Patches {
-            room: patches_of(picture).len() + random.one_of(&[0, 0, 1, 7, 100]),
-        },
+        _ => {
+            let patches = patches_of(picture).len();
+            Question::Patches {
+                lengths: [0; FIGURES].map(|_| patches + random.one_of(&[0, 0, 1, 7, 100])),
+            }
+        }
     }
 }
 
@@ -322,7 +355,7 @@ fn break_call(random: &mut Random, call: &mut Call) {
         3 => {
             if random.below(2) == 0 {
                 call.question
-                    .set_length(random.below(4), random.below(count + 1));
+                    .set_length(random.below(FIGURES), random.below(count + 1));
             } else {
                 call.work_length = random.below(5 * count + 1);
             }
@@ -368,6 +401,7 @@ pub fn text(count: usize) -> String {
     let mut random = Random::new(40_003);
     for picture in pictures_of_many_nodes(&mut random) {
         calls.extend(three_calls_of_each_kind(&mut random, &picture));
+        calls.extend(exact_calls(&picture, questions_of_patches(&picture)));
     }
     for _ in 0..count {
         calls.extend(KINDS.map(|kind| generated_call(&mut random, kind)));
@@ -382,9 +416,9 @@ mod tests {
     fn number_field(kind: &str) -> usize {
         match kind {
             "label" => 8,
-            "lowerable" | "watershed" | "place" | "patches" => 7,
+            "lowerable" | "watershed" | "place" => 7,
             "tree" => 10,
-            "check" => 11,
+            "check" | "patches" => 11,
             _ => 13,
         }
     }

@@ -6,7 +6,8 @@ use crate::random::Random;
 /// Sides at the limits, and sides whose low 8 or 16 bits are not refused.
 pub const SIDES: [u32; 9] = [0, 1, 40, 41, 256, 259, 65_536, 65_539, u32::MAX];
 
-/// Numbers of pixels and lengths of lists, where 6 are needed.
+/// Numbers of pixels and lengths of lists, where 6 are needed, or 2 for a
+/// list of patches.
 pub const LENGTHS: [u32; 5] = [0, 1, 5, 7, 12];
 
 /// Sets an argument of a call to a number.

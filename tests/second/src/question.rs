@@ -7,37 +7,24 @@ use crate::lent::{entries_text, LentTree};
 use crate::literal::{self, Adjacency, Patch, Picture, PlaceAnswer, Tree};
 use crate::quick;
 
+/// Lists of a tree: heights, fathers, first places and map.
+const TREE_LISTS: usize = 4;
+
+/// Lists of the figures of patches: sizes, heights, depths, column sums and
+/// row sums.
+pub const FIGURES: usize = 5;
+
 /// What a call asks of a picture, with the memory that it alone lends.
 #[derive(Clone)]
 pub enum Question {
-    Label {
-        height: u8,
-        out_length: usize,
-    },
-    Lowerable {
-        place: u32,
-    },
-    /// Lengths of heights, fathers, first places and map.
-    Tree {
-        lengths: [usize; 4],
-    },
-    Check {
-        lent: LentTree,
-    },
-    Pass {
-        lent: LentTree,
-        places: [u32; 2],
-    },
-    Watershed {
-        out_length: usize,
-    },
-    Place {
-        place: u32,
-    },
-    /// The list of patches has room for so many records.
-    Patches {
-        room: usize,
-    },
+    Label { height: u8, out_length: usize },
+    Lowerable { place: u32 },
+    Tree { lengths: [usize; TREE_LISTS] },
+    Check { lent: LentTree },
+    Pass { lent: LentTree, places: [u32; 2] },
+    Watershed { out_length: usize },
+    Place { place: u32 },
+    Patches { lengths: [usize; FIGURES] },
 }
 
 pub const KINDS: [&str; 8] = [
@@ -100,18 +87,26 @@ pub fn patches_of(picture: &Picture) -> Vec<Patch> {
 
 /// How many patches there are, and a list of each of their figures.
 fn figures_text(patches: &[Patch]) -> String {
-    let figures: [fn(&Patch) -> usize; 5] = [
+    let figures: [fn(&Patch) -> usize; FIGURES] = [
         |patch| patch.size,
+        |patch| patch.height as usize,
+        |patch| patch.depth as usize,
         |patch| patch.column_sum,
         |patch| patch.row_sum,
-        |patch| patch.depth as usize,
-        |patch| patch.height as usize,
     ];
     let lists = figures.map(|figure| {
         let numbers: Vec<usize> = patches.iter().map(figure).collect();
         format!(" {}", entries_text(&numbers))
     });
     format!(" {}{}", patches.len(), lists.concat())
+}
+
+/// Lengths, each with a space behind it.
+fn lengths_text(lengths: &[usize]) -> String {
+    lengths
+        .iter()
+        .map(|length| format!("{} ", length))
+        .collect()
 }
 
 impl Question {
@@ -123,7 +118,8 @@ impl Question {
         }
     }
 
-    /// The length of the shortest memory that only this call lends.
+    /// The length of the shortest memory that only this call lends, of
+    /// which it needs n entries.
     pub fn least_length(&self) -> Option<usize> {
         match self {
             Question::Label { out_length, .. } | Question::Watershed { out_length } => {
@@ -142,17 +138,18 @@ impl Question {
         }
     }
 
-    /// Sets the length of one of the lists that only this call lends.
+    /// Sets the length of one of the lists that only this call lends; behind
+    /// the last comes the first.
     pub fn set_length(&mut self, which: usize, length: usize) {
         match self {
             Question::Label { out_length, .. } | Question::Watershed { out_length } => {
                 *out_length = length
             }
-            Question::Tree { lengths } => lengths[which] = length,
+            Question::Tree { lengths } => lengths[which % TREE_LISTS] = length,
             Question::Check { lent } | Question::Pass { lent, .. } => {
-                lent.set_length(which, length)
+                lent.set_length(which % TREE_LISTS, length)
             }
-            Question::Patches { room } => *room = length,
+            Question::Patches { lengths } => lengths[which % FIGURES] = length,
             _ => {}
         }
     }
@@ -173,10 +170,7 @@ impl Question {
                 ("label", format!("{} {} ", height, out_length))
             }
             Question::Lowerable { place } => ("lowerable", format!("{} ", place)),
-            Question::Tree { lengths } => {
-                let lengths = lengths.map(|length| length.to_string() + " ");
-                ("tree", lengths.concat())
-            }
+            Question::Tree { lengths } => ("tree", lengths_text(lengths)),
             Question::Check { lent } => ("check", format!("{} ", lent.text())),
             Question::Pass { lent, places } => {
                 let [one, other] = places;
@@ -184,7 +178,7 @@ impl Question {
             }
             Question::Watershed { out_length } => ("watershed", format!("{} ", out_length)),
             Question::Place { place } => ("place", format!("{} ", place)),
-            Question::Patches { room } => ("patches", format!("{} ", room)),
+            Question::Patches { lengths } => ("patches", lengths_text(lengths)),
         }
     }
 
@@ -244,7 +238,11 @@ impl Call {
             {
                 11
             }
-            Question::Patches { room } if *room < patches_of(&self.picture()).len() => 9,
+            Question::Patches { lengths }
+                if lengths.iter().min() < Some(&patches_of(&self.picture()).len()) =>
+            {
+                9
+            }
             _ => 0,
         }
     }

@@ -1,0 +1,36 @@
+-- What the public calls promise of their answers holds of the packed ones.
+use mathlib.Core.Path.{_≡_, refl, sym, ap, subst, _∙_}
+use mathlib.Core.List.{List}
+use Prim.Native.Nat.{ℕ, zero, suc}
+use lib.Dec.{eqb}
+use Rattle.lists.specs.Lists.{pick}
+use Rattle.picture.specs.Pictures.{Picture, valueAt}
+use Rattle.picture.specs.Patches.{patchAt}
+use Rattle.answers.specs.declared.Answer.{Answer}
+use Rattle.answers.specs.Answers.{WorkSays}
+use Rattle.board.specs.declared.query.Queried.{Queried}
+use Rattle.board.specs.Calls.{placeFaultOf, groundOf, patchNumber, QuerySays}
+use Rattle.packed_answers.specs.Packed.{answerIn, queriedIn, groundByNumber}
+
+ground-again : (n : ℕ) → groundOf (patchNumber (groundOf n)) ≡ groundOf n
+ground-again zero = refl
+ground-again (suc n) = refl
+
+-- what the public call promises of the answer for a place holds of the packed one, since no place has the patch 0
+pub query-packed :
+    {p : Picture} {x : ℕ} {q q′ : List ℕ} {a : Queried} (r : ℕ) →
+    queriedIn r ≡ groundByNumber a → QuerySays p x q q′ a → QuerySays p x q q′ (queriedIn r)
+query-packed {p} {x} {q} {q′} {a} r e s =
+    let f = placeFaultOf p q x in
+    let v = pick (eqb f 0) (valueAt p x) 0 in
+    let n = pick (eqb f 0) (patchAt p x) 0 in
+    record {
+      answer =
+          e ∙ (ap groundByNumber (s .answer) ∙ (λ j. record { number = f; value = v; ground = ground-again n j }));
+      work = s .work;
+    }
+
+-- what a public call promises of its answer holds of the packed one
+pub work-packed :
+    {f v : ℕ} {p : Picture} {q q′ : List ℕ} {a : Answer} (r : ℕ) → answerIn r ≡ a → WorkSays f v p q q′ a → WorkSays f v p q q′ (answerIn r)
+work-packed {f} {v} {p} {q} {q′} r e s = subst (λ (b : Answer). WorkSays f v p q q′ b) (sym e) s

@@ -1,0 +1,2 @@
+-- Laws of the lists of figures.
+pub mod Handed

@@ -1,0 +1,3 @@
+-- What the figures of patches as lists are.
+pub mod Figures
+pub mod Steps

@@ -1,0 +1,2 @@
+-- How answers are packed.
+pub mod Packed
