@@ -1,4 +1,4 @@
-.PHONY: run test bench
+.PHONY: run test bench controller
 # Builds `holds` and prints the hold list of the example wall; what the build says goes to standard error.
 run:
 	@rt check holds >&2
@@ -9,3 +9,6 @@ test:
 # Measurements against peers in C; not a part of the gate.
 bench:
 	bash bench/run
+# The calls for firmware on an emulated Cortex-M0+, against x86-64; not a part of the gate.
+controller:
+	bash controller/run

@@ -1,0 +1,30 @@
+/* The two parts of the harness; each prints its lines. */
+
+#ifndef HARNESS_H
+#define HARNESS_H
+
+/*
+ * Every call on every picture at 40 by 40 with both adjacencies. A line
+ *
+ *   measured|call|adjacency|picture|answer|sum over all lent memory
+ *
+ * is the same on every machine, and after it a line
+ *
+ *   used|call|adjacency|picture|bytes lent|bytes of stack
+ *
+ * is the controller's own.
+ */
+void measure_controller_calls(void);
+void measure_board_calls(void);
+
+/*
+ * Every call on small and large pictures, accepted and refused. A line
+ *
+ *   swept|call|adjacency|width|height|change of the arguments|answer|sum over all lent memory
+ *
+ * is the same on every machine.
+ */
+void sweep_pictures(void);
+void sweep_files(void);
+
+#endif

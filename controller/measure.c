@@ -1,0 +1,137 @@
+/* Runs every call at 40 by 40, counted and on a painted stack. */
+
+#include "call.h"
+#include "geometry.h"
+#include "harness.h"
+#include "pictures.h"
+#include "text.h"
+
+#include <string.h>
+
+#define PAINT 0xa5              /* of the stack before a call */
+#define VALUES 256              /* of a pixel */
+#define LARGEST_VALUE 255
+#define WALL_FILE PICTURE_COUNT /* the file's number, behind the made pictures */
+
+extern const uint8_t wall_file[];
+extern const uint32_t wall_file_length;
+
+static void fill_pixels(unsigned picture)
+{
+    if (picture == WALL_FILE)
+        memcpy(given.pixels.at, wall_file + wall_file_length - LARGEST_N, LARGEST_N);
+    else
+        make_picture(picture, LARGEST_SIDE, given.pixels.at);
+}
+
+static uint8_t median(void)
+{
+    uint32_t of_value[VALUES] = { 0 }, seen = 0;
+    uint8_t k = 0;
+    for (uint32_t x = 0; x < LARGEST_N; x++)
+        of_value[given.pixels.at[x]]++;
+    while ((seen += of_value[k]) <= LARGEST_N / 2)
+        k++;
+    return k;
+}
+
+/* The first place of the largest value. */
+static uint32_t first_largest(void)
+{
+    uint32_t place = 0;
+    for (uint32_t x = 0; x < LARGEST_N; x++)
+        if (given.pixels.at[x] > given.pixels.at[place])
+            place = x;
+    return place;
+}
+
+static void prepare(const struct call *call, unsigned picture, uint32_t adjacency)
+{
+    lend(call, LARGEST_N, 0);
+    fill_pixels(picture);
+    given.adjacency = adjacency;
+    given.width = LARGEST_SIDE;
+    given.height = LARGEST_SIDE;
+    given.x = call->places == 1 ? first_largest() : 0;
+    given.y = LARGEST_N - 1;
+    if (call->takes_tree)
+        lend_tree();
+}
+
+/* Runs the call; answers how many bytes of its stack it changed. */
+static uint32_t run_painted(const struct call *call)
+{
+    uint8_t *top = stack_top(), *at = controller_memory;
+    memset(at, PAINT, (size_t)(top - at));
+    run_counted(top, call->with_arguments);
+    while (at < top && *at == PAINT)
+        at++;
+    return (uint32_t)(top - at);
+}
+
+static void begin(const char *kind, const char *title, unsigned picture)
+{
+    begin_line(kind);
+    add_text(title);
+    add_number(given.adjacency);
+    add_text(picture == WALL_FILE ? "examples/wall.pgm" : picture_names[picture]);
+}
+
+static void measure(const struct call *call, const char *title, unsigned picture)
+{
+    uint32_t stack = run_painted(call);
+    begin("measured", title, picture);
+    add_hexadecimal(answer);
+    add_hexadecimal(lent_sum());
+    end_line();
+    begin("used", title, picture);
+    add_number(lent_bytes());
+    add_number(stack);
+    end_line();
+}
+
+static void measure_call(const struct call *call, unsigned picture, uint32_t adjacency)
+{
+    prepare(call, picture, adjacency);
+    measure(call, call->name, picture);
+}
+
+/* The section at the median, and that of all pixels. */
+static void measure_sections(unsigned picture, uint32_t adjacency)
+{
+    const struct call *call = &controller_calls[LABEL_SECTION];
+    prepare(call, picture, adjacency);
+    given.k = median();
+    measure(call, "label_section, median", picture);
+    prepare(call, picture, adjacency);
+    given.k = LARGEST_VALUE;
+    measure(call, "label_section, 255", picture);
+}
+
+void measure_controller_calls(void)
+{
+    for (unsigned i = 0; i < CONTROLLER_CALLS; i++)
+        for (unsigned picture = 0; picture <= WALL_FILE; picture++)
+            for (uint32_t adjacency = 4; adjacency <= 8; adjacency += 4)
+                if (i == LABEL_SECTION)
+                    measure_sections(picture, adjacency);
+                else
+                    measure_call(&controller_calls[i], picture, adjacency);
+}
+
+static void measure_read(void)
+{
+    lend(&read_call, wall_file_length, 0);
+    memcpy(given.pixels.at, wall_file, wall_file_length);
+    given.adjacency = 0;
+    measure(&read_call, read_call.name, WALL_FILE);
+}
+
+void measure_board_calls(void)
+{
+    measure_read();
+    for (uint32_t adjacency = 4; adjacency <= 8; adjacency += 4) {
+        measure_call(&watershed_call, WALL_FILE, adjacency);
+        measure_call(&place_call, WALL_FILE, adjacency);
+    }
+}

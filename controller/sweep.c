@@ -1,0 +1,208 @@
+/*
+ * Every call on several pictures with right and wrong sides and adjacencies,
+ * and with one argument changed at a time.
+ */
+
+#include "board_controller.h"
+#include "call.h"
+#include "geometry.h"
+#include "harness.h"
+#include "text.h"
+
+#define SPARE 1                 /* entries behind each list, which a change may tell */
+#define FEW_PIXELS 49           /* lent where a side is refused */
+#define DARK 0x0f               /* the largest value of every third pixel */
+
+/* A linear congruential generator; a pixel is its highest byte. */
+#define DRAW_FACTOR 1664525u
+#define DRAW_STEP 1013904223u
+#define HIGHEST_BYTE 24         /* bits below it */
+
+#define LENGTH_OF(array) (sizeof(array) / sizeof *(array))
+
+static const uint32_t sides[] = { 0, 1, 2, 7, LARGEST_SIDE, LARGEST_SIDE + 1, 65537 };
+static const uint32_t adjacencies[] = { 3, 4, 8 };
+
+/* What is drawn beside the pixels: the height of a section, and two places in hundredths of the
+ * last one. */
+static const struct {
+    uint8_t k;
+    uint32_t x, y;
+} draws[] = { { 100, 33, 50 }, { 0, 0, 100 }, { 255, 100, 0 }, { 7, 66, 66 } };
+
+/* The first of these have no argument changed: each is a draw. */
+enum change {
+    PIXELS_SHORT = LENGTH_OF(draws), PIXELS_LONG, ALL_ELSE_LONG, BYTES_SHORT, WORK_SHORT,
+    X_OUTSIDE, X_LARGEST, Y_OUTSIDE, OTHER_COUNT, OTHER_HEIGHT, OTHER_FATHER, OTHER_FIRST,
+    OTHER_MAP, FIRST_LIST_SHORT, CHANGES = FIRST_LIST_SHORT + MOST_LISTS,
+};
+
+static const char *const change_names[CHANGES] = {
+    "none", "none, second draw", "none, third draw", "none, fourth draw", "pixels short",
+    "pixels long", "all else long", "bytes short", "work short", "x outside", "x largest",
+    "y outside", "other count", "other height", "other father", "other first place", "other map",
+    "list 1 short", "list 2 short", "list 3 short", "list 4 short", "list 5 short",
+};
+
+/* One entry less; answers 0 if there is none. */
+static int shorten(size_t *length)
+{
+    if (*length == 0)
+        return 0;
+    *length -= 1;
+    return 1;
+}
+
+static void lengthen_all_else(const struct call *call)
+{
+    given.bytes.length++;
+    given.work.length++;
+    given.packed_work.length++;
+    for (unsigned i = 0; i < call->lists; i++)
+        given.lists[i].length++;
+}
+
+/* Changes the lent tree: its count, or an entry in the middle of a list. */
+static int change_tree(unsigned change)
+{
+    uint32_t node = given.count / 2;
+    if (change == OTHER_COUNT)
+        given.count++;
+    else if (change == OTHER_HEIGHT)
+        given.bytes.at[node] ^= 1;
+    else if (change == OTHER_MAP)
+        given.lists[2].at[given.pixels.length / 2] ^= 1;
+    else
+        given.lists[change - OTHER_FATHER].at[node] ^= 1;
+    return 1;
+}
+
+/* Shortens or lengthens; answers 0 if the call has no such length. */
+static int change_length(const struct call *call, unsigned change)
+{
+    unsigned list = change - FIRST_LIST_SHORT;
+    switch (change) {
+    case PIXELS_SHORT:
+        return shorten(&given.pixels.length);
+    case PIXELS_LONG:
+        given.pixels.length++;
+        return 1;
+    case ALL_ELSE_LONG:
+        lengthen_all_else(call);
+        return 1;
+    case BYTES_SHORT:
+        return shorten(&given.bytes.length);
+    case WORK_SHORT:
+        return shorten(&given.work.length) && shorten(&given.packed_work.length);
+    default:
+        return list < call->lists && shorten(&given.lists[list].length);
+    }
+}
+
+/* Changes an argument; answers 0 if the call has no such one. */
+static int make_change(const struct call *call, unsigned change)
+{
+    if (change < LENGTH_OF(draws))
+        return 1;
+    switch (change) {
+    case X_OUTSIDE:
+        given.x = (uint32_t)given.pixels.length;
+        return call->places >= 1;
+    case X_LARGEST:
+        given.x = UINT32_MAX;
+        return call->places >= 1;
+    case Y_OUTSIDE:
+        given.y = (uint32_t)given.pixels.length;
+        return call->places >= 2;
+    case OTHER_COUNT:
+    case OTHER_HEIGHT:
+    case OTHER_FATHER:
+    case OTHER_FIRST:
+    case OTHER_MAP:
+        return call->takes_tree && change_tree(change);
+    default:
+        return change_length(call, change);
+    }
+}
+
+/* The same pixels on every machine, also in the spare entry; every third is dark. */
+static void draw_pixels(uint32_t n, unsigned draw)
+{
+    uint32_t drawn = (draw * LARGEST_SIDE + given.width) * LARGEST_SIDE + given.height;
+    for (uint32_t x = 0; x < n + SPARE; x++) {
+        drawn = drawn * DRAW_FACTOR + DRAW_STEP;
+        given.pixels.at[x] = (uint8_t)(drawn >> HIGHEST_BYTE & (x % 3 ? UINT8_MAX : DARK));
+    }
+}
+
+static void lend_picture(const struct call *call, uint32_t n, unsigned draw)
+{
+    lend(call, n, SPARE);
+    draw_pixels(n, draw);
+}
+
+/* Makes each list as long as there are patches. */
+static void fit_lists(const struct call *call, uint32_t n, unsigned draw)
+{
+    run_uncounted(stack_top(), call->with_arguments);
+    lend_picture(call, n, draw);
+    if (controller_refusal(answer) != 0)
+        return;
+    for (unsigned i = 0; i < call->lists; i++)
+        given.lists[i].length = controller_value(answer);
+}
+
+/* Lends the call all that it takes, nothing longer than it must be. */
+static void prepare(const struct call *call, unsigned draw)
+{
+    uint32_t n = FEW_PIXELS;
+    if (given.width <= LARGEST_SIDE && given.height <= LARGEST_SIDE)
+        n = given.width * given.height;
+    uint32_t last = n > 0 ? n - 1 : 0;
+    lend_picture(call, n, draw);
+    given.k = draws[draw].k;
+    given.x = last * draws[draw].x / 100;
+    given.y = last * draws[draw].y / 100;
+    if (call->takes_tree)
+        lend_tree();
+    if (call->lists_patches)
+        fit_lists(call, n, draw);
+}
+
+static void sweep_change(const struct call *call, unsigned change)
+{
+    prepare(call, change < LENGTH_OF(draws) ? change : 0);
+    if (!make_change(call, change))
+        return;
+    run_uncounted(stack_top(), call->with_arguments);
+    begin_line("swept");
+    add_text(call->name);
+    add_number(given.adjacency);
+    add_number(given.width);
+    add_number(given.height);
+    add_text(change_names[change]);
+    add_hexadecimal(answer);
+    add_hexadecimal(lent_sum());
+    end_line();
+}
+
+static void sweep_call(const struct call *call)
+{
+    for (unsigned i = 0; i < LENGTH_OF(adjacencies); i++)
+        for (unsigned j = 0; j < LENGTH_OF(sides); j++)
+            for (unsigned k = 0; k < LENGTH_OF(sides); k++) {
+                given.adjacency = adjacencies[i];
+                given.width = sides[j];
+                given.height = sides[k];
+                for (unsigned change = 0; change < CHANGES; change++)
+                    sweep_change(call, change);
+            }
+}
+
+void sweep_pictures(void)
+{
+    for (unsigned i = 0; i < CONTROLLER_CALLS; i++)
+        sweep_call(&controller_calls[i]);
+    sweep_call(&watershed_call);
+    sweep_call(&place_call);
+}
