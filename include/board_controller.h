@@ -17,6 +17,7 @@
  *   11  the lent tree is not that of the picture under the adjacency: its
  *       count, a list entry below the true count, or an entry of its map
  *       differs
+ *   13  the least size is 0 or above n
  *
  * Its lower 32 bits (controller_value) are the value that is named at the
  * function, or 0 on a refusal. When causes of several refusals hold, the one
@@ -193,6 +194,26 @@ uint64_t controller_is_lowerable(
 uint64_t controller_watershed_of(
     uint32_t adjacency, uint32_t width, uint32_t height,
     const uint8_t *pixels, size_t pixels_len,
+    uint8_t *out, size_t out_len, uint16_t *work, size_t work_len);
+
+/*
+ * Fills the dark parts of a picture that have fewer than s pixels (standard
+ * term: area closing).
+ *
+ *   s    the least size of a part in pixels, 1 to n
+ *   out  lent output of at least n bytes
+ *
+ * The value is 0. After success the first n bytes of `out` are the filled
+ * values of the pixels: of each one the least height at which its component
+ * has at least s pixels. They are a picture of the same sides, which
+ * controller_watershed_of takes; its output is other memory.
+ *
+ * Refusals, in this order: 7, 3, 8, 9 (out_len below n, or work_len below
+ * 5 n), 13.
+ */
+uint64_t controller_fill_small_parts(
+    uint32_t adjacency, uint32_t width, uint32_t height,
+    const uint8_t *pixels, size_t pixels_len, uint32_t s,
     uint8_t *out, size_t out_len, uint16_t *work, size_t work_len);
 
 /*

@@ -15,7 +15,7 @@ use Rattle.lists.proofs.Tests.{pick-in, pick-out}
 use Rattle.lists.proofs.Cuts.{over-cut, over-same}
 use Rattle.picture.specs.Pictures.{Picture, places}
 use Rattle.answers.specs.declared.Answer.{Answer}
-use Rattle.answers.specs.Answers.{afterCall, cleared, workAfter, Answered, WorkSays}
+use Rattle.answers.specs.Answers.{afterCall, cleared, workAfter, Answered, WorkSays, OutputSays}
 use Rattle.answers.specs.Steps.{IsRefusal, IsValue, Finished}
 
 -- a refusal with the fault f: the number with the value 0, and every lent slice as it was
@@ -90,3 +90,15 @@ pub work-done :
     Finished n u lent q′ r → WorkSays f v p q q′ r
 work-done f v u n p q lent q′ r z w e d t =
     record { answer = accepted-answer f v u r z w (t .answer); work = cleared-left f n p q lent q′ z e d (t .work) }
+
+-- a call that lends output and work: its refusal, and its end, where a core has written the list new to the first n entries of the output
+pub output-refused :
+    (f g v : ℕ) (p : Picture) (new o q : List ℕ) (r : Answer) → g ≡ f → g ≢ 0 → IsRefusal g r → OutputSays f p v new o o q q r
+output-refused f g v p new o q r e d w =
+    record { call = work-refused f g v p q r e d w; output = refused-left f g e d (over new o) o }
+
+pub output-done :
+    (f v u n : ℕ) (p : Picture) (new ys o q lent q′ : List ℕ) (r : Answer) → f ≡ 0 → u ≡ v → n ≡ places p → length new ≡ n → ys ≡ new →
+    drop (5 * n) lent ≡ drop (5 * n) q → Finished n u lent q′ r → OutputSays f p v new o (ys ++ drop n o) q q′ r
+output-done f v u n p new ys o q lent q′ r z w e l s d t =
+    record { call = work-done f v u n p q lent q′ r z w e d t; output = written-over f n new o ys z l s }

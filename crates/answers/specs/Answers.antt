@@ -29,3 +29,8 @@ pub record Answered (f v : ℕ) (r : Answer) : Type 0 where
 pub record WorkSays (f v : ℕ) (p : Picture) (q q′ : List ℕ) (r : Answer) : Type 0 where
   pub answer : Answered f v r
   pub work : q′ ≡ workAfter f p q
+
+-- such a call that lends output too: the list new in front of what was there, or all as it was after a refusal
+pub record OutputSays (f : ℕ) (p : Picture) (v : ℕ) (new o o′ q q′ : List ℕ) (r : Answer) : Type 0 where
+  pub call : WorkSays f v p q q′ r
+  pub output : o′ ≡ afterCall f (over new o) o

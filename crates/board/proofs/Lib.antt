@@ -4,6 +4,7 @@ pub mod Outputs
 pub mod Queries
 pub mod LentTrees
 pub mod Demands
+pub mod FilledDemands
 pub mod Answers
 pub mod ListTypes
 pub mod Lending

@@ -5,15 +5,16 @@ use mathlib.Core.List.{List}
 use Prim.Native.Nat.{ℕ, zero, suc}
 use lib.Dec.{eqb}
 use lib.ListN.{length}
-use Rattle.lists.specs.Lists.{pick, over}
+use Rattle.lists.specs.Lists.{pick}
 use Rattle.picture.specs.Pictures.{Picture, valueAt}
 use Rattle.picture.specs.Components.{components}
 use Rattle.picture.specs.Labels.{labels}
 use Rattle.picture.specs.Watersheds.{lowerable, watershed}
-use Rattle.faults.specs.Faults.{outputFault, placeFault}
+use Rattle.faults.specs.Faults.{outputFault, placeFault, sizeFault}
+use Rattle.picture.specs.Filling.{filled}
 use Rattle.picture.specs.Patches.{patchAt}
 use Rattle.answers.specs.declared.Answer.{Answer}
-use Rattle.answers.specs.Answers.{afterCall, workAfter, WorkSays}
+use Rattle.answers.specs.Answers.{workAfter, WorkSays, OutputSays}
 use Rattle.board.specs.declared.query.Ground.{Ground}
 use Rattle.board.specs.declared.query.Ground.the-variants as G
 use Rattle.board.specs.declared.query.Queried.{Queried}
@@ -27,18 +28,22 @@ outputFaultOf p o q =
 abbrev pub placeFaultOf : Picture → List ℕ → ℕ → ℕ
 placeFaultOf p q x = placeFault (p .adjacency) (p .width) (p .height) (length (p .pixels)) (length q) x
 
--- a call that lends output and work: the value, and the list new in front of what was in the output; all as it was after a refusal
-pub record OutputSays (p : Picture) (v : ℕ) (new o o′ q q′ : List ℕ) (r : Answer) : Type 0 where
-  pub call : WorkSays (outputFaultOf p o q) v p q q′ r
-  pub output : o′ ≡ afterCall (outputFaultOf p o q) (over new o) o
+-- the fault of a call that lends output and work and names a least size of parts
+abbrev pub sizeFaultOf : Picture → ℕ → List ℕ → List ℕ → ℕ
+sizeFaultOf p s o q =
+    sizeFault (p .adjacency) (p .width) (p .height) (length (p .pixels)) (length o) (length q) s
 
 -- the labels of the section at height k, and the number of its components
 abbrev pub LabelsSay : Picture → ℕ → List ℕ → List ℕ → List ℕ → List ℕ → Answer → Type 0
-LabelsSay p k o o′ q q′ r = OutputSays p (length (components p k)) (labels p k) o o′ q q′ r
+LabelsSay p k o o′ q q′ r = OutputSays (outputFaultOf p o q) p (length (components p k)) (labels p k) o o′ q q′ r
 
 -- the pixels of the watershed
 abbrev pub WatershedSays : Picture → List ℕ → List ℕ → List ℕ → List ℕ → Answer → Type 0
-WatershedSays p o o′ q q′ r = OutputSays p 0 (watershed p .pixels) o o′ q q′ r
+WatershedSays p o o′ q q′ r = OutputSays (outputFaultOf p o q) p 0 (watershed p .pixels) o o′ q q′ r
+
+-- the pixels of the picture with its dark parts of fewer than s pixels filled
+abbrev pub FillSays : Picture → ℕ → List ℕ → List ℕ → List ℕ → List ℕ → Answer → Type 0
+FillSays p s o o′ q q′ r = OutputSays (sizeFaultOf p s o q) p 0 (filled p s .pixels) o o′ q q′ r
 
 -- 1 if the pixel at the place x is lowerable, else 0
 abbrev pub LowerableSays : Picture → ℕ → List ℕ → List ℕ → Answer → Type 0

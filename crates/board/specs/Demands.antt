@@ -11,7 +11,8 @@ use Rattle.picture.specs.Trees.{Node}
 use Rattle.picture.specs.Patches.{patchAt}
 use Rattle.picture.specs.Kept.{partners, Kept, OthersFail}
 use Rattle.answers.specs.declared.Answer.{Answer}
-use Rattle.board.specs.Calls.{WatershedSays}
+use Rattle.picture.specs.Filling.{filled}
+use Rattle.board.specs.Calls.{WatershedSays, FillSays}
 use Rattle.board.specs.Trees.{TreeSays, PassSays}
 
 -- the picture that an unrefused watershed call leaves in the first n bytes of its output
@@ -23,6 +24,13 @@ abbrev pub Demand-3-of-call : Type 0
 Demand-3-of-call =
     (p : Picture) (o o′ q q′ : List ℕ) (r : Answer) → allBytes (p .pixels) ≡ true → WatershedSays p o o′ q q′ r → r .number ≡ 0 →
     Kept p (leftBy p o′) × OthersFail p (leftBy p o′)
+
+-- demand 3 of a board that fills: the filling call leaves the filled picture, and what the watershed call leaves of it keeps that picture's parts, tree and passes
+abbrev pub Demand-3-of-filled : Type 0
+Demand-3-of-filled =
+    (p : Picture) (s : ℕ) (o o′ q q′ : List ℕ) (r : Answer) → allBytes (p .pixels) ≡ true → FillSays p s o o′ q q′ r → r .number ≡ 0 →
+    (u u′ v v′ : List ℕ) (c : Answer) → WatershedSays (leftBy p o′) u u′ v v′ c → c .number ≡ 0 →
+    (leftBy p o′ ≡ filled p s) × Kept (filled p s) (leftBy (filled p s) u′) × OthersFail (filled p s) (leftBy (filled p s) u′)
 
 -- the node of a number by the answered heights and first places
 abbrev pub answeredNode : List ℕ → List ℕ → ℕ → Node

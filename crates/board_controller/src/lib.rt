@@ -1,6 +1,7 @@
 // The calls for firmware in C: numbers, bytes and 16-bit memory as they are lent, the answer as one number.
 use board::check_tree;
 use board::component_tree;
+use board::fill_small_parts;
 use board::is_lowerable;
 use board::label_section;
 use board::pass_between;
@@ -10,7 +11,7 @@ use figure_lists::list_figures;
 use packed_answers::packed;
 use packed_answers::packed_query;
 ghost use Rattle.picture.specs.Pictures.{pictureOf};
-ghost use Rattle.board.specs.Calls.{LabelsSay, LowerableSays, WatershedSays, QuerySays};
+ghost use Rattle.board.specs.Calls.{LabelsSay, LowerableSays, WatershedSays, FillSays, QuerySays};
 ghost use Rattle.board.specs.Trees.{TreeSays, CheckSays, PassSays};
 ghost use Rattle.packed_answers.specs.Packed.{answerIn, queriedIn};
 ghost use Rattle.figure_lists.specs.Figures.{FiguresSay};
@@ -151,6 +152,22 @@ pub extern "C" fn controller_watershed_of(
     ensures { λ r. ⌜ WatershedSays (pictureOf adjacency width height (now (pixels .entry))) (now (out .entry)) (now (out .exit)) (now (work .entry)) (now (work .exit)) (answerIn r) ⌝ }
 {
     packed(watershed_of(adjacency, width, height, pixels, out, work))
+}
+
+// The picture with its dark parts of fewer than s pixels filled; the value is 0.
+#[no_mangle]
+pub extern "C" fn controller_fill_small_parts(
+    adjacency: u32,
+    width: u32,
+    height: u32,
+    pixels: &[u8],
+    s: u32,
+    out: &mut [u8],
+    work: &mut [u16],
+) -> u64
+    ensures { λ r. ⌜ FillSays (pictureOf adjacency width height (now (pixels .entry))) s (now (out .entry)) (now (out .exit)) (now (work .entry)) (now (work .exit)) (answerIn r) ⌝ }
+{
+    packed(fill_small_parts(adjacency, width, height, pixels, s, out, work))
 }
 
 // The value of the pixel at a place, and the number of its patch, 0 for the line.

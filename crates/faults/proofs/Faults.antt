@@ -4,15 +4,16 @@ use mathlib.Core.Bool.{Bool, true, false, _||_}
 use mathlib.Core.Logic.{_≢_}
 use Prim.Native.Nat.{ℕ, zero, suc, _*_, _≤_, _<_}
 use native.Mathlib.Omega.{arith}
-use lib.Dec.{ltb, leb}
+use lib.Dec.{eqb, ltb, leb}
 use lib.ListN.{length, getD}
-use borrow.Author.Tests.{eqb-true, ltb-false, leb-false, le-ltb}
+use borrow.Author.Tests.{eqb-true, eqb-false, ltb-false, leb-false, le-ltb}
 use Rattle.picture.specs.Pictures.{Picture, isPicture}
 use Rattle.faults.specs.PictureFault.{firstOf, when, pictureFault, pictureFaultOf}
+use Rattle.lists.proofs.Tests.{or-fails}
 use Rattle.picture.proofs.Sides.{sides-area}
 use Rattle.faults.proofs.Accepted.{no-fault, accepted}
 use Rattle.topology.proofs.Accepted.{at-byte}
-use Rattle.faults.specs.Faults.{workFault, workFaultOf, outputFault, placeFault}
+use Rattle.faults.specs.Faults.{workFault, workFaultOf, outputFault, placeFault, sizeUnfit, sizeFault}
 use Rattle.faults.specs.Steps.{Faultless, Admitted}
 
 -- the first of two numbers
@@ -94,6 +95,20 @@ module _ (a w h l : ℕ) where
       pub output-enough : outputFault a w h l out work ≡ 0 → (workFault a w h l work ≡ 0) × (w * h ≤ out)
       unfolding outputFault
       output-enough e = let z = then-none _ 8 _ _ refl e in (z .0, ltb-false out (w * h) (z .1))
+
+      module _ (s : ℕ) where
+        pub size-counted : firstOf (outputFault a w h l out work) (when (sizeUnfit l s) 13) ≡ sizeFault a w h l out work s
+        unfolding sizeFault
+        size-counted =
+            first-later (outputFault a w h l out work) l (w * h) (λ n. when (sizeUnfit n s) 13) (λ e. work-size (output-enough e .0))
+
+        pub size-enough : sizeFault a w h l out work s ≡ 0 → (outputFault a w h l out work ≡ 0) × (1 ≤ s) × (s ≤ w * h)
+        unfolding sizeFault
+        size-enough e =
+            let z = then-none _ 12 _ _ refl e in
+            let (b, c) = or-fails (eqb s 0) (ltb (w * h) s) (z .1) in
+            let d : s ≢ 0 = eqb-false s 0 b in
+            (z .0, omega arith, ltb-false (w * h) s c)
 
     module _ (x : ℕ) where
       pub place-counted : firstOf (workFault a w h l work) (when (leb l x) 10) ≡ placeFault a w h l work x

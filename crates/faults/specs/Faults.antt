@@ -1,6 +1,7 @@
--- The fault of a call's arguments, from numbers and lengths alone: 7, 3, 8, then 9, then 10.
+-- The fault of a call's arguments, from numbers and lengths alone: 7, 3, 8, then 9, then 10 or 13.
+use mathlib.Core.Bool.{Bool, _||_}
 use Prim.Native.Nat.{ℕ, _*_}
-use lib.Dec.{ltb, leb}
+use lib.Dec.{eqb, ltb, leb}
 use lib.ListN.{length}
 use Rattle.picture.specs.Pictures.{Picture}
 use Rattle.faults.specs.PictureFault.{firstOf, when, pictureFault}
@@ -20,3 +21,11 @@ outputFault a w h l out work = firstOf (workFault a w h l work) (when (ltb out (
 -- the fault of a picture's arguments and work, then 10 for a place that is n or more
 unfoldable pub placeFault : ℕ → ℕ → ℕ → ℕ → ℕ → ℕ → ℕ
 placeFault a w h l work x = firstOf (workFault a w h l work) (when (leb (w * h) x) 10)
+
+-- a least size is 0 or above n
+abbrev pub sizeUnfit : ℕ → ℕ → Bool
+sizeUnfit n s = eqb s 0 || ltb n s
+
+-- the fault of a picture's arguments, work and output, then 13 for an unfit least size
+unfoldable pub sizeFault : ℕ → ℕ → ℕ → ℕ → ℕ → ℕ → ℕ → ℕ
+sizeFault a w h l out work s = firstOf (outputFault a w h l out work) (when (sizeUnfit (w * h) s) 13)

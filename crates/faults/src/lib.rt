@@ -9,7 +9,7 @@ ghost use mathlib.Core.Bool.{_||_};
 ghost use Prim.Native.Nat.{min};
 ghost use lib.Dec.{ltb, leb};
 ghost use Rattle.faults.specs.PictureFault.{firstOf, when};
-ghost use Rattle.faults.specs.Faults.{workFault, outputFault, placeFault};
+ghost use Rattle.faults.specs.Faults.{workFault, outputFault, placeFault, sizeUnfit, sizeFault};
 
 // A fault, then 9 for lent memory with fewer entries than needed.
 pub fn short_after(fault: u8, length: usize, needed: usize) -> u8
@@ -67,6 +67,29 @@ pub fn places_fault(fault: u8, n: usize, x: u32, y: u32) -> u8
     ensures { λ r. ⌜ r ≡ firstOf fault (when (leb n x || leb n y) 10) ⌝ }
 {
     place_after(place_after(fault, n, y), n, x)
+}
+
+// A fault, then 13 for a least size that is 0 or above n.
+pub fn size_after(fault: u8, n: usize, s: u32) -> u8
+    ensures { λ r. ⌜ r ≡ firstOf fault (when (sizeUnfit n s) 13) ⌝ }
+{
+    if fault != 0 {
+        return fault;
+    }
+    if s == 0 {
+        return 13;
+    }
+    if n < s as usize {
+        return 13;
+    }
+    0
+}
+
+// A picture's arguments, the lengths of work and output, and a least size of parts.
+pub fn size_fault(a: u32, w: u32, h: u32, length: usize, out: usize, work: usize, s: u32) -> u8
+    ensures { λ r. ⌜ r ≡ sizeFault a w h length out work s ⌝ }
+{
+    size_after(output_fault(a, w, h, length, out, work), length, s)
 }
 
 // The least of four lengths.

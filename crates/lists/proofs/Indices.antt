@@ -4,9 +4,9 @@ use mathlib.Core.Bool.{Bool, true}
 use mathlib.Core.Logic.{_⊎_, inl, inr, by-cases}
 use mathlib.Core.List.{List, [], _∷_, map, List·Memᴰ, List·Memᴰ·head, List·Memᴰ·tail}
 use Prim.Native.Nat.{ℕ, zero, suc, _≤_, _<_}
-use native.Mathlib.Decide.{ℕ-discrete}
+use native.Mathlib.Decide.{ℕ-discrete, decLt}
 use native.Mathlib.Omega.{arith}
-use lib.ListN.{length, getD}
+use lib.ListN.{length, getD, List·getD-eq-default}
 use Rattle.lists.specs.Lists.{tally}
 use Rattle.lists.proofs.Tests.{on-test, test-false}
 use Rattle.lists.proofs.Lists.{tally-in, tally-out, tally-none}
@@ -19,6 +19,13 @@ below-suc x P f g y h = by-cases (ℕ-discrete y x) (λ e. subst P (sym e) g) (�
 -- what holds of k, and of h if h is greater
 pub from-next : (P : ℕ → Type 0) (k h : ℕ) → k ≤ h → P k → (suc k ≤ h → P h) → P h
 from-next P k h a e f = by-cases (ℕ-discrete k h) (λ i. subst P i e) (λ d. f (omega arith))
+
+-- what holds of the default, and of the entries below the length
+pub every-entry :
+    {A : Type 0} (d : A) (l : List A) (P : ℕ → A → Type 0) → ((i : ℕ) → P i d) → ((i : ℕ) → i < length l → P i (getD l i d)) →
+    (i : ℕ) → P i (getD l i d)
+every-entry d l P e f i =
+    by-cases (decLt i (length l)) (f i) (λ h. subst (P i) (sym (List·getD-eq-default l d {n = i} (omega arith))) (e i))
 
 pub mem-index : {A : Type 0} (d : A) {x : A} {l : List A} → List·Memᴰ x l → (i : ℕ) × (i < length l) × (getD l i d ≡ x)
 mem-index d (List·Memᴰ·head e) = (0, omega arith, sym e)

@@ -119,16 +119,20 @@ module _ {A : Type 0} (s t : A → Bool) where
       let e = h x (List·Memᴰ·head refl) in
       ap (λ (b : Bool). pick b 1 0 + tally s xs) e ∙ ap (λ (m : ℕ). pick (t x) 1 0 + m) r
 
-  -- a stronger test passes no more often, and if as often then alike
-  pub tally-stronger : (l : List A) → ((x : A) → s x ≡ true → t x ≡ true) → tally s l ≤ tally t l
-  tally-stronger [] h = omega arith
-  tally-stronger (x ∷ xs) h =
-      let r = tally-stronger xs h in
+  -- a test that is stronger on the members passes no more often
+  pub tally-fewer : (l : List A) → ((x : A) → List·Memᴰ x l → s x ≡ true → t x ≡ true) → tally s l ≤ tally t l
+  tally-fewer [] h = omega arith
+  tally-fewer (x ∷ xs) h =
+      let r = tally-fewer xs (λ y m. h y (List·Memᴰ·tail m)) in
       on-test (s x)
-      (λ e. let p = tally-in s x xs e in let q = tally-in t x xs (h x e) in omega arith)
+      (λ e. let p = tally-in s x xs e in let q = tally-in t x xs (h x (List·Memᴰ·head refl) e) in omega arith)
       (λ e.
       let p = tally-out s x xs e in
       on-test (t x) (λ g. let q = tally-in t x xs g in omega arith) (λ g. let q = tally-out t x xs g in omega arith))
+
+  -- a stronger test passes no more often, and if as often then alike
+  pub tally-stronger : (l : List A) → ((x : A) → s x ≡ true → t x ≡ true) → tally s l ≤ tally t l
+  tally-stronger l h = tally-fewer l (λ x m. h x)
 
   pub tally-equal : (l : List A) → ((x : A) → s x ≡ true → t x ≡ true) → tally s l ≡ tally t l → {x : A} → List·Memᴰ x l → t x ≡ true → s x ≡ true
   tally-equal [] h e m p = absurd (List·Memᴰ·not-nil m)

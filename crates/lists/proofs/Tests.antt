@@ -35,6 +35,10 @@ pub or-fails : (a b : Bool) → (a || b) ≡ false → (a ≡ false) × (b ≡ f
 or-fails true b e = absurd (true≢false e)
 or-fails false b e = (refl, e)
 
+pub or-neither : (a b : Bool) → a ≡ false → b ≡ false → (a || b) ≡ false
+or-neither true b e f = e
+or-neither false b e f = f
+
 -- an implication of tests
 pub implied : (a b : Bool) → (not a || b) ≡ true → a ≡ true → b ≡ true
 implied true b e p = e

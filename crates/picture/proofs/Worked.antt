@@ -1,4 +1,4 @@
--- The pictures worked by hand, H1 to H10, their parts, trees, a pass, labels and patches: each table by one test that antt computes.
+-- The pictures worked by hand, H1 to H10, their parts, trees, a pass, labels, patches and fillings: each table by one test that antt computes.
 use mathlib.Core.Path.{_≡_, refl}
 use mathlib.Core.Bool.{Bool, true, false, _&&_}
 use mathlib.Core.List.{List, [], _∷_, map}
@@ -11,6 +11,7 @@ use Rattle.picture.specs.Passes.{pass}
 use Rattle.picture.specs.Labels.{labels}
 use Rattle.picture.specs.Trees.{Tree, isBranch, nodesAt, nodes, fatherOf, mapOf, treeOf, isLeaf}
 use Rattle.picture.specs.Watersheds.{lowerable, best, watershed}
+use Rattle.picture.specs.Filling.{filledAt, filled}
 use Rattle.picture.specs.Patches.{patchNodes, depthOf, Patch, patchOf, patches, patchAt, lineCount, centre}
 use Rattle.picture.specs.Kept.{keepsAt, flat}
 
@@ -160,3 +161,28 @@ patchesHold r =
 pub worked-patches : all patchesHold patch-table ≡ true
 unfolding adjacent componentAt components isBranch nodesAt nodes fatherOf isLeaf patchNodes depthOf patchOf patches patchAt lineCount
 worked-patches = refl
+
+-- a picture filled with a least size, and the pixels then
+pub record FilledRow : Type 0 where
+  pub picture : Picture
+  pub size : ℕ
+  pub pixels : List ℕ
+
+abbrev filledRow : Picture → ℕ → List ℕ → FilledRow
+filledRow p s xs = record { picture = p; size = s; pixels = xs }
+
+-- H3, H10, H4 and H5
+abbrev filled-table : List FilledRow
+filled-table =
+    filledRow h3 1 (3 ∷ 1 ∷ 4 ∷ 0 ∷ 2 ∷ []) ∷
+    filledRow h3 2 (3 ∷ 3 ∷ 4 ∷ 2 ∷ 2 ∷ []) ∷
+    filledRow h3 3 (4 ∷ 4 ∷ 4 ∷ 4 ∷ 4 ∷ []) ∷
+    filledRow h10 2 (3 ∷ 5 ∷ 3 ∷ 3 ∷ 3 ∷ 3 ∷ []) ∷
+    filledRow (pictureOf 4 2 2 (0 ∷ 5 ∷ 5 ∷ 0 ∷ [])) 2 (5 ∷ 5 ∷ 5 ∷ 5 ∷ []) ∷
+    filledRow (pictureOf 8 2 2 (0 ∷ 5 ∷ 5 ∷ 0 ∷ [])) 2 (0 ∷ 5 ∷ 5 ∷ 0 ∷ []) ∷
+    []
+
+-- the fillings of the pictures are those of the table
+pub worked-filled : all (λ r. sameList (filled (r .picture) (r .size) .pixels) (r .pixels)) filled-table ≡ true
+unfolding adjacent componentAt filledAt filled
+worked-filled = refl

@@ -30,3 +30,4 @@ pub mod PatchesKept
 pub mod FlatWall
 pub mod PatchBounds
 pub mod TreeLists
+pub mod Filled

@@ -5,8 +5,8 @@ use native.Mathlib.Omega.{arith}
 use lib.ListN.{length, getD}
 use Rattle.picture.specs.Pictures.{Picture, pictureOf}
 use Rattle.topology.proofs.ComponentNumbers.{length-labels}
-use Rattle.answers.proofs.Calls.{lent-length, back-room, behind-lent}
-use Rattle.board.proofs.Outputs.{OutputLent, output-refused, output-lent, output-done}
+use Rattle.answers.proofs.Calls.{lent-length, back-room, behind-lent, output-refused, output-done}
+use Rattle.board.proofs.Outputs.{OutputLent, output-lent}
 use borrow.Author.Needs.{needs}
 use Rattle.board.proofs.label_section.Statement.{statement}
 use Rattle.board.proofs.label_section.Tie as tie
@@ -26,7 +26,7 @@ bytes : (c : tie.Else1) (i : ℕ) → getD (origin c .args .pixels .now) i 0 ≤
 bytes c i = let q = c .before .before .before .before .shared-slice-known .given i in omega arith
 
 lends : (c : tie.Else1) → let s = origin c in OutputLent (pictured s) (s .args .out .now) (s .args .work .now)
-lends c = output-lent _ _ _ _ (c .before .output-fault .ensures) (c .if1 .left) (bytes c)
+lends c = output-lent _ _ _ (sym (c .before .output-fault .ensures) ∙ c .if1 .left) (bytes c)
 
 output-fault-requires : tie.Need-output-fault-requires
 output-fault-requires c κs = search needs
@@ -36,7 +36,7 @@ refused-requires c κs = search needs
 
 returns : tie.Need-returns
 returns c =
-    output-refused _ _ _ _ (c .before .before .output-fault .ensures) (c .before .if1 .taken) _ _ _ (c .refused .ensures)
+    output-refused _ _ _ _ _ _ _ _ (c .before .before .output-fault .ensures) (c .before .if1 .taken) (c .refused .ensures)
 
 slice-relend-prefix-label : tie.Need-slice-relend-prefix-label
 slice-relend-prefix-label c = omega (arith, lends c .core .faultless .size, lends c .out)
@@ -84,7 +84,7 @@ returns-2 c =
     let e = t .before .before .before in
     let s = origin e in
     let a = lends e .core in
-    output-done _ _ _ _ (e .before .output-fault .ensures) (e .if1 .left) (bytes e) _ _ _ _ _ _ _ (t .label .ensures .count)
+    output-done _ _ _ _ _ _ _ _ _ _ _ _ (sym (e .before .output-fault .ensures) ∙ e .if1 .left) (t .label .ensures .count) (a .faultless .size)
     (length-labels (pictured s) _ ∙ sym (a .faultless .size))
     (t .label .ensures .labels)
     (behind-lent (size s) (5 * size s) (t .label .last .1 .1 .1 .1 .1 .1 .0) (s .args .work .now) (t .label .kept .1 .1 .1 .1 .1 .1 .0)

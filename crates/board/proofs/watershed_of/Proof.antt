@@ -1,12 +1,12 @@
 -- `board::watershed_of` meets its contract: a refusal leaves all as it was, and else the core and the end leave what is said.
-use mathlib.Core.Path.{refl}
+use mathlib.Core.Path.{refl, sym, _∙_}
 use Prim.Native.Nat.{ℕ, _*_, _≤_}
 use native.Mathlib.Omega.{arith}
 use lib.ListN.{length, getD}
 use Rattle.picture.specs.Pictures.{Picture, pictureOf}
 use Rattle.topology.proofs.Water.{watershed-watered}
-use Rattle.answers.proofs.Calls.{lent-length, back-room, behind-lent}
-use Rattle.board.proofs.Outputs.{OutputLent, output-refused, output-lent, output-done}
+use Rattle.answers.proofs.Calls.{lent-length, back-room, behind-lent, output-refused, output-done}
+use Rattle.board.proofs.Outputs.{OutputLent, output-lent}
 use borrow.Author.Needs.{needs}
 use Rattle.board.proofs.watershed_of.Statement.{statement}
 use Rattle.board.proofs.watershed_of.Tie as tie
@@ -26,7 +26,7 @@ bytes : (c : tie.Else1) (i : ℕ) → getD (origin c .args .pixels .now) i 0 ≤
 bytes c i = let q = c .before .before .before .before .shared-slice-known .given i in omega arith
 
 lends : (c : tie.Else1) → let s = origin c in OutputLent (pictured s) (s .args .out .now) (s .args .work .now)
-lends c = output-lent _ _ _ _ (c .before .output-fault .ensures) (c .if1 .left) (bytes c)
+lends c = output-lent _ _ _ (sym (c .before .output-fault .ensures) ∙ c .if1 .left) (bytes c)
 
 output-fault-requires : tie.Need-output-fault-requires
 output-fault-requires c κs = search needs
@@ -36,7 +36,7 @@ refused-requires c κs = search needs
 
 returns : tie.Need-returns
 returns c =
-    output-refused _ _ _ _ (c .before .before .output-fault .ensures) (c .before .if1 .taken) _ _ _ (c .refused .ensures)
+    output-refused _ _ _ _ _ _ _ _ (c .before .before .output-fault .ensures) (c .before .if1 .taken) (c .refused .ensures)
 
 mul-whole : tie.Need-mul-whole
 mul-whole c = omega (arith, lends c .core .faultless .size, lends c .core .faultless .few)
@@ -85,7 +85,7 @@ returns-2 c =
     let e = t .before .before .before in
     let s = origin e in
     let a = lends e .core in
-    output-done _ _ _ _ (e .before .output-fault .ensures) (e .if1 .left) (bytes e) _ _ _ _ _ _ _ refl
+    output-done _ _ _ _ _ _ _ _ _ _ _ _ (sym (e .before .output-fault .ensures) ∙ e .if1 .left) refl (a .faultless .size)
     (watershed-watered (pictured s) (a .faultless .size) .size)
     (t .watershed-core .ensures)
     (behind-lent (5 * size s) (5 * size s) (t .watershed-core .last .1 .1 .1 .1 .1 .0) (s .args .work .now) (t .watershed-core .kept .1 .1 .1 .1 .1 .0)
