@@ -1,8 +1,11 @@
 .PHONY: run test bench controller
-# Builds `holds` and prints the hold list of the example wall; what the build says goes to standard error.
+# Builds `holds` and prints hold lists: of the example wall, and of the wall with chalk smears, without and with filling.
+# What the build says goes to standard error.
 run:
 	@rt check holds >&2
-	@target/bin/holds < examples/wall.pgm
+	target/bin/holds < examples/wall.pgm
+	target/bin/holds < examples/chalk.pgm
+	target/bin/holds 5 < examples/chalk.pgm
 # The whole gate: proofs, must-fail edits, programs, tests.
 test:
 	bash .ci/run

@@ -16,6 +16,7 @@
  *   patches ADJACENCY WIDTH HEIGHT PIXELS SIZES-LENGTH HEIGHTS-LENGTH
  *         DEPTHS-LENGTH COLUMNS-LENGTH ROWS-LENGTH WORK-LENGTH NUMBER
  *         [COUNT SIZES HEIGHTS DEPTHS COLUMN-SUMS ROW-SUMS]
+ *   fill ADJACENCY WIDTH HEIGHT PIXELS SIZE OUT-LENGTH WORK-LENGTH NUMBER [OUT]
  *
  * cases.h has the form of the fields. Lengths count entries; a 16-bit entry
  * is four hexadecimal digits, highest first. The fields in brackets stand
@@ -42,7 +43,7 @@ enum { SIZES, HEIGHTS, DEPTHS, COLUMNS, ROWS, FIGURES };
         ENTRIES(figures[ROWS])
 
 /* The arguments of a call, and the lists that are lent or expected. */
-static uint32_t node_count, place, other_place;
+static uint32_t node_count, place, other_place, least_size;
 static uint8_t k;
 static size_t out_length, work_length;
 static size_t heights_length, fathers_length, firsts_length, map_length;
@@ -97,11 +98,11 @@ static void take_lent_tree(void)
 }
 
 /* Takes the work length and the number. The value is 0 on a refusal, after a
- * check and after a watershed. */
+ * check, after a watershed and after filling. */
 static void take_work_and_number(void)
 {
     work_length = take_length();
-    number = take_number(12);
+    number = take_number(13);
     value = pixel = patch = 0;
 }
 
@@ -158,13 +159,31 @@ static void take_pass(void)
         value = take_number(255);
 }
 
+/* Takes a picture's bytes as the expected output. */
+static void take_output(void)
+{
+    take_bytes(&out_given);
+    if (out_given.length != pixels_given.length)
+        malformed = 1;
+}
+
 static void take_watershed(void)
 {
     take_picture(&pixels_given);
     out_length = take_length();
     take_work_and_number();
     if (number == 0)
-        take_bytes(&out_given);
+        take_output();
+}
+
+static void take_fill(void)
+{
+    take_picture(&pixels_given);
+    least_size = take_word();
+    out_length = take_length();
+    take_work_and_number();
+    if (number == 0)
+        take_output();
 }
 
 static void take_place(void)
@@ -338,6 +357,16 @@ static int run_watershed(unsigned turn)
     return check(result);
 }
 
+static int run_fill(unsigned turn)
+{
+    prepare_picture_and_work(turn);
+    prepare(&out, out_length, 1, 5, turn);
+    uint64_t result = controller_fill_small_parts(PICTURE, least_size,
+                                                  BYTES(out), ENTRIES(work));
+    expect_given(&out, &out_given);
+    return check(result);
+}
+
 static int run_place(unsigned turn)
 {
     prepare_picture_and_work(turn);
@@ -366,6 +395,7 @@ int main(void)
         {"watershed", take_watershed, run_watershed},
         {"place", take_place, run_place},
         {"patches", take_patches, run_patches},
+        {"fill", take_fill, run_fill},
     };
     return run_cases(kinds, sizeof kinds / sizeof *kinds);
 }

@@ -1,13 +1,15 @@
--- The text for a file by the cases of reading, and the picture of an accepted file.
+-- The text for a file by the cases of reading and of the words; the picture of an accepted file.
 use mathlib.Core.Path.{_≡_, refl, sym, ap, ap₂, _∙_}
-use mathlib.Core.Bool.{true}
+use mathlib.Core.Bool.{Bool, true, false}
 use mathlib.Core.Logic.{_≢_, inl}
 use mathlib.Core.List.{List}
 use Prim.Native.Nat.{ℕ, _+_, _-_, _≤_, _<_}
 use native.Mathlib.Omega.{arith}
+use lib.Dec.{ltb}
 use lib.ListN.{length, getD, take, drop, length-take, length-drop}
 use lib.Seq.{getD-drop}
 use borrow.Author.Tests.{eq-eqb, ne-eqb, lt-ltb, le-ltb}
+use Rattle.lists.specs.Lists.{pick}
 use Rattle.picture.specs.Pictures.{Picture, withPixels, isPicture, pictureOf}
 use Rattle.picture.specs.Watersheds.{watershed}
 use Rattle.lists.proofs.Cuts.{take-rest}
@@ -17,25 +19,58 @@ use Rattle.topology.proofs.Demand.{demand-3}
 use Rattle.p5.specs.Files.{readFile, outcomeNumber, headerOf}
 use Rattle.p5.proofs.Accepted.{accepted-number}
 use Rattle.hold_lines.specs.Lines.{refusedLine}
-use Rattle.hold_list.specs.HoldText.{patchList, holdList, pictureIn, holdText}
+use Rattle.hold_list.specs.HoldText.{patchList, holdList, pictureIn, fileText, filledList, askedSize, programText}
+use Rattle.hold_list.specs.Steps.{askedList}
 
 -- a picture with adjacency 4
 abbrev picture : ℕ → ℕ → List ℕ → Picture
 picture = pictureOf 4
 
+-- the text for a file by the cases of reading, whatever is printed of its picture
+module _ (print : Picture → List ℕ) (f : List ℕ) where
+  file-long : 4096 < length f → fileText print f ≡ refusedLine 12
+  unfolding fileText
+  file-long h = rw (lt-ltb 4096 (length f) h, fileText)
+
+  file-refused : length f ≤ 4096 → outcomeNumber (readFile f) ≢ 0 → fileText print f ≡ refusedLine (outcomeNumber (readFile f))
+  unfolding fileText
+  file-refused h d = rw (le-ltb 4096 (length f) h, ne-eqb (outcomeNumber (readFile f)) 0 d, fileText)
+
+  file-print : length f ≤ 4096 → outcomeNumber (readFile f) ≡ 0 → fileText print f ≡ print (pictureIn f)
+  unfolding fileText
+  file-print h e = rw (le-ltb 4096 (length f) h, eq-eqb (outcomeNumber (readFile f)) 0 e, fileText)
+
+-- a test may come before reading or after it
+test-later : (b : Bool) (g h : Picture → List ℕ) (f : List ℕ) → pick b (fileText g f) (fileText h f) ≡ fileText (λ p. pick b (g p) (h p)) f
+test-later true g h f = refl
+test-later false g h f = refl
+
+-- the same of what the program prints
+module _ (words : ℕ) (a f : List ℕ) where
+  asked : programText words a f ≡ fileText (askedList words a) f
+  unfolding programText askedList
+  asked = test-later (ltb words 2) holdList (filledList (askedSize words a)) f
+
+  pub text-long : 4096 < length f → programText words a f ≡ refusedLine 12
+  text-long h = asked ∙ file-long (askedList words a) f h
+
+  pub text-refused : length f ≤ 4096 → outcomeNumber (readFile f) ≢ 0 → programText words a f ≡ refusedLine (outcomeNumber (readFile f))
+  text-refused h d = asked ∙ file-refused (askedList words a) f h d
+
+  pub text-list : length f ≤ 4096 → outcomeNumber (readFile f) ≡ 0 → programText words a f ≡ askedList words a (pictureIn f)
+  text-list h e = asked ∙ file-print (askedList words a) f h e
+
+-- what is printed of a picture by the number of words
+module _ (words : ℕ) (a : List ℕ) (p : Picture) where
+  pub asked-holds : words < 2 → askedList words a p ≡ holdList p
+  unfolding askedList
+  asked-holds h = rw (lt-ltb words 2 h)
+
+  pub asked-filled : 2 ≤ words → askedList words a p ≡ filledList (askedSize words a) p
+  unfolding askedList
+  asked-filled h = rw (le-ltb words 2 h)
+
 module _ (f : List ℕ) where
-  pub text-long : 4096 < length f → holdText f ≡ refusedLine 12
-  unfolding holdText
-  text-long h = rw (lt-ltb 4096 (length f) h, holdText)
-
-  pub text-refused : length f ≤ 4096 → outcomeNumber (readFile f) ≢ 0 → holdText f ≡ refusedLine (outcomeNumber (readFile f))
-  unfolding holdText
-  text-refused h d = rw (le-ltb 4096 (length f) h, ne-eqb (outcomeNumber (readFile f)) 0 d, holdText)
-
-  pub text-list : length f ≤ 4096 → outcomeNumber (readFile f) ≡ 0 → holdText f ≡ holdList (pictureIn f)
-  unfolding holdText
-  text-list h e = rw (le-ltb 4096 (length f) h, eq-eqb (outcomeNumber (readFile f)) 0 e, holdText)
-
   -- an accepted file holds an accepted picture
   pub file-picture : outcomeNumber (readFile f) ≡ 0 → ((i : ℕ) → getD f i 0 ≤ 255) → isPicture (pictureIn f) ≡ true
   file-picture e b =
@@ -61,8 +96,10 @@ module _ (f : List ℕ) where
       ap₂ (λ (a b : ℕ). picture a b (drop (headerOf (readFile f) .offset) f)) ew eh
 
 -- more than 4,096 bytes of an input: refusal 12
-pub text-counted : (count : ℕ) (input : List ℕ) → 4096 < count → 4096 < length input → holdText (take count input) ≡ refusedLine 12
-text-counted count input h g = text-long (take count input) (omega (arith, length-take count input))
+pub text-counted :
+    (words : ℕ) (a : List ℕ) (count : ℕ) (input : List ℕ) → 4096 < count → 4096 < length input →
+    programText words a (take count input) ≡ refusedLine 12
+text-counted words a count input h g = text-long words a (take count input) (omega (arith, length-take count input))
 
 -- bytes that are the pixels of the watershed of an accepted picture
 module _ (p : Picture) (h : isPicture p ≡ true) (xs : List ℕ) (e : xs ≡ watershed p .pixels) where

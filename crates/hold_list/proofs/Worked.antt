@@ -1,4 +1,4 @@
--- The text of the picture H3 and of an empty file, by computation.
+-- Texts by computation: H3 and an empty file without an argument, H3 with the argument 2, what names no size.
 use mathlib.Core.Path.{_≡_, refl}
 use mathlib.Core.List.{List, [], _∷_}
 use Prim.Native.Nat.{ℕ}
@@ -7,10 +7,12 @@ use Rattle.picture.specs.Components.{componentAt, components}
 use Rattle.picture.specs.Trees.{isBranch, nodesAt, nodes, fatherOf, isLeaf}
 use Rattle.picture.specs.Watersheds.{lowerable, best, watershed}
 use Rattle.picture.specs.Patches.{patchNodes, depthOf, patchOf, patches, patchAt, lineCount}
+use Rattle.picture.specs.Filling.{filledAt, filled}
 use Rattle.p5.specs.Headers.{gapEnd, digitsAt, numberAt, endAt, walk}
 use Rattle.p5.specs.Files.{onPixels, onHeader, readFile}
 use Rattle.text.specs.Decimal.{decimal}
-use Rattle.hold_list.specs.HoldText.{patchList, holdList, holdText}
+use Rattle.hold_lines.specs.Lines.{refusedLine}
+use Rattle.hold_list.specs.HoldText.{patchList, holdList, fileText, filledList, namedSize, programText}
 
 -- H3 with largest sample 9
 abbrev h3 : List ℕ
@@ -28,11 +30,40 @@ h3Text =
     -- 2 2 0 4 35 0
     50 ∷ 32 ∷ 50 ∷ 32 ∷ 48 ∷ 32 ∷ 52 ∷ 32 ∷ 51 ∷ 53 ∷ 32 ∷ 48 ∷ 10 ∷ []
 
-pub worked-text : holdText h3 ≡ h3Text
-unfolding adjacent componentAt components isBranch nodesAt nodes fatherOf lowerable best watershed isLeaf patchNodes depthOf patchOf patches patchAt lineCount gapEnd digitsAt numberAt endAt walk onPixels onHeader readFile decimal patchList holdList holdText
+pub worked-text : programText 1 [] h3 ≡ h3Text
+unfolding adjacent componentAt components isBranch nodesAt nodes fatherOf lowerable best watershed isLeaf patchNodes depthOf patchOf patches patchAt lineCount gapEnd digitsAt numberAt endAt walk onPixels onHeader readFile decimal patchList holdList fileText programText
 worked-text = refl
 
 -- an empty file is refused with number 1
-pub worked-refusal : holdText [] ≡ 114 ∷ 101 ∷ 102 ∷ 117 ∷ 115 ∷ 101 ∷ 100 ∷ 32 ∷ 49 ∷ 10 ∷ []
-unfolding readFile decimal holdText
+pub worked-refusal : programText 1 [] [] ≡ 114 ∷ 101 ∷ 102 ∷ 117 ∷ 115 ∷ 101 ∷ 100 ∷ 32 ∷ 49 ∷ 10 ∷ []
+unfolding readFile decimal fileText programText
 worked-refusal = refl
+
+-- what is printed for H3 with the argument 2: filled it is 3 3 4 2 2
+abbrev h3Filled : List ℕ
+h3Filled =
+    -- picture 5 1
+    112 ∷ 105 ∷ 99 ∷ 116 ∷ 117 ∷ 114 ∷ 101 ∷ 32 ∷ 53 ∷ 32 ∷ 49 ∷ 10 ∷
+    -- patches 2 line 1
+    112 ∷ 97 ∷ 116 ∷ 99 ∷ 104 ∷ 101 ∷ 115 ∷ 32 ∷ 50 ∷ 32 ∷ 108 ∷ 105 ∷ 110 ∷ 101 ∷ 32 ∷ 49 ∷ 10 ∷
+    -- 1 2 3 1 5 0
+    49 ∷ 32 ∷ 50 ∷ 32 ∷ 51 ∷ 32 ∷ 49 ∷ 32 ∷ 53 ∷ 32 ∷ 48 ∷ 10 ∷
+    -- 2 2 2 2 35 0
+    50 ∷ 32 ∷ 50 ∷ 32 ∷ 50 ∷ 32 ∷ 50 ∷ 32 ∷ 51 ∷ 53 ∷ 32 ∷ 48 ∷ 10 ∷ []
+
+pub worked-filled : programText 2 (50 ∷ []) h3 ≡ h3Filled
+unfolding adjacent componentAt components isBranch nodesAt nodes fatherOf lowerable best watershed isLeaf patchNodes depthOf patchOf patches patchAt lineCount gapEnd digitsAt numberAt endAt walk onPixels onHeader readFile decimal filledAt filled patchList holdList fileText filledList namedSize programText
+worked-filled = refl
+
+-- no size is named by the letter x, by no bytes, by six digits, by two arguments
+-- nor are 0 and 6 sizes of H3, which has 5 pixels; a refused file comes before all this
+pub worked-unnamed :
+    (programText 2 (120 ∷ []) h3 ≡ refusedLine 13) ×
+    (programText 2 [] h3 ≡ refusedLine 13) ×
+    (programText 2 (48 ∷ 48 ∷ 48 ∷ 48 ∷ 48 ∷ 50 ∷ []) h3 ≡ refusedLine 13) ×
+    (programText 3 (50 ∷ []) h3 ≡ refusedLine 13) ×
+    (programText 2 (48 ∷ []) h3 ≡ refusedLine 13) ×
+    (programText 2 (54 ∷ []) h3 ≡ refusedLine 13) ×
+    (programText 2 (120 ∷ []) [] ≡ refusedLine 1)
+unfolding gapEnd digitsAt numberAt endAt walk onPixels onHeader readFile decimal fileText filledList namedSize programText
+worked-unnamed = (refl, refl, refl, refl, refl, refl, refl)

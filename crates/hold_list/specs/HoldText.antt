@@ -1,12 +1,16 @@
 -- What the program `holds` prints for a file.
-use mathlib.Core.Bool.{true, false}
+use mathlib.Core.Bool.{true, false, _&&_}
 use mathlib.Core.List.{List, [], _∷_, _++_}
 use Prim.Native.Nat.{ℕ}
-use lib.Dec.{eqb, ltb}
+use lib.Dec.{eqb, ltb, leb}
 use lib.ListN.{length, drop}
-use Rattle.picture.specs.Pictures.{Picture, pictureOf}
+use Rattle.lists.specs.Lists.{pick, all}
+use Rattle.picture.specs.Pictures.{Picture, places, pictureOf}
 use Rattle.picture.specs.Watersheds.{watershed}
 use Rattle.picture.specs.Patches.{Patch, patches, lineCount}
+use Rattle.picture.specs.Filling.{filled}
+use Rattle.faults.specs.Faults.{sizeUnfit}
+use Rattle.p5.specs.Headers.{isDigit, decimalValue}
 use Rattle.p5.specs.Files.{readFile, outcomeNumber, headerOf}
 use Rattle.hold_lines.specs.Lines.{headLines, refusedLine, lineOf}
 
@@ -33,10 +37,31 @@ pictureIn f =
     let h = headerOf (readFile f) in
     pictureOf 4 (h .width) (h .height) (drop (h .offset) f)
 
--- the text for a file: 12 for more than 4096 bytes, else the refusal of reading, else the hold list
-unfoldable pub holdText : List ℕ → List ℕ
-holdText f =
+-- the text for a file: 12 for more than 4096 bytes, else the refusal of reading, else what is
+-- printed of its picture
+unfoldable pub fileText : (Picture → List ℕ) → List ℕ → List ℕ
+fileText print f =
     elim (ltb 4096 (length f)) [
       | true ↦ refusedLine 12
-      | false ↦ elim (eqb (outcomeNumber (readFile f)) 0) [ true ↦ holdList (pictureIn f) | false ↦ refusedLine (outcomeNumber (readFile f)) ]
+      | false ↦ elim (eqb (outcomeNumber (readFile f)) 0) [ true ↦ print (pictureIn f) | false ↦ refusedLine (outcomeNumber (readFile f)) ]
     ]
+
+-- the text for a file without an argument: the hold list of its picture
+abbrev pub holdText : List ℕ → List ℕ
+holdText f = fileText holdList f
+
+-- the hold list of a picture filled with the least size s; 13 where s is 0 or above n
+unfoldable pub filledList : ℕ → Picture → List ℕ
+filledList s p = pick (sizeUnfit (places p) s) (refusedLine 13) (holdList (filled p s))
+
+-- the least size that an argument names: 1 to 5 decimal digits; else 0, which is refused
+unfoldable pub namedSize : List ℕ → ℕ
+namedSize a = pick (leb 1 (length a) && (leb (length a) 5 && all isDigit a)) (decimalValue a) 0
+
+-- the least size that the program's words name, its own name among them: of two the second one's; of more 0, which is refused
+abbrev pub askedSize : ℕ → List ℕ → ℕ
+askedSize words a = pick (eqb words 2) (namedSize a) 0
+
+-- what `holds` prints for a file, the number of its words, and its argument a; with fewer than two words it has no argument
+unfoldable pub programText : ℕ → List ℕ → List ℕ → List ℕ
+programText words a f = pick (ltb words 2) (holdText f) (fileText (filledList (askedSize words a)) f)

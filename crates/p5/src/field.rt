@@ -59,7 +59,7 @@ fn digits_end(value: u32, at: usize, end: usize) -> Field
 }
 
 // The digits of a number.
-fn digits_at(file: &[u8], at: usize) -> Field
+pub fn digits_at(file: &[u8], at: usize) -> Field
     ensures { λ r. ⌜ r ≡ digitsAt (now (file .entry)) at ⌝ }
 {
     let mut value: u32 = 0;

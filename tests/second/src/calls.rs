@@ -14,7 +14,9 @@
 //!     patches ADJACENCY WIDTH HEIGHT PIXELS SIZES-LENGTH HEIGHTS-LENGTH DEPTHS-LENGTH
 //!         COLUMNS-LENGTH ROWS-LENGTH WORK-LENGTH NUMBER
 //!         [COUNT SIZES HEIGHTS DEPTHS COLUMN-SUMS ROW-SUMS]
+//!     fill ADJACENCY WIDTH HEIGHT PIXELS SIZE OUT-LENGTH WORK-LENGTH NUMBER [OUT]
 
+use crate::fills;
 use crate::generate;
 use crate::lent::LentTree;
 use crate::limits::{self, Change};
@@ -83,6 +85,7 @@ fn questions_of_picture(picture: &Picture, lent: LentTree) -> Vec<Question> {
         lengths: [length; FIGURES],
     }));
     questions.extend(questions_of_patches(picture));
+    questions.extend((0..=count + 1).map(|size| Question::Fill { size, out_length }));
     questions.extend((0..count).flat_map(|place| questions_of_place(&lent, count, place)));
     questions
 }
@@ -161,12 +164,17 @@ fn calls_of_h10() -> Vec<Call> {
         Question::Patches {
             lengths: [2; FIGURES],
         },
+        Question::Fill {
+            size: 2,
+            out_length: 6,
+        },
     ];
     exact_calls(&picture, questions)
 }
 
 /// Gives a call a set of the causes 7, 3, 8, 9 by a list, 9 by the work
-/// memory, 10 and 11.
+/// memory, 10 and 11. Filling has 13 instead of the last two: a size of 0
+/// instead of 10, and one above n instead of 11 alone.
 fn give_causes(call: &mut Call, set: usize) {
     let has = |cause: usize| set >> cause & 1 == 1;
     if has(0) {
@@ -195,6 +203,9 @@ fn give_causes(call: &mut Call, set: usize) {
     if has(5) {
         call.question.set_place(set % 2, 6);
     }
+    if has(5) || has(6) {
+        call.question.set_size(if has(5) { 0 } else { 7 });
+    }
 }
 
 /// Calls for the order of refusals: one for each set of causes and each kind
@@ -210,7 +221,7 @@ fn calls_for_the_order() -> Vec<Call> {
 }
 
 /// The numbers that an argument takes in turn, and how it takes one.
-const LIMITS: [(&[u32], &[Change<Call>]); 6] = [
+const LIMITS: [(&[u32], &[Change<Call>]); 7] = [
     (
         &[0, 3, 4, 5, 7, 8, 9, 260, 264, 65_540, u32::MAX],
         &[|call, adjacency| call.adjacency = adjacency],
@@ -248,6 +259,7 @@ const LIMITS: [(&[u32], &[Change<Call>]); 6] = [
             |call, place| call.question.set_place(1, place),
         ],
     ),
+    (&limits::SIZES, &[|call, size| call.question.set_size(size)]),
 ];
 
 /// Calls with one argument at a limit each.
@@ -264,7 +276,7 @@ fn calls_at_the_limits() -> Vec<Call> {
 }
 
 /// Sides, most often so small that the literal functions are quick.
-fn sides(random: &mut Random) -> (usize, usize) {
+pub fn sides(random: &mut Random) -> (usize, usize) {
     match random.below(16) {
         0 => (40, 40),
         1..=4 => generate::sides(random),
@@ -343,7 +355,7 @@ fn question(random: &mut Random, kind: &str, picture: &Picture) -> Question {
 }
 
 /// Breaks one of the arguments.
-fn break_call(random: &mut Random, call: &mut Call) {
+pub fn break_call(random: &mut Random, call: &mut Call) {
     let count = call.pixels.len();
     match random.below(5) {
         0 => call.adjacency = limits::wrong_adjacency(random),
@@ -374,15 +386,20 @@ fn three_calls_of_each_kind(random: &mut Random, picture: &Picture) -> Vec<Call>
     exact_calls(picture, questions.collect())
 }
 
-/// A call for a generated picture, sometimes with broken arguments.
-fn generated_call(random: &mut Random, kind: &str) -> Call {
-    let sides = sides(random);
-    let picture = Picture {
+/// A generated picture with these sides, under one of the adjacencies.
+pub fn generated_picture(random: &mut Random, sides: (usize, usize)) -> Picture {
+    Picture {
         width: sides.0,
         height: sides.1,
         pixels: generate::picture(random, sides).pixels,
         adjacency: random.one_of(&[Adjacency::Four, Adjacency::Eight]),
-    };
+    }
+}
+
+/// A call for a generated picture, sometimes with broken arguments.
+fn generated_call(random: &mut Random, kind: &str) -> Call {
+    let sides = sides(random);
+    let picture = generated_picture(random, sides);
     let question = question(random, kind, &picture);
     let mut call = exact_call(&picture, question);
     call.work_length += random.one_of(&[0, 0, 1, 9, 100]);
@@ -392,7 +409,8 @@ fn generated_call(random: &mut Random, kind: &str) -> Call {
     call
 }
 
-/// All cases, as lines; `count` of each kind are of generated pictures.
+/// All cases, as lines; at least `count` of each kind are of generated
+/// pictures.
 pub fn text(count: usize) -> String {
     let mut calls = calls_of_worked_pictures();
     calls.extend(calls_for_the_order());
@@ -406,6 +424,7 @@ pub fn text(count: usize) -> String {
     for _ in 0..count {
         calls.extend(KINDS.map(|kind| generated_call(&mut random, kind)));
     }
+    calls.extend(fills::calls(count));
     calls.iter().map(|call| call.line() + "\n").collect()
 }
 
@@ -415,7 +434,7 @@ mod tests {
 
     fn number_field(kind: &str) -> usize {
         match kind {
-            "label" => 8,
+            "label" | "fill" => 8,
             "lowerable" | "watershed" | "place" => 7,
             "tree" => 10,
             "check" | "patches" => 11,
@@ -425,7 +444,7 @@ mod tests {
 
     #[test]
     fn every_number_occurs() {
-        let expected: [(&str, &[u32]); 8] = [
+        let expected: [(&str, &[u32]); 9] = [
             ("label", &[0, 3, 7, 8, 9]),
             ("lowerable", &[0, 3, 7, 8, 9, 10]),
             ("tree", &[0, 3, 7, 8, 9]),
@@ -434,6 +453,7 @@ mod tests {
             ("watershed", &[0, 3, 7, 8, 9]),
             ("place", &[0, 3, 7, 8, 9, 10]),
             ("patches", &[0, 3, 7, 8, 9]),
+            ("fill", &[0, 3, 7, 8, 9, 13]),
         ];
         limits::assert_numbers(&text(100), number_field, &expected, 2);
     }

@@ -1,6 +1,6 @@
 //! The edge cases: for each one a name line and what `holds` prints.
 
-use crate::holds;
+use crate::holds::Run;
 
 /// Pixel number `index` of an edge file.
 fn edge_pixel(index: usize, largest: usize) -> u8 {
@@ -16,12 +16,30 @@ fn edge_file(width: usize, height: usize, largest: usize, count: usize, spaces: 
     file
 }
 
-/// The names and files of all edge cases, in order.
-pub fn edge_cases() -> Vec<(String, Vec<u8>)> {
+/// The file with these sides, largest sample 255.
+fn file_of_sides(width: usize, height: usize) -> Vec<u8> {
+    edge_file(width, height, 255, width * height, 0)
+}
+
+/// The file of 3 by 2 with so many pixels.
+fn file_of_pixels(count: usize) -> Vec<u8> {
+    edge_file(3, 2, 255, count, 0)
+}
+
+/// The file of 40 by 40 with so many bytes.
+fn file_of_bytes(length: usize) -> Vec<u8> {
+    let length_without_spaces = file_of_sides(40, 40).len();
+    let file = edge_file(40, 40, 255, 1600, length - length_without_spaces);
+    assert_eq!(file.len(), length);
+    file
+}
+
+/// The names and files of the edge cases without an argument, in order.
+fn cases_of_files() -> Vec<(String, Vec<u8>)> {
     let mut cases = Vec::new();
     for width in [0, 1, 40, 41] {
         for height in [0, 1, 40, 41] {
-            let file = edge_file(width, height, 255, width * height, 0);
+            let file = file_of_sides(width, height);
             cases.push((format!("sides {} {}", width, height), file));
         }
     }
@@ -30,38 +48,71 @@ pub fn edge_cases() -> Vec<(String, Vec<u8>)> {
         cases.push((format!("largest {}", largest), file));
     }
     for count in [5, 6, 7] {
-        let file = edge_file(3, 2, 255, count, 0);
-        cases.push((format!("pixels {}", count), file));
+        cases.push((format!("pixels {}", count), file_of_pixels(count)));
     }
     cases.push(("empty".to_string(), Vec::new()));
-    let length_without_spaces = edge_file(40, 40, 255, 1600, 0).len();
     for length in [4096, 4097] {
-        let file = edge_file(40, 40, 255, 1600, length - length_without_spaces);
-        assert_eq!(file.len(), length);
-        cases.push((format!("bytes {}", length), file));
+        cases.push((format!("bytes {}", length), file_of_bytes(length)));
     }
     cases
 }
 
+/// The name, the arguments and the file of those with arguments, in order.
+fn cases_of_arguments() -> Vec<(&'static str, &'static [&'static str], Vec<u8>)> {
+    let six = || file_of_pixels(6);
+    vec![
+        ("size 0", &["0"], six()),
+        ("size 1", &["1"], six()),
+        ("size 6", &["6"], six()),
+        ("size 7", &["7"], six()),
+        ("digits 5", &["00006"], six()),
+        ("digits 6", &["000006"], six()),
+        ("argument empty", &[""], six()),
+        ("argument 6x", &["6x"], six()),
+        ("arguments 6 6", &["6", "6"], six()),
+        ("size 1600", &["1600"], file_of_sides(40, 40)),
+        ("size 1601", &["1601"], file_of_sides(40, 40)),
+        ("size 0 sides 41 41", &["0"], file_of_sides(41, 41)),
+        ("size 0 bytes 4097", &["0"], file_of_bytes(4097)),
+    ]
+}
+
+/// All edge cases, in order.
+pub fn edge_cases() -> Vec<Run> {
+    let without = cases_of_files().into_iter().map(|(name, input)| Run {
+        name,
+        arguments: Vec::new(),
+        input,
+    });
+    let with = cases_of_arguments()
+        .into_iter()
+        .map(|(name, words, input)| Run {
+            name: name.to_string(),
+            arguments: words.iter().map(|word| word.as_bytes().to_vec()).collect(),
+            input,
+        });
+    without.chain(with).collect()
+}
+
 pub fn text() -> String {
-    let mut text = String::new();
-    for (name, file) in edge_cases() {
-        text += &name;
-        text += "\n";
-        text += &holds::text(&file);
-    }
-    text
+    edge_cases()
+        .iter()
+        .map(|run| format!("{}\n{}", run.name, run.text()))
+        .collect()
 }
 
 #[cfg(test)]
 mod tests {
     use super::*;
 
+    fn text_of(wanted: &str) -> String {
+        let cases = edge_cases();
+        cases.iter().find(|run| run.name == wanted).unwrap().text()
+    }
+
     /// The number that `holds` prints for an edge case, 0 if it is accepted.
     fn number_of(wanted: &str) -> u32 {
-        let cases = edge_cases();
-        let (_, file) = cases.iter().find(|(name, _)| name == wanted).unwrap();
-        match holds::text(file).strip_prefix("refused ") {
+        match text_of(wanted).strip_prefix("refused ") {
             Some(number) => number.trim_end().parse().unwrap(),
             None => 0,
         }
@@ -94,5 +145,37 @@ mod tests {
         ] {
             assert_eq!(number_of(name), number, "{}", name);
         }
+    }
+
+    #[test]
+    fn edges_of_arguments() {
+        for (name, number) in [
+            ("size 0", 13),
+            ("size 1", 0),
+            ("size 6", 0),
+            ("size 7", 13),
+            ("digits 5", 0),
+            ("digits 6", 13),
+            ("argument empty", 13),
+            ("argument 6x", 13),
+            ("arguments 6 6", 13),
+            ("size 1600", 0),
+            ("size 1601", 13),
+            ("size 0 sides 41 41", 3),
+            ("size 0 bytes 4097", 12),
+        ] {
+            assert_eq!(number_of(name), number, "{}", name);
+        }
+    }
+
+    #[test]
+    fn texts_of_sizes() {
+        // A size of 1 changes nothing; with n the picture is flat.
+        assert_eq!(text_of("size 1"), text_of("pixels 6"));
+        assert_eq!(text_of("digits 5"), text_of("size 6"));
+        let flat = "picture 3 2\npatches 1 line 0\n1 6 ";
+        assert!(text_of("size 6").starts_with(flat));
+        let flat = "picture 40 40\npatches 1 line 0\n1 1600 ";
+        assert!(text_of("size 1600").starts_with(flat));
     }
 }

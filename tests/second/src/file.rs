@@ -75,6 +75,14 @@ fn walk_number(file: &[u8], start: usize) -> Result<(usize, usize), Refusal> {
     walk_digits(file, walk_white_space(file, start)?)
 }
 
+/// The number that these bytes are, if they are 1 to 5 digits and no more.
+pub fn number(bytes: &[u8]) -> Option<usize> {
+    match walk_digits(bytes, 0) {
+        Ok((value, position)) if position == bytes.len() => Some(value),
+        _ => None,
+    }
+}
+
 /// Reads a P5 file: the answer, or one of the refusals 1 to 6.
 pub fn read(file: &[u8]) -> Result<Accepted, Refusal> {
     if file.len() < 2 || file[0] != 80 || file[1] != 53 {
@@ -141,6 +149,20 @@ mod tests {
             offset: 18,
         };
         assert_eq!(read(file), Ok(accepted));
+    }
+
+    #[test]
+    fn numbers() {
+        let fit: [(&[u8], usize); 4] = [(b"0", 0), (b"7", 7), (b"00012", 12), (b"99999", 99_999)];
+        for (bytes, value) in fit {
+            assert_eq!(number(bytes), Some(value));
+        }
+        let unfit: [&[u8]; 9] = [
+            b"", b"000012", b"100000", b"/", b":", b"1 ", b" 1", b"-1", b"\xb2",
+        ];
+        for bytes in unfit {
+            assert_eq!(number(bytes), None, "{:?}", bytes);
+        }
     }
 
     #[test]

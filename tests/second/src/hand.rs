@@ -111,7 +111,7 @@ fn depth_of_a_lone_patch() {
 
 #[test]
 fn holds_of_h3() {
-    let text = holds::text(b"P5\n5 1\n9\n\x03\x01\x04\x00\x02");
+    let text = holds::text(&[], b"P5\n5 1\n9\n\x03\x01\x04\x00\x02");
     assert_eq!(
         text,
         "picture 5 1\npatches 2 line 1\n1 2 1 3 5 0\n2 2 0 4 35 0\n"
@@ -120,7 +120,7 @@ fn holds_of_h3() {
 
 #[test]
 fn holds_of_a_refused_file() {
-    assert_eq!(holds::text(b"P5\n41 1\n9\n"), "refused 3\n");
+    assert_eq!(holds::text(&[], b"P5\n41 1\n9\n"), "refused 3\n");
 }
 
 /// A picture with values from `base` to `base` + `largest`.

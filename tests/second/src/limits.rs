@@ -10,6 +10,29 @@ pub const SIDES: [u32; 9] = [0, 1, 40, 41, 256, 259, 65_536, 65_539, u32::MAX];
 /// list of patches.
 pub const LENGTHS: [u32; 5] = [0, 1, 5, 7, 12];
 
+/// Least sizes, where n is 6, and sizes whose low 8, 16 or 31 bits are not
+/// refused.
+pub const SIZES: [u32; 18] = [
+    0,
+    1,
+    2,
+    5,
+    6,
+    7,
+    12,
+    255,
+    256,
+    257,
+    262,
+    65_536,
+    65_537,
+    65_542,
+    1 << 31,
+    (1 << 31) + 6,
+    u32::MAX - 1,
+    u32::MAX,
+];
+
 /// Sets an argument of a call to a number.
 pub type Change<Call> = fn(&mut Call, u32);
 
@@ -44,6 +67,12 @@ pub fn break_length(random: &mut Random, pixels: &mut Vec<u8>) {
 /// A place behind the last one.
 pub fn wrong_place(random: &mut Random, count: usize) -> u32 {
     count as u32 + random.one_of(&[0, 1, 7, 100_000])
+}
+
+/// A least size that is 0 or above n.
+pub fn wrong_size(random: &mut Random, count: usize) -> u32 {
+    let above = count as u32 + random.one_of(&[1, 2, 256, 65_536]);
+    random.one_of(&[0, above, above, u32::MAX])
 }
 
 /// Asserts that in the test cases the number of each name is one of these,

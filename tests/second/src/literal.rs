@@ -257,6 +257,30 @@ pub fn pass(picture: &Picture, one: usize, other: usize) -> i32 {
         .unwrap()
 }
 
+/// The components of all heights, by height.
+fn components_of_all_heights(picture: &Picture) -> Vec<Component> {
+    (0..=255)
+        .flat_map(|height| components(picture, height))
+        .collect()
+}
+
+/// The filled picture: the filled value of a pixel is the least height for
+/// which its component of that height has at least `size` pixels.
+pub fn fill(picture: &Picture, size: usize) -> Picture {
+    let all = components_of_all_heights(picture);
+    let filled_value = |place: usize| {
+        // The components stand by height, so the first one found is the least.
+        let found = all
+            .iter()
+            .find(|component| component.places.contains(&place) && component.places.len() >= size);
+        found.unwrap().height as u8
+    };
+    Picture {
+        pixels: (0..picture.count()).map(filled_value).collect(),
+        ..picture.clone()
+    }
+}
+
 /// A patch record.
 #[derive(Clone, Debug, PartialEq)]
 pub struct Patch {

@@ -1,21 +1,26 @@
-//! A second program for the board picture, written from the scope document's prose
-//! alone, to compare the first one with.
+//! A second program for the board picture, written from the prose of the scope
+//! document and of the change requests alone, to compare the first one with.
 //!
-//!     second holds                  what `holds` prints for standard input
+//!     second holds [arguments]      what `holds` prints with these arguments for
+//!                                   standard input
 //!     second edges                  the expected output of the edge cases
 //!     second compare HOLDS [count]  compares a `holds` program with this one
 //!     second cases [count]          test cases for the C client
 //!     second calls [count]          test cases for the calls on 16-bit memory
 //!     second records                what `patch_report` prints for standard input
 //!     second wall                   an example picture as a P5 file
+//!     second chalk                  the same with chalk smears
 
 mod arguments;
 mod calls;
 mod cases;
+mod chalk;
 mod compare;
 mod damage;
 mod edges;
 mod file;
+mod filling;
+mod fills;
 mod generate;
 #[cfg(test)]
 mod hand;
@@ -28,9 +33,12 @@ mod quick;
 mod random;
 mod records;
 mod wall;
+mod words;
 mod worked;
 
+use std::ffi::OsString;
 use std::io::{Read, Write};
+use std::os::unix::ffi::OsStringExt;
 use std::process::ExitCode;
 
 /// Bytes in hexadecimal; no bytes are a hyphen.
@@ -49,7 +57,7 @@ fn print(bytes: &[u8]) -> ExitCode {
 }
 
 /// Prints the text for standard input.
-fn answer(text: fn(&[u8]) -> String) -> ExitCode {
+fn answer(text: impl Fn(&[u8]) -> String) -> ExitCode {
     let mut input = Vec::new();
     match std::io::stdin().read_to_end(&mut input) {
         Ok(_) => print(text(&input).as_bytes()),
@@ -58,15 +66,32 @@ fn answer(text: fn(&[u8]) -> String) -> ExitCode {
 }
 
 fn usage() -> ExitCode {
-    eprintln!("usage: second holds | edges | records | compare HOLDS [count] | cases [count] | calls [count] | wall");
+    eprintln!(
+        "usage: second holds [arguments] | edges | records | compare HOLDS [count] \
+         | cases [count] | calls [count] | wall | chalk"
+    );
     ExitCode::from(2)
 }
 
 fn main() -> ExitCode {
-    let arguments: Vec<String> = std::env::args().skip(1).collect();
-    let words: Vec<&str> = arguments.iter().map(|argument| argument.as_str()).collect();
+    // Arguments of `holds` may be any bytes.
+    let arguments: Vec<Vec<u8>> = std::env::args_os()
+        .skip(1)
+        .map(OsString::into_vec)
+        .collect();
+    match arguments.split_first() {
+        Some((first, rest)) if first == b"holds" => answer(|input| holds::text(rest, input)),
+        _ => run(&arguments),
+    }
+}
+
+/// Does what the arguments say, but for `holds`.
+fn run(arguments: &[Vec<u8>]) -> ExitCode {
+    let words: Vec<&str> = arguments
+        .iter()
+        .map(|argument| std::str::from_utf8(argument).unwrap_or(""))
+        .collect();
     match words.as_slice() {
-        ["holds"] => answer(holds::text),
         ["records"] => answer(records::text),
         ["edges"] => print(edges::text().as_bytes()),
         ["compare", program, rest @ ..] => match count(rest, 600) {
@@ -83,6 +108,7 @@ fn main() -> ExitCode {
             None => usage(),
         },
         ["wall"] => print(&wall::file()),
+        ["chalk"] => print(&chalk::file()),
         _ => usage(),
     }
 }

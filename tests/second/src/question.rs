@@ -2,6 +2,7 @@
 //! case in the form that the module `calls` gives.
 
 use crate::arguments;
+use crate::filling;
 use crate::hexadecimal;
 use crate::lent::{entries_text, LentTree};
 use crate::literal::{self, Adjacency, Patch, Picture, PlaceAnswer, Tree};
@@ -25,8 +26,10 @@ pub enum Question {
     Watershed { out_length: usize },
     Place { place: u32 },
     Patches { lengths: [usize; FIGURES] },
+    Fill { size: u32, out_length: usize },
 }
 
+/// The kinds of calls but filling.
 pub const KINDS: [&str; 8] = [
     "label",
     "lowerable",
@@ -85,6 +88,14 @@ pub fn patches_of(picture: &Picture) -> Vec<Patch> {
     }
 }
 
+fn fill_of(picture: &Picture, size: usize) -> Picture {
+    if is_small(picture) {
+        literal::fill(picture, size)
+    } else {
+        filling::fill(picture, size)
+    }
+}
+
 /// How many patches there are, and a list of each of their figures.
 fn figures_text(patches: &[Patch]) -> String {
     let figures: [fn(&Patch) -> usize; FIGURES] = [
@@ -122,9 +133,9 @@ impl Question {
     /// which it needs n entries.
     pub fn least_length(&self) -> Option<usize> {
         match self {
-            Question::Label { out_length, .. } | Question::Watershed { out_length } => {
-                Some(*out_length)
-            }
+            Question::Label { out_length, .. }
+            | Question::Watershed { out_length }
+            | Question::Fill { out_length, .. } => Some(*out_length),
             Question::Tree { lengths } => lengths.iter().copied().min(),
             Question::Check { lent } | Question::Pass { lent, .. } => Some(lent.least_length()),
             _ => None,
@@ -142,9 +153,9 @@ impl Question {
     /// the last comes the first.
     pub fn set_length(&mut self, which: usize, length: usize) {
         match self {
-            Question::Label { out_length, .. } | Question::Watershed { out_length } => {
-                *out_length = length
-            }
+            Question::Label { out_length, .. }
+            | Question::Watershed { out_length }
+            | Question::Fill { out_length, .. } => *out_length = length,
             Question::Tree { lengths } => lengths[which % TREE_LISTS] = length,
             Question::Check { lent } | Question::Pass { lent, .. } => {
                 lent.set_length(which % TREE_LISTS, length)
@@ -160,6 +171,13 @@ impl Question {
             Question::Lowerable { place } | Question::Place { place } => *place = new,
             Question::Pass { places, .. } => places[which] = new,
             _ => {}
+        }
+    }
+
+    /// Sets the least size, if the call has one.
+    pub fn set_size(&mut self, new: u32) {
+        if let Question::Fill { size, .. } = self {
+            *size = new;
         }
     }
 
@@ -179,6 +197,7 @@ impl Question {
             Question::Watershed { out_length } => ("watershed", format!("{} ", out_length)),
             Question::Place { place } => ("place", format!("{} ", place)),
             Question::Patches { lengths } => ("patches", lengths_text(lengths)),
+            Question::Fill { size, out_length } => ("fill", format!("{} {} ", size, out_length)),
         }
     }
 
@@ -208,6 +227,10 @@ impl Question {
                 format!(" {} {}", answer.value, answer.patch.unwrap_or(0))
             }
             Question::Patches { .. } => figures_text(&patches_of(picture)),
+            Question::Fill { size, .. } => {
+                let filled = fill_of(picture, *size as usize);
+                format!(" {}", hexadecimal(&filled.pixels))
+            }
         }
     }
 }
@@ -217,7 +240,7 @@ impl Call {
         arguments::picture(self.adjacency, self.sides, &self.pixels)
     }
 
-    /// The refusal's number or 0. The order is 7, 3, 8, 9, 10, 11.
+    /// The refusal's number or 0. The order is 7, 3, 8, 9, 10, 11, 13.
     pub fn refusal(&self) -> u32 {
         let number = arguments::refusal(
             self.adjacency,
@@ -243,6 +266,8 @@ impl Call {
             {
                 9
             }
+            // The number of pixels is n here.
+            Question::Fill { size, .. } if *size == 0 || *size as usize > self.pixels.len() => 13,
             _ => 0,
         }
     }

@@ -3,22 +3,21 @@
 use crate::generate::Blob;
 use crate::random::Random;
 
-const SIDE: usize = 40;
+pub const SIDE: usize = 40;
+pub const PANEL: usize = 225;
 const LARGEST: usize = 255;
-const PANEL: usize = 225;
 
-/// The panel is one pale value. It is divided into 7 columns and 6 rows of
-/// cells, and every cell but two has one hold.
-fn pixels() -> Vec<u8> {
+/// The panel is divided into 7 columns and 6 rows of cells, and every cell
+/// but two has one hold.
+pub fn holds() -> Vec<Blob> {
     let mut random = Random::new(40);
-    let mut values = vec![PANEL; SIDE * SIDE];
-    for cell in 0..42 {
-        let hold = hold(&mut random, cell);
-        if cell != 16 && cell != 33 {
-            hold.darken(&mut values, SIDE);
-        }
-    }
-    values.iter().map(|value| *value as u8).collect()
+    let of_cells: Vec<Blob> = (0..42).map(|cell| hold(&mut random, cell)).collect();
+    of_cells
+        .into_iter()
+        .enumerate()
+        .filter(|(cell, _)| *cell != 16 && *cell != 33)
+        .map(|(_, hold)| hold)
+        .collect()
 }
 
 /// A hold: a darkest pixel near the middle of the cell, and round it pixels
@@ -33,11 +32,25 @@ fn hold(random: &mut Random, cell: usize) -> Blob {
     }
 }
 
+/// The values of the wall: the panel is one pale value, but for its holds.
+pub fn values() -> Vec<usize> {
+    let mut values = vec![PANEL; SIDE * SIDE];
+    for hold in holds() {
+        hold.darken(&mut values, SIDE);
+    }
+    values
+}
+
+/// Values of a picture with the wall's sides as a P5 file.
+pub fn file_of(values: &[usize]) -> Vec<u8> {
+    let mut file = format!("P5\n{} {}\n{}\n", SIDE, SIDE, LARGEST).into_bytes();
+    file.extend(values.iter().map(|value| *value as u8));
+    file
+}
+
 /// The picture as a P5 file.
 pub fn file() -> Vec<u8> {
-    let mut file = format!("P5\n{} {}\n{}\n", SIDE, SIDE, LARGEST).into_bytes();
-    file.extend(pixels());
-    file
+    file_of(&values())
 }
 
 #[cfg(test)]
@@ -48,7 +61,7 @@ mod tests {
     #[test]
     fn the_wall_has_forty_holds() {
         assert!(file().len() <= 4096);
-        let text = holds::text(&file());
+        let text = holds::text(&[], &file());
         assert!(
             text.starts_with("picture 40 40\npatches 40 line "),
             "{}",

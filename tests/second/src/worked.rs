@@ -24,9 +24,12 @@ pub fn four(rows: &str) -> Picture {
     picture(rows, Adjacency::Four)
 }
 
+pub fn eight(rows: &str) -> Picture {
+    picture(rows, Adjacency::Eight)
+}
+
 /// Mark, picture, watershed.
 pub fn table() -> Vec<(&'static str, Picture, Picture)> {
-    let eight = |rows| picture(rows, Adjacency::Eight);
     vec![
         ("H1", four("9"), four("9")),
         ("H2", four("0 1"), four("0 0")),

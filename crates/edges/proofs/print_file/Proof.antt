@@ -1,4 +1,4 @@
--- `edges::print_file` is safe: the name and the file lie within the memory.
+-- `edges::print_file` is safe: the name lies within the memory.
 use Rattle.lists.proofs.Writings.{text-within}
 use borrow.Author.Needs.{needs}
 use Rattle.edges.proofs.print_file.Statement.{statement}
@@ -10,20 +10,14 @@ slice-aggregate-put-word c = search needs
 put-word-requires : tie.Need-put-word-requires
 put-word-requires c κs = search needs
 
-slice-aggregate-put-file : tie.Need-slice-aggregate-put-file
-slice-aggregate-put-file c = search needs
-
-put-file-requires : tie.Need-put-file-requires
-put-file-requires c κs = search needs
-
 array-share-prefix-name : tie.Need-array-share-prefix-name
-array-share-prefix-name c = text-within (c .before .before .before .before .put-word .ensures) .0
+array-share-prefix-name c = text-within (c .before .put-word .ensures) .0
 
-slice-aggregate-print-case : tie.Need-slice-aggregate-print-case
-slice-aggregate-print-case c = text-within (c .before .before .before .before .before .put-word .ensures) .1
+slice-aggregate-print-named : tie.Need-slice-aggregate-print-named
+slice-aggregate-print-named c = text-within (c .before .before .put-word .ensures) .1
 
-print-case-requires : tie.Need-print-case-requires
-print-case-requires c κs = search needs
+print-named-requires : tie.Need-print-named-requires
+print-named-requires c κs = search needs
 
 returns : tie.Need-returns
 returns c = search needs
@@ -34,9 +28,7 @@ print-file-spec =
     (tie.spec
     slice-aggregate-put-word
     put-word-requires
-    slice-aggregate-put-file
-    put-file-requires
     array-share-prefix-name
-    slice-aggregate-print-case
-    print-case-requires
+    slice-aggregate-print-named
+    print-named-requires
     returns)

@@ -10,7 +10,7 @@ slice-aggregate-print-file c = search needs
 
 print-file-requires : tie.Need-print-file-requires
 print-file-requires c κs =
-    let s = c .before .before in
+    let s = c .before .before .before in
     let l = one-length 4 (s .args .number) (s .pre .0 .1) in
     ((search needs, omega (arith, s .pre .0 .0)), s .pre .1)
 

@@ -1,60 +1,50 @@
 -- `hold_list::put_holds` meets its contract: a picture has room in the local arrays.
-use mathlib.Core.Path.{_≡_, sym, _∙_}
-use Prim.Native.Nat.{ℕ, _*_, _≤_}
+use mathlib.Core.Path.{sym, _∙_}
+use Prim.Native.Nat.{_≤_}
 use native.Mathlib.Omega.{arith}
-use lib.ListN.{length, take, replicate, length-replicate}
-use Rattle.topology.proofs.Accepted.{accepted-is, places-bound}
-use Rattle.picture.specs.Pictures.{pictureOf}
-use Rattle.answers.proofs.Calls.{lent-length}
+use lib.ListN.{length}
+use Rattle.picture.specs.Pictures.{Picture, pictureOf}
+use Rattle.hold_list.proofs.Rooms.{places-few, one-lent, five-lent}
 use borrow.Author.Needs.{needs}
 use Rattle.hold_list.proofs.put_holds.Statement.{statement}
 use Rattle.hold_list.proofs.put_holds.Tie as tie
 
-abbrev size : tie.Start → ℕ
-size s = length (s .args .pixels .now)
+-- the picture of the arguments
+abbrev pictured : tie.Start → Picture
+pictured s = pictureOf 4 (s .args .w) (s .args .h) (s .args .pixels .now)
 
--- as many pixels as places, at most 1,600
-places-few : (s : tie.Start) → (size s ≡ s .args .w * s .args .h) × (size s ≤ 1600)
-places-few s =
-    let p = pictureOf 4 (s .args .w) (s .args .h) (s .args .pixels .now) in
-    let ok = accepted-is p (s .pre .0) in
-    (ok .size, omega (arith, ok .size, places-bound p ok))
-
--- the lent parts of the local arrays
-bytes-lent : (s : tie.Start) → size s ≡ length (take (size s) (replicate {A = ℕ} 1600 0))
-bytes-lent s = lent-length (size s) (replicate {A = ℕ} 1600 0) (omega (arith, places-few s .1, length-replicate {A = ℕ} 1600 0))
-
-cells-lent : (s : tie.Start) → 5 * size s ≡ length (take (5 * size s) (replicate {A = ℕ} 8000 0))
-cells-lent s = lent-length (5 * size s) (replicate {A = ℕ} 8000 0) (omega (arith, places-few s .1, length-replicate {A = ℕ} 8000 0))
+few : (s : tie.Start) → length (s .args .pixels .now) ≤ 1600
+few s = places-few (pictured s) (s .pre .0) .1
 
 mul-whole : tie.Need-mul-whole
-mul-whole c = omega (arith, places-few (c .before .before) .1)
+mul-whole c = omega (arith, few (c .before .before))
 
 array-borrow-prefix-water : tie.Need-array-borrow-prefix-water
-array-borrow-prefix-water c = places-few (c .before .before) .1
+array-borrow-prefix-water c = few (c .before .before)
 
 slice-aggregate-put-holds-with : tie.Need-slice-aggregate-put-holds-with
-slice-aggregate-put-holds-with c = bytes-lent (c .before .before .before)
+slice-aggregate-put-holds-with c = let s = c .before .before .before in one-lent (pictured s) (s .pre .0)
 
 array-borrow-prefix-work : tie.Need-array-borrow-prefix-work
-array-borrow-prefix-work c = omega (arith, places-few (c .before .before .before) .1)
+array-borrow-prefix-work c = omega (arith, few (c .before .before .before))
 
 slice-aggregate-put-holds-with-2 : tie.Need-slice-aggregate-put-holds-with-2
-slice-aggregate-put-holds-with-2 c = cells-lent (c .before .before .before .before)
+slice-aggregate-put-holds-with-2 c = let s = c .before .before .before .before in five-lent (pictured s) (s .pre .0)
 
 array-borrow-prefix-cells : tie.Need-array-borrow-prefix-cells
-array-borrow-prefix-cells c = places-few (c .before .before .before .before) .1
+array-borrow-prefix-cells c = few (c .before .before .before .before)
 
 slice-aggregate-put-holds-with-3 : tie.Need-slice-aggregate-put-holds-with-3
-slice-aggregate-put-holds-with-3 c = bytes-lent (c .before .before .before .before .before)
+slice-aggregate-put-holds-with-3 c = let s = c .before .before .before .before .before in one-lent (pictured s) (s .pre .0)
 
 put-holds-with-requires : tie.Need-put-holds-with-requires
 put-holds-with-requires c κs =
     let s = c .before .before .before .before .before .before in
-    let f = places-few s in (
+    let f = places-few (pictured s) (s .pre .0) in
+    let one = sym (one-lent (pictured s) (s .pre .0)) ∙ f .0 in (
       s .pre .0,
-      sym (bytes-lent s) ∙ f .0,
-      record { few = omega (arith, f .0, f .1); blocks = omega (arith, f .0, cells-lent s); beside = sym (bytes-lent s) ∙ f .0 },
+      one,
+      record { few = omega (arith, f .0, f .1); blocks = omega (arith, f .0, five-lent (pictured s) (s .pre .0)); beside = one },
       omega (arith, s .pre .1),
     )
 

@@ -1,4 +1,4 @@
--- `hold_list::put_holds_with` meets its contract: the patches of the watershed are those of the bytes that the core leaves.
+-- `hold_list::put_holds_with` meets its contract: the patches of the bytes that the core leaves.
 use mathlib.Core.Path.{subst, _∙_}
 use mathlib.Core.List.{List}
 use Prim.Native.Nat.{ℕ}

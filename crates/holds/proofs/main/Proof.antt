@@ -10,6 +10,21 @@ slice-aggregate-read-full c = search needs
 read-full-requires : tie.Need-read-full-requires
 read-full-requires c κs = search needs
 
+slice-aggregate-arg : tie.Need-slice-aggregate-arg
+slice-aggregate-arg c = search needs
+
+arg-requires : tie.Need-arg-requires
+arg-requires c κs = search needs
+
+arg-count-requires : tie.Need-arg-count-requires
+arg-count-requires c κs = search needs
+
+array-share-prefix-argument : tie.Need-array-share-prefix-argument
+array-share-prefix-argument c = search needs
+
+slice-aggregate-put-text : tie.Need-slice-aggregate-put-text
+slice-aggregate-put-text c = search needs
+
 put-text-requires : tie.Need-put-text-requires
 put-text-requires c κs = search needs
 
@@ -31,6 +46,11 @@ main-spec =
     (tie.spec
     slice-aggregate-read-full
     read-full-requires
+    slice-aggregate-arg
+    arg-requires
+    arg-count-requires
+    array-share-prefix-argument
+    slice-aggregate-put-text
     put-text-requires
     array-share-prefix-out
     slice-aggregate-write-all
