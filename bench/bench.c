@@ -39,6 +39,7 @@ struct memory {
 static uint8_t pixels[LARGEST_N];
 static struct memory ours, peer;
 static uint32_t a, w, n, count, place;
+static uint32_t sizes[SIZES];           /* least sizes of parts */
 static size_t room = MOST_PATCHES;      /* of each list of figures */
 static uint8_t median;
 
@@ -99,8 +100,11 @@ static uint64_t run(unsigned call, int is_ours, struct memory *m)
     case QUERY:
         return (is_ours ? controller_query_place : peer_query_place)(a, w, w,
             pixels, n, place, m->work, 5 * n);
-    default:
+    case PATCHES:
         return list_patches(is_ours, m);
+    default:
+        return (is_ours ? controller_fill_small_parts : peer_fill_small_parts)(a, w, w,
+            pixels, n, sizes[call - FILL_2], m->bytes, n, m->work, 5 * n);
     }
 }
 
@@ -121,10 +125,18 @@ static void same(unsigned call, unsigned picture)
     uint64_t first = run(call, 1, &ours), second = run(call, 0, &peer);
     if (first == second && memcmp(&ours, &peer, sizeof ours) == 0)
         return;
-    printf("%s differs: %s, side %u, adjacency %u: %llx %llx\n",
-           call_names[call], picture_names[picture], w, a,
+    printf("%s differs: %s, side %u, adjacency %u, place %u, sizes from %u: %llx %llx\n",
+           call_names[call], picture_names[picture], w, a, place, sizes[0],
            (unsigned long long)first, (unsigned long long)second);
     exit(1);
+}
+
+static void take_sizes(void)
+{
+    sizes[0] = 2;
+    sizes[1] = 12;
+    sizes[2] = n / 2;
+    sizes[3] = n;
 }
 
 /* Takes a picture and makes its tree. */
@@ -136,6 +148,7 @@ static void take(unsigned picture, unsigned side, uint32_t adjacency)
     make_picture(picture, w, pixels);
     median = median_pixel();
     place = largest_place();
+    take_sizes();
     memset(&ours, FILLING, sizeof ours);
     peer = ours;
     count = controller_value(run(TREE, 1, &ours));
@@ -175,7 +188,15 @@ static void compare_short_lists(unsigned picture)
     room = MOST_PATCHES;
 }
 
-/* Compares all calls, at all places where a call takes one; also trees with one entry changed, and short lists. */
+/* Compares all least sizes, and the two beside them that are refused. */
+static void compare_sizes(unsigned picture)
+{
+    for (sizes[0] = 0; sizes[0] <= n + 1; sizes[0]++)
+        same(FILL_2, picture);
+    take_sizes();
+}
+
+/* Compares all calls, at all places where a call takes one; also trees with one entry changed, short lists, and all least sizes. */
 static void compare(unsigned picture)
 {
     for (unsigned call = 0; call < CALLS; call++)
@@ -190,6 +211,7 @@ static void compare(unsigned picture)
     }
     compare_damaged_trees(picture);
     compare_short_lists(picture);
+    compare_sizes(picture);
     median = median_pixel();
     place = largest_place();
 }
@@ -240,25 +262,24 @@ static void measure(struct times *least)
         }
 }
 
-/* The three in turn in every round, so that a slow phase of the machine is none of one alone. */
+/* All in turn in every round, so that a slow phase of the machine is none of one alone. */
 static struct against_tree measure_against_tree(void)
 {
-    struct against_tree least = { 1e9, 1e9, 1e9 };
+    struct against_tree least = { 1e9, 1e9, 1e9, { 1e9, 1e9, 1e9, 1e9 } };
     for (unsigned i = 0; i < BESIDE_ROUNDS; i++) {
         least.tree = lesser(least.tree, round_of(TREE, 1, BESIDE_CALLS));
         least.query = lesser(least.query, round_of(QUERY, 1, BESIDE_CALLS));
         least.patches = lesser(least.patches, round_of(PATCHES, 1, BESIDE_CALLS));
+        for (unsigned size = 0; size < SIZES; size++)
+            least.fill[size] = lesser(least.fill[size],
+                                      round_of(FILL_2 + size, 1, BESIDE_CALLS));
     }
     return least;
 }
 
-/* The call CALLS is our list of patches, with our tree in the peer's place. */
 __attribute__((noinline)) static void counted(unsigned call, int is_ours)
 {
-    if (call == CALLS)
-        sink = run(is_ours ? PATCHES : TREE, 1, &ours);
-    else
-        sink = run(call, is_ours, is_ours ? &ours : &peer);
+    sink = run(call, is_ours, is_ours ? &ours : &peer);
 }
 
 static void run_once(void)
@@ -266,10 +287,8 @@ static void run_once(void)
     for (unsigned adjacency = 4; adjacency <= 8; adjacency += 4)
         for (unsigned p = 0; p < PICTURE_COUNT; p++) {
             take(p, LARGEST_SIDE, adjacency);
-            for (unsigned call = 0; call <= CALLS; call++) {
-                printf("%u|%s|%s\n", adjacency, picture_names[p],
-                       call < CALLS ? call_names[call]
-                       : "list_patches, over our component_tree");
+            for (unsigned call = 0; call < CALLS; call++) {
+                printf("%u|%s|%s\n", adjacency, picture_names[p], call_names[call]);
                 counted(call, 1);
                 counted(call, 0);
             }

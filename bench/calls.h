@@ -14,6 +14,7 @@ typedef __typeof__(controller_check_tree) check_tree_call;
 typedef __typeof__(controller_pass_between) pass_between_call;
 typedef __typeof__(controller_is_lowerable) is_lowerable_call;
 typedef __typeof__(controller_watershed_of) watershed_of_call;
+typedef __typeof__(controller_fill_small_parts) fill_small_parts_call;
 typedef __typeof__(controller_query_place) query_place_call;
 typedef __typeof__(controller_list_patches) list_patches_call;
 
@@ -23,6 +24,7 @@ extern check_tree_call peer_check_tree;
 extern pass_between_call peer_pass_between;
 extern is_lowerable_call peer_is_lowerable;
 extern watershed_of_call peer_watershed_of;
+extern fill_small_parts_call peer_fill_small_parts;
 extern query_place_call peer_query_place;
 extern list_patches_call peer_list_patches;
 

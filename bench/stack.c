@@ -1,9 +1,10 @@
 /*
  * The largest stack of each of our calls at 40 by 40: each call runs on a
  * stack of its own that was filled with a pattern, on every picture, with
- * both adjacencies, several places and two patterns. What an empty function
- * takes in its place is taken off, but for the return address; arguments that
- * are passed in memory are the caller's and not counted. For x86-64.
+ * both adjacencies, several places or least sizes, and two patterns. What an
+ * empty function takes in its place is taken off, but for the return address;
+ * arguments that are passed in memory are the caller's and not counted. For
+ * x86-64.
  */
 
 #include "board.h"
@@ -78,6 +79,13 @@ static void watershed_of(void)
                                              bytes, n, work, 5 * n);
 }
 
+/* The least size changes with the place. */
+static void fill_small_parts(void)
+{
+    answer = ((fill_small_parts_call *)function)(a, side, side, pixels, n, place + 1,
+                                                 bytes, n, work, 5 * n);
+}
+
 static void query_place(void)
 {
     answer = ((query_place_call *)function)(a, side, side, pixels, n, place,
@@ -122,6 +130,7 @@ static const struct {
     { "check_tree", 28800, (any_function *)controller_check_tree, check_tree },
     { "pass_between", 28800, (any_function *)controller_pass_between, pass_between },
     { "watershed_of", 19200, (any_function *)controller_watershed_of, watershed_of },
+    { "fill_small_parts", 19200, (any_function *)controller_fill_small_parts, fill_small_parts },
     { "query_place", 17600, (any_function *)controller_query_place, query_place },
     { "list_patches", 17600 + sizeof figures, (any_function *)controller_list_patches, list_patches },
     { "board_read", sizeof file + 32, (any_function *)board_read, read_for_c },

@@ -9,7 +9,8 @@ const unsigned sides[SIDES] = { 5, 10, 20, 40 };
 const char *const call_names[CALLS] = {
     "label_section, median", "label_section, 255", "is_lowerable",
     "component_tree", "check_tree", "pass_between", "watershed_of",
-    "query_place", "list_patches",
+    "query_place", "list_patches", "fill_small_parts, 2",
+    "fill_small_parts, 12", "fill_small_parts, n / 2", "fill_small_parts, n",
 };
 
 struct times table[2][SIDES][PICTURE_COUNT][CALLS];
@@ -93,6 +94,27 @@ static void print_against_tree(void)
     }
 }
 
+/* A column for each least size and adjacency; then the largest entry. */
+static void print_fill_against_tree(void)
+{
+    double most = 0;
+    printf("\nTime of fill_small_parts over time of component_tree, ours, 40 by 40\n");
+    printf("\n| picture | s = 2, 4 | s = 2, 8 | s = 12, 4 | s = 12, 8 | s = n / 2, 4 | s = n / 2, 8 | s = n, 4 | s = n, 8 |\n");
+    printf("|---|---|---|---|---|---|---|---|---|\n");
+    for (unsigned p = 0; p < PICTURE_COUNT; p++) {
+        printf("| %s |", picture_names[p]);
+        for (unsigned size = 0; size < SIZES; size++)
+            for (unsigned adjacency = 0; adjacency < 2; adjacency++) {
+                const struct against_tree *t = &against_tree[adjacency][p];
+                double over = t->fill[size] / t->tree;
+                most = over > most ? over : most;
+                printf(" %.2f |", over);
+            }
+        printf("\n");
+    }
+    printf("\nThe largest is %.2f.\n", most);
+}
+
 void print_tables(void)
 {
     for (unsigned adjacency = 0; adjacency < 2; adjacency++) {
@@ -102,4 +124,5 @@ void print_tables(void)
         print_growth(adjacency, PICTURE_COUNT);
     }
     print_against_tree();
+    print_fill_against_tree();
 }

@@ -9,9 +9,12 @@
 
 #define SIDES 4
 
+/* The filling has as many least sizes; all are at most n, also at the least side. */
+#define SIZES 4
+
 enum {
     LABEL_MEDIAN, LABEL_255, LOWERABLE, TREE, CHECK, PASS, WATERSHED, QUERY,
-    PATCHES, CALLS
+    PATCHES, FILL_2, FILL_12, FILL_HALF, FILL_N, CALLS
 };
 
 extern const uint32_t adjacencies[2];
@@ -23,9 +26,9 @@ struct times {
     double ours, peer;
 };
 
-/* The least times in seconds of the tree, of the place query and of the list of patches. */
+/* The least times in seconds of the tree, of the place query, of the list of patches and of the fillings. */
 struct against_tree {
-    double tree, query, patches;
+    double tree, query, patches, fill[SIZES];
 };
 
 /* By adjacency, side, picture and call. */

@@ -36,6 +36,7 @@ struct arguments {
     uint8_t k;
     uint32_t count;             /* nodes of the lent tree */
     uint32_t x, y;              /* places */
+    uint32_t s;                 /* the least size of a part */
     struct bytes bytes;         /* the tree's heights, or an output of bytes */
     struct entries lists[MOST_LISTS];
     struct entries work;
@@ -52,6 +53,7 @@ struct call {
     uint32_t work_a_pixel;      /* entries */
     uint32_t places;            /* how many it takes */
     int takes_tree;
+    int takes_size;
     int lists_patches;          /* the lists have an entry a patch, not a pixel */
     int on_tablet;
 };
@@ -61,8 +63,9 @@ extern struct arguments given;
 /* The refusal's number above 32 bits of value, also for the calls of board.h. */
 extern uint64_t answer;
 
-#define CONTROLLER_CALLS 8
+#define CONTROLLER_CALLS 9
 #define LABEL_SECTION 0         /* the number of the call that takes k */
+#define FILL_SMALL_PARTS 6      /* the number of the call that takes s */
 extern const struct call controller_calls[CONTROLLER_CALLS];
 extern const struct call read_call, watershed_call, place_call;
 

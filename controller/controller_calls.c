@@ -48,6 +48,11 @@ static void watershed_of(void)
     answer = CALL(watershed_of)(PICTURE, LENT(bytes), LENT(work));
 }
 
+static void fill_small_parts(void)
+{
+    answer = CALL(fill_small_parts)(PICTURE, given.s, LENT(bytes), LENT(work));
+}
+
 static void query_place(void)
 {
     answer = CALL(query_place)(PICTURE, given.x, LENT(work));
@@ -69,6 +74,7 @@ const struct call controller_calls[CONTROLLER_CALLS] = {
     { "pass_between", pass_between, ON_PICTURE, WITH_TREE, .takes_tree = 1, .places = 2 },
     { "is_lowerable", is_lowerable, ON_PICTURE, .places = 1 },
     { "watershed_of", watershed_of, ON_PICTURE, .bytes_a_pixel = 1 },
+    { "fill_small_parts", fill_small_parts, ON_PICTURE, .bytes_a_pixel = 1, .takes_size = 1 },
     { "query_place", query_place, ON_PICTURE, .places = 1 },
     { "list_patches", list_patches, .work_a_pixel = WORK_A_PIXEL,
       .lists = FIGURES, .most_entries = MOST_PATCHES, .lists_patches = 1 },

@@ -38,6 +38,7 @@ static void read_file(const struct file *file)
     memcpy(given.pixels.at, file->header, header);
     memset(given.pixels.at + header, file->value, file->pixels);
     given.bytes.length -= file->missing;
+    uint32_t before = lent_sum();
     run_uncounted(stack_top(), read_call.with_arguments);
     begin_line("swept");
     add_text(read_call.name);
@@ -45,6 +46,7 @@ static void read_file(const struct file *file)
     add_text("");
     add_text("");
     add_text(file->name);
+    add_hexadecimal(before);
     add_hexadecimal(answer);
     add_hexadecimal(lent_sum());
     end_line();

@@ -20,9 +20,11 @@ void measure_board_calls(void);
 /*
  * Every call on small and large pictures, accepted and refused. A line
  *
- *   swept|call|adjacency|width|height|change of the arguments|answer|sum over all lent memory
+ *   swept|call|adjacency|width|height|change of the arguments|sum before|answer|sum after
  *
- * is the same on every machine.
+ * has the sums over all lent memory and is the same on every machine, as is
+ *
+ *   sized|call|adjacency|width|height|picture|least size of a part|answer|sum after
  */
 void sweep_pictures(void);
 void sweep_files(void);

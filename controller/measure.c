@@ -108,6 +108,24 @@ static void measure_sections(unsigned picture, uint32_t adjacency)
     measure(call, "label_section, 255", picture);
 }
 
+/* Small parts, and the largest least size. */
+static void measure_fillings(unsigned picture, uint32_t adjacency)
+{
+    static const struct {
+        const char *title;
+        uint32_t s;
+    } sizes[] = {
+        { "fill_small_parts, 2", 2 }, { "fill_small_parts, 12", 12 },
+        { "fill_small_parts, n / 2", LARGEST_N / 2 }, { "fill_small_parts, n", LARGEST_N },
+    };
+    const struct call *call = &controller_calls[FILL_SMALL_PARTS];
+    for (unsigned i = 0; i < sizeof sizes / sizeof *sizes; i++) {
+        prepare(call, picture, adjacency);
+        given.s = sizes[i].s;
+        measure(call, sizes[i].title, picture);
+    }
+}
+
 void measure_controller_calls(void)
 {
     for (unsigned i = 0; i < CONTROLLER_CALLS; i++)
@@ -115,6 +133,8 @@ void measure_controller_calls(void)
             for (uint32_t adjacency = 4; adjacency <= 8; adjacency += 4)
                 if (i == LABEL_SECTION)
                     measure_sections(picture, adjacency);
+                else if (i == FILL_SMALL_PARTS)
+                    measure_fillings(picture, adjacency);
                 else
                     measure_call(&controller_calls[i], picture, adjacency);
 }

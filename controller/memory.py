@@ -34,7 +34,8 @@ def fault(call, numbers):
 
 def shown(call, numbers):
     """The numbers as cells; a call of the tablet need not fit."""
-    left = numbers[-1] if numbers[-1] >= 0 else "does not fit (tablet)"
+    short = "does not fit (tablet)" if call in TABLET_CALLS else "does not fit"
+    left = numbers[-1] if numbers[-1] >= 0 else short
     return ["`%s`" % call] + numbers[:-1] + [left]
 
 

@@ -14,6 +14,7 @@
     empty controller_pass_between
     empty controller_is_lowerable
     empty controller_watershed_of
+    empty controller_fill_small_parts
     empty controller_query_place
     empty controller_list_patches
     empty board_read

@@ -1,17 +1,23 @@
 """Counts the answers of the sweep. Fails if a refusal that a header lists was not reached.
 
-Each output, list and work memory must have been refused with 9 when it alone was too short.
+Each output, list and work memory must have been refused with 9 when it alone was too short, and
+each least size that no picture has with 13. A refusal must leave all lent memory as it was.
 """
 
 import sys
-from collections import Counter
+from collections import Counter, namedtuple
 
 import headers
 from results import CALLS, OUT, lines, symbol, table
 
 SUCCESS = 0
 TOO_SHORT = 9
-NUMBERS = range(1, 12)          # of all refusals
+UNFIT_SIZE = 13
+SIZE_CHANGES = {"size 0", "size n + 1", "size 65537", "size largest"}
+NUMBERS = sorted(set().union(*headers.refusals().values()))     # of all refusals
+
+# A line of the sweep; number is that of the refusal.
+Swept = namedtuple("Swept", "call change before number after")
 
 
 def lent_lengths(call):
@@ -29,24 +35,46 @@ def missed_numbers(reached):
 
 def missed_lengths(swept):
     """The calls with a length that was not too short, and refused for it, by itself."""
-    changes = {(call, change) for call, change, number in swept if number == TOO_SHORT}
+    changes = {(line.call, line.change) for line in swept if line.number == TOO_SHORT}
     refused = Counter(call for call, _ in changes)
     lengths = {call: lent_lengths(call) for call in CALLS}
     return ["%s with %d for each of its %d lengths" % (call, TOO_SHORT, lengths[call])
             for call in CALLS if refused[call] != lengths[call]]
 
 
+def missed_sizes(swept):
+    """The least sizes that were not refused as such."""
+    listed = headers.refusals()
+    refused = {(line.call, line.change) for line in swept if line.number == UNFIT_SIZE}
+    return ["%s with %d for %s" % (call, UNFIT_SIZE, change) for call in CALLS
+            for change in sorted(SIZE_CHANGES)
+            if UNFIT_SIZE in listed[symbol(call)] and (call, change) not in refused]
+
+
+def changed_memory(swept):
+    """The refusals that did not leave lent memory as it was."""
+    said = ("%s with %d leaves other lent memory (%s)" % (line.call, line.number, line.change)
+            for line in swept if line.number != SUCCESS and line.before != line.after)
+    return list(dict.fromkeys(said))
+
+
+def read_lines():
+    """The lines of the sweep."""
+    return [Swept(call, change, before, int(answer, 16) >> 32, after)
+            for call, _, _, _, change, before, answer, after in lines(OUT + "/ours.txt", "swept")]
+
+
 def main():
-    swept = [(call, change, int(answer, 16) >> 32)
-             for call, _, _, _, change, answer, _ in lines(OUT + "/ours.txt", "swept")]
-    reached = Counter((call, number) for call, _, number in swept)
-    table("Calls of the sweep, by the refusal's number", ["call", "accepted"] + list(NUMBERS),
+    swept = read_lines()
+    reached = Counter((line.call, line.number) for line in swept)
+    table("Calls of the sweep, by the refusal's number", ["call", "accepted"] + NUMBERS,
           [["`%s`" % call, reached[call, SUCCESS]]
            + [reached[call, number] or "" for number in NUMBERS] for call in CALLS])
-    missed = missed_numbers(reached) + missed_lengths(swept)
-    for said in missed:
-        print("controller: the sweep did not reach " + said, file=sys.stderr)
-    sys.exit(1 if missed else 0)
+    missed = missed_numbers(reached) + missed_lengths(swept) + missed_sizes(swept)
+    faults = ["the sweep did not reach " + said for said in missed] + changed_memory(swept)
+    for said in faults:
+        print("controller: " + said, file=sys.stderr)
+    sys.exit(1 if faults else 0)
 
 
 main()

@@ -1,6 +1,6 @@
 /*
  * Every call on several pictures with right and wrong sides and adjacencies,
- * and with one argument changed at a time.
+ * and with one argument changed at a time; the filling with many least sizes.
  */
 
 #include "board_controller.h"
@@ -10,7 +10,8 @@
 #include "text.h"
 
 #define SPARE 1                 /* entries behind each list, which a change may tell */
-#define FEW_PIXELS 49           /* lent where a side is refused */
+#define SMALL_SIDE 7
+#define FEW_PIXELS (SMALL_SIDE * SMALL_SIDE)    /* lent where a side is refused */
 #define DARK 0x0f               /* the largest value of every third pixel */
 
 /* A linear congruential generator; a pixel is its highest byte. */
@@ -20,29 +21,39 @@
 
 #define LENGTH_OF(array) (sizeof(array) / sizeof *(array))
 
-static const uint32_t sides[] = { 0, 1, 2, 7, LARGEST_SIDE, LARGEST_SIDE + 1, 65537 };
+static const uint32_t sides[] = { 0, 1, 2, SMALL_SIDE, LARGEST_SIDE, LARGEST_SIDE + 1, 65537 };
 static const uint32_t adjacencies[] = { 3, 4, 8 };
 
-/* What is drawn beside the pixels: the height of a section, and two places in hundredths of the
- * last one. */
+/* What is drawn beside the pixels: the height of a section, two places in hundredths of the last
+ * one, and the least size of a part likewise, plus one. */
 static const struct {
     uint8_t k;
-    uint32_t x, y;
-} draws[] = { { 100, 33, 50 }, { 0, 0, 100 }, { 255, 100, 0 }, { 7, 66, 66 } };
+    uint32_t x, y, size;
+} draws[] = { { 100, 33, 50, 1 }, { 0, 0, 100, 0 }, { 255, 100, 0, 100 }, { 7, 66, 66, 50 } };
 
 /* The first of these have no argument changed: each is a draw. */
 enum change {
     PIXELS_SHORT = LENGTH_OF(draws), PIXELS_LONG, ALL_ELSE_LONG, BYTES_SHORT, WORK_SHORT,
-    X_OUTSIDE, X_LARGEST, Y_OUTSIDE, OTHER_COUNT, OTHER_HEIGHT, OTHER_FATHER, OTHER_FIRST,
-    OTHER_MAP, FIRST_LIST_SHORT, CHANGES = FIRST_LIST_SHORT + MOST_LISTS,
+    X_OUTSIDE, X_LARGEST, Y_OUTSIDE, SIZE_0, SIZE_ABOVE_N, SIZE_OF_17_BITS, SIZE_LARGEST,
+    OTHER_COUNT, OTHER_HEIGHT, OTHER_FATHER, OTHER_FIRST, OTHER_MAP, FIRST_LIST_SHORT,
+    CHANGES = FIRST_LIST_SHORT + MOST_LISTS,
 };
 
 static const char *const change_names[CHANGES] = {
     "none", "none, second draw", "none, third draw", "none, fourth draw", "pixels short",
     "pixels long", "all else long", "bytes short", "work short", "x outside", "x largest",
-    "y outside", "other count", "other height", "other father", "other first place", "other map",
-    "list 1 short", "list 2 short", "list 3 short", "list 4 short", "list 5 short",
+    "y outside", "size 0", "size n + 1", "size 65537", "size largest", "other count",
+    "other height", "other father", "other first place", "other map", "list 1 short",
+    "list 2 short", "list 3 short", "list 4 short", "list 5 short",
 };
+
+/* Takes a least size that is refused; cut to 16 bits the third would be 1. */
+static int change_size(const struct call *call, unsigned change)
+{
+    const uint32_t unfit[] = { 0, (uint32_t)given.pixels.length + 1, 65537, UINT32_MAX };
+    given.s = unfit[change - SIZE_0];
+    return call->takes_size;
+}
 
 /* One entry less; answers 0 if there is none. */
 static int shorten(size_t *length)
@@ -114,6 +125,11 @@ static int make_change(const struct call *call, unsigned change)
     case Y_OUTSIDE:
         given.y = (uint32_t)given.pixels.length;
         return call->places >= 2;
+    case SIZE_0:
+    case SIZE_ABOVE_N:
+    case SIZE_OF_17_BITS:
+    case SIZE_LARGEST:
+        return change_size(call, change);
     case OTHER_COUNT:
     case OTHER_HEIGHT:
     case OTHER_FATHER:
@@ -163,10 +179,27 @@ static void prepare(const struct call *call, unsigned draw)
     given.k = draws[draw].k;
     given.x = last * draws[draw].x / 100;
     given.y = last * draws[draw].y / 100;
+    given.s = last * draws[draw].size / 100 + 1;
     if (call->takes_tree)
         lend_tree();
     if (call->lists_patches)
         fit_lists(call, n, draw);
+}
+
+static void begin_call(const char *kind, const struct call *call)
+{
+    begin_line(kind);
+    add_text(call->name);
+    add_number(given.adjacency);
+    add_number(given.width);
+    add_number(given.height);
+}
+
+static void end_call(void)
+{
+    add_hexadecimal(answer);
+    add_hexadecimal(lent_sum());
+    end_line();
 }
 
 static void sweep_change(const struct call *call, unsigned change)
@@ -174,16 +207,12 @@ static void sweep_change(const struct call *call, unsigned change)
     prepare(call, change < LENGTH_OF(draws) ? change : 0);
     if (!make_change(call, change))
         return;
+    uint32_t before = lent_sum();
     run_uncounted(stack_top(), call->with_arguments);
-    begin_line("swept");
-    add_text(call->name);
-    add_number(given.adjacency);
-    add_number(given.width);
-    add_number(given.height);
+    begin_call("swept", call);
     add_text(change_names[change]);
-    add_hexadecimal(answer);
-    add_hexadecimal(lent_sum());
-    end_line();
+    add_hexadecimal(before);
+    end_call();
 }
 
 static void sweep_call(const struct call *call)
@@ -199,10 +228,39 @@ static void sweep_call(const struct call *call)
             }
 }
 
+static void sweep_size(const struct call *call, unsigned draw, uint32_t s)
+{
+    prepare(call, draw);
+    given.s = s;
+    run_uncounted(stack_top(), call->with_arguments);
+    begin_call("sized", call);
+    add_number(draw);
+    add_number(s);
+    end_call();
+}
+
+/* Every size while it is small, then steps that grow with it. */
+static uint32_t next_size(uint32_t s)
+{
+    return s + 1 + (s < FEW_PIXELS ? 0 : s / 8);
+}
+
+static void sweep_sizes(const struct call *call, uint32_t side)
+{
+    given.width = side;
+    given.height = side;
+    for (given.adjacency = 4; given.adjacency <= 8; given.adjacency += 4)
+        for (unsigned draw = 0; draw < LENGTH_OF(draws); draw++)
+            for (uint32_t s = 1; s <= side * side; s = next_size(s))
+                sweep_size(call, draw, s);
+}
+
 void sweep_pictures(void)
 {
     for (unsigned i = 0; i < CONTROLLER_CALLS; i++)
         sweep_call(&controller_calls[i]);
     sweep_call(&watershed_call);
     sweep_call(&place_call);
+    sweep_sizes(&controller_calls[FILL_SMALL_PARTS], SMALL_SIDE);
+    sweep_sizes(&controller_calls[FILL_SMALL_PARTS], LARGEST_SIDE);
 }
