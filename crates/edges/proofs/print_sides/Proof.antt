@@ -1,34 +1,38 @@
--- `edges::print_sides` is safe.
-use Prim.Native.Nat.{_*_, _≤_}
+-- `edges::print_sides` is safe: its name has two short numbers.
 use native.Mathlib.Omega.{arith}
-use native.Mathlib.Nat.{mul-le-mul}
 use Rattle.text.proofs.Decimals.{two-length}
 use borrow.Author.Needs.{needs}
 use Rattle.edges.proofs.print_sides.Statement.{statement}
 use Rattle.edges.proofs.print_sides.Tie as tie
 
-slice-aggregate-print-file : tie.Need-slice-aggregate-print-file
-slice-aggregate-print-file c = search needs
+slice-aggregate-print-name : tie.Need-slice-aggregate-print-name
+slice-aggregate-print-name c = search needs
 
-abbrev origin : tie.After-numbers → tie.Start
-origin c = c .before .before .before
+slice-aggregate-print-name-2 : tie.Need-slice-aggregate-print-name-2
+slice-aggregate-print-name-2 c = search needs
 
-area : (s : tie.Start) → s .args .w * s .args .h ≤ 1681
-area s = mul-le-mul (s .pre .1) (s .pre .2)
+print-name-requires : tie.Need-print-name-requires
+print-name-requires c κs =
+    let s = c .before .before in
+    let l = two-length 4 (s .args .w) (s .args .h) (omega (arith, s .pre .0)) (omega (arith, s .pre .1)) in
+    (search needs, omega arith)
 
-mul-print-file : tie.Need-mul-print-file
-mul-print-file c = omega (arith, area (origin c))
+slice-aggregate-print-picture : tie.Need-slice-aggregate-print-picture
+slice-aggregate-print-picture c = search needs
 
-print-file-requires : tie.Need-print-file-requires
-print-file-requires c κs =
-    let s = origin c in
-    let l = two-length 4 (s .args .w) (s .args .h) (omega (arith, s .pre .1)) (omega (arith, s .pre .2)) in
-    let m = area s in
-    ((search needs, omega (arith, s .pre .0)), (omega (arith, s .pre .1), omega (arith, s .pre .2), search needs, omega arith, search needs, omega arith))
+print-picture-requires : tie.Need-print-picture-requires
+print-picture-requires c κs = search needs
 
 returns : tie.Need-returns
 returns c = search needs
 
 pub print-sides-spec : {M : Type 1} → statement M
 print-sides-spec =
-    tie.close (tie.spec slice-aggregate-print-file mul-print-file print-file-requires returns)
+    tie.close
+    (tie.spec
+    slice-aggregate-print-name
+    slice-aggregate-print-name-2
+    print-name-requires
+    slice-aggregate-print-picture
+    print-picture-requires
+    returns)
