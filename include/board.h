@@ -6,7 +6,7 @@
  *
  *    1  the file does not begin with the letters P5
  *    2  a header number or white space is missing, malformed or over
- *       5 digits
+ *       5 digits, or a comment does not end
  *    3  a side is outside 1 to 40
  *    4  the largest sample is outside 1 to 255
  *    5  the pixel bytes are not n in count
@@ -43,7 +43,9 @@ extern "C" {
 #endif
 
 /*
- * Reads one P5 file.
+ * Reads one P5 file. Before each of the three header numbers stands a byte
+ * of white space, then white space and comments in any order; a comment
+ * goes from # to the next byte 10 or 13.
  *
  *   file      the bytes of the file; read only
  *   file_len  their number

@@ -3,6 +3,7 @@ use text::put;
 use text::put_bytes;
 use text::put_fields;
 ghost use mathlib.Core.Path.{_≡_};
+ghost use mathlib.Core.List.{_++_};
 ghost use Prim.Native.Nat.{_+_, _≤_, _<_};
 ghost use lib.ListN.{length, replicate};
 ghost use Rattle.lists.specs.Writing.{Written};
@@ -70,4 +71,13 @@ pub fn put_file(out: &mut [u8], w: u32, h: u32, largest: u32, count: u32, spaces
     let second = put_spaces(out, first, spaces);
     let third = put_numbers(out, second, w, h, largest);
     put_pixels(out, third, values_of(largest), count)
+}
+
+// Writes a header and pixels of any value from a position on and answers the position behind them.
+pub fn put_headed(out: &mut [u8], at: usize, header: &[u8], count: u32) -> usize
+    requires { ⌜ (count ≤ 2000) × (at + length (now header) + count ≤ length (now out)) ⌝ }
+    ensures { λ r. ⌜ Written at (now (header .entry) ++ edgePixels 256 count) (now (out .entry)) r (now (out .exit)) ⌝ }
+{
+    let next = put_bytes(out, at, header);
+    put_pixels(out, next, 256, count)
 }

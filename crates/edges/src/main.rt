@@ -1,6 +1,8 @@
 // Prints for each edge case its name, then what `holds` prints for its file and argument.
 use files::put_file;
+use files::put_headed;
 use hold_list::put_text;
+use text::put_bytes;
 use text::put_number;
 use text::put_word;
 
@@ -19,6 +21,9 @@ const TWO_ARGUMENTS: usize = 3;
 
 // The bytes of a file of 40 by 40 pixels without spaces.
 const LARGEST_FILE: usize = 1613;
+
+// The pixels of the picture of 3 by 2.
+const SMALL_AREA: u32 = 6;
 
 // Prints the name of a case: a word and numbers.
 fn print_name(word: &[u8], numbers: &[u32])
@@ -119,6 +124,45 @@ fn print_bytes(total: u32)
     print_file(40, 40, 255, 1600, total as usize - LARGEST_FILE, ALONE, b"");
 }
 
+// The case of a header of 3 by 2, with its pixels.
+fn print_header(name: &[u8], header: &[u8])
+    requires { ⌜ length (now header) ≤ 64 ⌝ }
+{
+    io::write_all(1, name);
+    let mut input = [0u8; 4097];
+    let end = put_headed(&mut input, 0, header, SMALL_AREA);
+    print_text(&input, end, ALONE, b"");
+}
+
+// The case of a length: a picture of 3 by 2, and before its width a comment of bytes #.
+fn print_long_comment(total: u32)
+    requires { ⌜ (4096 ≤ total) × (total ≤ 4097) ⌝ }
+{
+    print_numbered(b"comment ", total);
+    let mut input = [b'#'; 4097];
+    put_bytes(&mut input, 0, b"P5\n");
+    let rest = b"\n3 2\n255\n";
+    let at = (total - SMALL_AREA) as usize - rest.len();
+    let end = put_headed(&mut input, at, rest, SMALL_AREA);
+    print_text(&input, end, ALONE, b"");
+}
+
+// The cases of comments.
+fn print_comments() {
+    print_header(b"comment first\n", b"P5\n#\n3 2\n255\n");
+    print_header(b"comment second\n", b"P5\n3 #\r2\n255\n");
+    print_header(b"comment third\n", b"P5\n3 2\n#1#\n\t#2\r255\n");
+    print_header(b"comment after P5\n", b"P5#\n3 2\n255\n");
+    print_header(b"comment in largest\n", b"P5\n3 2\n2#\n55\n");
+    print_header(b"comment after largest\n", b"P5\n3 2\n255#\n\n");
+    print_header(b"comment after header\n", b"P5\n3 2\n255\n#\n");
+    print_header(b"comment without end\n", b"P5\n3 2\n#255 ");
+    print_header(b"comment byte 12\n", b"P5\n#\x0c3 2\n255\n");
+    print_header(b"comment byte 32\n", b"P5\n# 3 2\n255\n");
+    print_long_comment(4096);
+    print_long_comment(4097);
+}
+
 // The case of a least size as the argument, with a picture of two sides.
 fn print_size(size: u32, w: u32, h: u32)
     requires { ⌜ (size < 100000) × (w ≤ 40) × (h ≤ 40) ⌝ }
@@ -174,5 +218,6 @@ fn main() {
     print_empty();
     print_bytes(4096);
     print_bytes(4097);
+    print_comments();
     print_arguments();
 }

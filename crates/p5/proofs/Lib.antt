@@ -1,5 +1,6 @@
 -- The theorems about reading are in Accepted, Refused and Places; the other modules are laws that they and the proofs of the functions cite.
 pub mod Leading
+pub mod Blanks
 pub mod Gap
 pub mod Digits
 pub mod Walking

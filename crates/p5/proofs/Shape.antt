@@ -3,19 +3,19 @@ use mathlib.Core.Path.{_≡_, sym, ap, ap₂, subst, _∙_}
 use mathlib.Core.Bool.{true, false, false≢true}
 use mathlib.Core.List.{List, [], _∷_, _++_}
 use Prim.Native.Nat.{ℕ, _+_, _<_}
-use native.Mathlib.Nat.{add-zero}
 use native.Mathlib.Numerals.{add-one}
 use native.Mathlib.Omega.{arith}
 use borrow.Author.Tests.{eqb-true}
 use lib.Dec.{eqb}
 use lib.ListN.{length, getD, drop, length-drop}
-use lib.Seq.{drop-cons, drop-drop, getD-drop}
+use lib.Seq.{drop-cons, drop-drop}
 use Rattle.p5.specs.declared.header.Header.{Header}
 use Rattle.p5.specs.declared.header.Walk.the-variants.{Walked}
 use Rattle.p5.specs.Headers.{beginsP5, isWhite, isDigit, leading, walk}
 use Rattle.p5.specs.Shapes.{Gap, Headed}
 use Rattle.lists.proofs.Tests.{and-left, and-right}
-use Rattle.p5.proofs.Gap.{white-digit}
+use Rattle.p5.proofs.Blanks.{white-digit}
+use Rattle.p5.proofs.Gap.{first-byte, gap-first}
 use Rattle.p5.proofs.Fields.{number-stands, drop-field, stands-number}
 use Rattle.p5.proofs.Walking.{Walking, walking, whole, end-white, white-within, walk-end}
 
@@ -54,9 +54,12 @@ pub walk-headed : (f : List ℕ) {h : Header} → beginsP5 f ≡ true → walk f
 walk-headed f {h} begins e = headed-of f h begins (subst (Walking f) e (walking f))
 
 -- after a number a gap begins, so no digit follows
+white-first : (s : List ℕ) → isWhite (getD s 0 0) ≡ true → leading isDigit s ≡ 0
+white-first [] e = absurd (false≢true e)
+white-first (b ∷ s) e = rw (white-digit b e)
+
 gap-digit : (g s : List ℕ) → Gap g → leading isDigit (g ++ s) ≡ 0
-gap-digit [] s k = absurd (omega (arith, k .some))
-gap-digit (b ∷ g) s k = rw (white-digit b (and-left (isWhite b) _ (k .white)))
+gap-digit g s k = white-first (g ++ s) (gap-first s k)
 
 -- and the shape is walked
 module _ (f : List ℕ) (h : Header) (s : List ℕ) (k : Headed f h s) where
@@ -102,8 +105,7 @@ module _ (f : List ℕ) (h : Header) (s : List ℕ) (k : Headed f h s) where
       let one = stands-number f 2 (k .gap₁) rest₁ (k .width) (k .is-gap₁) (k .is-width) from₀ (gap-digit (k .gap₂) _ (k .is-gap₂)) in
       let two = stands-number f after₁ (k .gap₂) rest₂ (k .height) (k .is-gap₂) (k .is-height) from₁ (gap-digit (k .gap₃) _ (k .is-gap₃)) in
       let three = stands-number f after₂ (k .gap₃) rest₃ (k .largest) (k .is-gap₃) (k .is-largest) from₂ (rw (white-digit (k .last) (k .is-last))) in
-      let place : getD f after₃ 0 ≡ getD (drop after₃ f) 0 0 = rw getD-drop (rw add-zero) in
-      let last : getD f after₃ 0 ≡ k .last = place ∙ ap (λ (l : List ℕ). getD l 0 0) from₃ in
+      let last : getD f after₃ 0 ≡ k .last = sym (first-byte f after₃) ∙ ap (λ (l : List ℕ). getD l 0 0) from₃ in
       sym (walk-end f one two three)
       ∙ sym (end-white f (h .width) (h .height) (h .largest) after₃ (ap isWhite last ∙ k .is-last))
       ∙ ap (λ (o : ℕ). Walked (record { width = h .width; height = h .height; largest = h .largest; offset = o })) ends

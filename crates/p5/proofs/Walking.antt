@@ -24,9 +24,9 @@ module _ (f : List ℕ) (w h m p : ℕ) where
   unfolding endAt
   end-stop e = rw e
 
-  pub end-past : length f ≤ p → Stopped p ≡ endAt f w h m p
-  unfolding endAt
-  end-past e = rw (List·getD-eq-default f 0 e)
+-- beyond the file there is no white space
+pub white-past : (f : List ℕ) (p : ℕ) → length f ≤ p → false ≡ isWhite (getD f p 0)
+white-past f p h = sym (ap isWhite (List·getD-eq-default f 0 h))
 
 -- a byte that is white space lies within the file
 pub white-within : (f : List ℕ) (p : ℕ) → isWhite (getD f p 0) ≡ true → p < length f
@@ -34,7 +34,7 @@ white-within f p e = within (ltb p (length f)) refl
   where
     within : (b : Bool) → ltb p (length f) ≡ b → p < length f
     within true t = ltb-true _ _ t
-    within false t = absurd (false≢true (sym (ap isWhite (List·getD-eq-default f 0 (ltb-false _ _ t))) ∙ e))
+    within false t = absurd (false≢true (white-past f p (ltb-false _ _ t) ∙ e))
 
 -- the walk by the answers of the three numbers
 module _ (f : List ℕ) where

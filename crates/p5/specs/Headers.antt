@@ -1,5 +1,5 @@
--- The grammar of a P5 header, in the order of the scope document. A position counts bytes from the start of the file.
-use mathlib.Core.Bool.{Bool, _&&_, _||_}
+-- The grammar of a P5 header, in the order of the scope document, with comments. A position counts bytes from the start of the file.
+use mathlib.Core.Bool.{Bool, false, _&&_, _||_, not}
 use mathlib.Core.List.{List, [], _∷_}
 use Prim.Native.Nat.{ℕ, suc, _+_, _-_, _*_}
 use lib.Dec.{eqb, leb}
@@ -23,9 +23,26 @@ abbrev pub leading : (ℕ → Bool) → List ℕ → ℕ
 leading t [] = 0
 leading t (b ∷ s) = pick (t b) (suc (leading t s)) 0
 
--- the gap before a number, all the white space from a position on: the position after it
+-- a byte that ends a line: 10 or 13
+abbrev pub endsLine : ℕ → Bool
+endsLine b = eqb b 10 || eqb b 13
+
+-- a comment goes from # (byte 35) up to the next byte that ends a line, which it includes: whether one runs after byte b; c: one ran before it
+abbrev pub commentAfter : Bool → ℕ → Bool
+commentAfter c b = pick c (not (endsLine b)) (eqb b 35)
+
+-- white space or #; c: a comment runs, and any byte is of it
+abbrev pub isBlank : Bool → ℕ → Bool
+isBlank c b = c || (isWhite b || eqb b 35)
+
+-- how many bytes at the front are white space and comments, in any order; c: a comment runs already
+abbrev pub blankLength : Bool → List ℕ → ℕ
+blankLength c [] = 0
+blankLength c (b ∷ s) = pick (isBlank c b) (suc (blankLength (commentAfter c b) s)) 0
+
+-- the gap before a number, white space and comments from a position on, of which the first byte is white space: the position after it
 unfoldable pub gapEnd : List ℕ → ℕ → ℕ
-gapEnd f p = p + leading isWhite (drop p f)
+gapEnd f p = pick (isWhite (getD f p 0)) (p + blankLength false (drop p f)) p
 
 -- a decimal digit is one of the bytes 48 to 57
 abbrev pub isDigit : ℕ → Bool

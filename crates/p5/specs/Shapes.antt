@@ -1,18 +1,32 @@
 -- The shape of a P5 file, byte by byte, and the causes of refusal, each by itself. The theorems say that the answers are these.
 use mathlib.Core.Path.{_≡_}
-use mathlib.Core.Bool.{true}
+use mathlib.Core.Bool.{true, not}
 use mathlib.Core.Logic.{_⊎_}
-use mathlib.Core.List.{List, _∷_, _++_}
+use mathlib.Core.List.{List, [], _∷_, _++_}
 use Prim.Native.Nat.{ℕ, suc, _+_, _*_, _≤_, _<_}
 use lib.ListN.{length, getD, take}
 use Rattle.lists.specs.Lists.{all}
 use Rattle.p5.specs.declared.header.Header.{Header}
-use Rattle.p5.specs.Headers.{isWhite, isDigit, decimalValue}
+use Rattle.p5.specs.Headers.{isWhite, endsLine, isDigit, decimalValue}
 
--- a gap: white space, at least one byte
+-- a comment: # (byte 35), a text with no end of a line in it, and a byte that ends a line
+pub record Comment (c : List ℕ) : Type 0 where
+  pub text : List ℕ
+  pub last : ℕ
+  pub bytes : c ≡ 35 ∷ text ++ last ∷ []
+  pub inside : all (λ b. not (endsLine b)) text ≡ true
+  pub ends : endsLine last ≡ true
+
+-- white space and comments, in any order
+pub data Blank : List ℕ → Type 0 where
+  none : Blank []
+  white : {b : ℕ} {s : List ℕ} → isWhite b ≡ true → Blank s → Blank (b ∷ s)
+  comment : {c s : List ℕ} → Comment c → Blank s → Blank (c ++ s)
+
+-- a gap: white space and comments, of which the first byte is white space
 pub record Gap (g : List ℕ) : Type 0 where
-  pub some : 1 ≤ length g
-  pub white : all isWhite g ≡ true
+  pub begins : isWhite (getD g 0 0) ≡ true
+  pub blank : Blank g
 
 -- a number: 1 to 5 decimal digits and their value
 pub record Numeral (d : List ℕ) (v : ℕ) : Type 0 where
@@ -62,7 +76,7 @@ pub record Accepts (f : List ℕ) (h : Header) : Type 0 where
 abbrev pub Other : List ℕ → Type 0
 Other f = (t : List ℕ) → f ≡ 80 ∷ 53 ∷ t → ⊥
 
--- the file has no header: a number or white space is missing, malformed or over 5 digits
+-- the file has no header: a number or white space is missing, malformed or over 5 digits, or a comment does not end
 abbrev pub Unheaded : List ℕ → Type 0
 Unheaded f = (h : Header) (s : List ℕ) → Headed f h s → ⊥
 

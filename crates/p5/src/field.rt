@@ -1,12 +1,15 @@
 // One number of the header, with the gap before it.
+use crate::characters::ends_line;
 use crate::characters::is_digit;
 use crate::characters::is_white;
+use crate::characters::white_at;
 ghost use mathlib.Core.Path.{_≡_};
-ghost use mathlib.Core.Bool.{true};
+ghost use mathlib.Core.Bool.{true, false};
 ghost use Prim.Native.Nat.{_+_, _-_, _*_, _<_};
 ghost use lib.Dec.{eqb};
+ghost use lib.ListN.{drop};
 ghost use Rattle.lists.specs.Lists.{pick};
-ghost use Rattle.p5.specs.Headers.{isDigit, gapEnd, digitsAt, numberAt};
+ghost use Rattle.p5.specs.Headers.{commentAfter, isBlank, blankLength, gapEnd, isDigit, digitsAt, numberAt};
 ghost use Rattle.p5.specs.Steps.{fieldEnd};
 
 // A number with the position after it, or the unfit position.
@@ -25,18 +28,53 @@ pub fn field_end(field: Field) -> usize
     }
 }
 
+// Whether a comment runs after a byte, by whether one ran before it.
+fn comment_after(comment: bool, byte: u8) -> bool
+    ensures { λ r. ⌜ r ≡ commentAfter comment byte ⌝ }
+{
+    if comment {
+        return !ends_line(byte);
+    }
+    byte == b'#'
+}
+
+// White space, # or, while a comment runs, any byte.
+fn is_blank(comment: bool, byte: u8) -> bool
+    ensures { λ r. ⌜ r ≡ isBlank comment byte ⌝ }
+{
+    if comment {
+        return true;
+    }
+    if is_white(byte) {
+        return true;
+    }
+    byte == b'#'
+}
+
+// White space and comments from `at` on: the position after them.
+fn blank_end(file: &[u8], at: usize) -> usize
+    ensures { λ r. ⌜ r ≡ at + blankLength false (drop at (now (file .entry))) ⌝ }
+{
+    let mut comment = false;
+    let mut i = at;
+    while i < file.len() {
+        if !is_blank(comment, file[i]) {
+            return i;
+        }
+        comment = comment_after(comment, file[i]);
+        i += 1;
+    }
+    i
+}
+
 // The gap before a number: the position after it, `at` itself where there is none.
 fn gap_end(file: &[u8], at: usize) -> usize
     ensures { λ r. ⌜ r ≡ gapEnd (now (file .entry)) at ⌝ }
 {
-    let mut i = at;
-    while i < file.len() {
-        if !is_white(file[i]) {
-            return i;
-        }
-        i += 1;
+    if !white_at(file, at) {
+        return at;
     }
-    i
+    blank_end(file, at)
 }
 
 // The value of digits with one more digit.

@@ -1,5 +1,5 @@
 // The header of a P5 file: three numbers and one white space byte.
-use crate::characters::is_white;
+use crate::characters::white_at;
 use crate::field::Field;
 use crate::field::field_end;
 use crate::reader::Reader;
@@ -42,10 +42,7 @@ pub fn stopped(field: Field) -> Walk
 pub fn header_end(file: &[u8], width: u32, height: u32, largest: u32, at: usize) -> Walk
     ensures { λ r. ⌜ r ≡ endAt (now (file .entry)) width height largest at ⌝ }
 {
-    if at >= file.len() {
-        return Walk::Stopped(at);
-    }
-    if !is_white(file[at]) {
+    if !white_at(file, at) {
         return Walk::Stopped(at);
     }
     let header = Header {

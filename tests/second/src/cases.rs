@@ -8,6 +8,7 @@
 //!     place ADJACENCY WIDTH HEIGHT PIXELS PLACE OUT-LENGTH WORK-LENGTH NUMBER [VALUE PATCH]
 
 use crate::arguments;
+use crate::comments;
 use crate::damage;
 use crate::file;
 use crate::generate;
@@ -300,6 +301,22 @@ fn reads_at_the_limits() -> Vec<String> {
     lines
 }
 
+/// Reading of files with comments, with an output length at a limit, and of
+/// some with a long comment.
+fn reads_with_comments() -> Vec<String> {
+    let mut lines = Vec::new();
+    for out_length in [0, 31, 32, 33] {
+        let files = comments::files();
+        lines.extend(files.iter().map(|file| read_line(file, out_length)));
+    }
+    for end in ["\n", "\r", "\x0c", ""] {
+        let start = [b"P5\n1 1\n".to_vec(), vec![b'#'; 4096]].concat();
+        let long = [&start, end.as_bytes(), b"255\n\xff"].concat();
+        lines.push(read_line(&long, READ_OUT));
+    }
+    lines
+}
+
 fn reads_for_the_order() -> Vec<String> {
     let mut lines = Vec::new();
     for file in damage::files_for_the_order() {
@@ -333,6 +350,7 @@ fn generated_call(random: &mut Random, with_place: bool) -> String {
 /// All cases, as lines; `count` of them are generated.
 pub fn text(count: usize) -> String {
     let mut lines = reads_at_the_limits();
+    lines.extend(reads_with_comments());
     lines.extend(reads_for_the_order());
     lines.extend(calls_for_the_order().iter().map(Call::line));
     lines.extend(calls_at_the_limits().iter().map(Call::line));

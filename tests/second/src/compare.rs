@@ -2,6 +2,7 @@
 //! through this one.
 
 use crate::chalk;
+use crate::comments;
 use crate::damage;
 use crate::edges;
 use crate::file;
@@ -16,16 +17,17 @@ use std::io::Write;
 use std::os::unix::ffi::OsStringExt;
 use std::process::{Command, Stdio};
 
-/// What the program prints, and how it ended if by a signal.
-fn printed(program: &str, run: &Run) -> Result<Vec<u8>, String> {
+/// What the program prints for these arguments and this input, and how it
+/// ended if by a signal.
+pub fn printed(program: &str, arguments: &[Vec<u8>], input: &[u8]) -> Result<Vec<u8>, String> {
     let mut child = Command::new(program)
-        .args(run.arguments.iter().cloned().map(OsString::from_vec))
+        .args(arguments.iter().cloned().map(OsString::from_vec))
         .stdin(Stdio::piped())
         .stdout(Stdio::piped())
         .spawn()
         .map_err(|error| format!("cannot start {}: {}", program, error))?;
     // The program may stop reading early; an error here is no failure.
-    let _ = child.stdin.take().unwrap().write_all(&run.input);
+    let _ = child.stdin.take().unwrap().write_all(input);
     let output = child
         .wait_with_output()
         .map_err(|error| format!("no output: {}", error))?;
@@ -43,6 +45,9 @@ fn files(count: usize) -> Vec<(String, Vec<u8>)> {
     ];
     for (set, file) in damage::files_for_the_order().into_iter().enumerate() {
         files.push((format!("order {}", set), file));
+    }
+    for (index, file) in comments::files().into_iter().enumerate() {
+        files.push((format!("comments {}", index), file));
     }
     let mut random = Random::new(20_001);
     files.extend((0..count).map(|index| generated_file(&mut random, index)));
@@ -170,7 +175,7 @@ pub fn compare(program: &str, count: usize) -> bool {
     let mut with_arguments = Counts::default();
     for run in runs(count) {
         let expected = run.text();
-        let given = printed(program, &run);
+        let given = printed(program, &run.arguments, &run.input);
         if given.as_deref() != Ok(expected.as_bytes()) {
             print_run(&run);
             println!("expected:\n{}", expected);

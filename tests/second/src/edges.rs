@@ -7,13 +7,18 @@ fn edge_pixel(index: usize, largest: usize) -> u8 {
     ((index * index * 31 + index * 17) % (largest.min(255) + 1)) as u8
 }
 
+/// A header and so many pixels.
+fn with_pixels(mut header: Vec<u8>, count: usize, largest: usize) -> Vec<u8> {
+    header.extend((0..count).map(|index| edge_pixel(index, largest)));
+    header
+}
+
 /// An edge file, with `spaces` added right after the first byte 10.
 fn edge_file(width: usize, height: usize, largest: usize, count: usize, spaces: usize) -> Vec<u8> {
-    let mut file = b"P5\n".to_vec();
-    file.extend(vec![b' '; spaces]);
-    file.extend(format!("{} {}\n{}\n", width, height, largest).bytes());
-    file.extend((0..count).map(|index| edge_pixel(index, largest)));
-    file
+    let mut header = b"P5\n".to_vec();
+    header.extend(vec![b' '; spaces]);
+    header.extend(format!("{} {}\n{}\n", width, height, largest).bytes());
+    with_pixels(header, count, largest)
 }
 
 /// The file with these sides, largest sample 255.
@@ -32,6 +37,41 @@ fn file_of_bytes(length: usize) -> Vec<u8> {
     let file = edge_file(40, 40, 255, 1600, length - length_without_spaces);
     assert_eq!(file.len(), length);
     file
+}
+
+/// The file of 3 by 2 with so many bytes, most of them of a comment.
+fn file_of_comment(length: usize) -> Vec<u8> {
+    let end = b"\n3 2\n255\n";
+    let mut header = b"P5\n".to_vec();
+    header.resize(length - 6 - end.len(), b'#');
+    header.extend(end);
+    with_pixels(header, 6, 255)
+}
+
+/// The names and headers of the edge cases with comments.
+const HEADERS_WITH_COMMENTS: [(&str, &[u8]); 10] = [
+    ("comment first", b"P5\n#\n3 2\n255\n"),
+    ("comment second", b"P5\n3 #\r2\n255\n"),
+    ("comment third", b"P5\n3 2\n#1#\n\t#2\r255\n"),
+    ("comment after P5", b"P5#\n3 2\n255\n"),
+    ("comment in largest", b"P5\n3 2\n2#\n55\n"),
+    ("comment after largest", b"P5\n3 2\n255#\n\n"),
+    ("comment after header", b"P5\n3 2\n255\n#\n"),
+    ("comment without end", b"P5\n3 2\n#255 "),
+    ("comment byte 12", b"P5\n#\x0c3 2\n255\n"),
+    ("comment byte 32", b"P5\n# 3 2\n255\n"),
+];
+
+/// The names and files of the edge cases with comments, in order.
+fn cases_of_comments() -> Vec<(String, Vec<u8>)> {
+    let mut cases: Vec<(String, Vec<u8>)> = HEADERS_WITH_COMMENTS
+        .iter()
+        .map(|(name, header)| (name.to_string(), with_pixels(header.to_vec(), 6, 255)))
+        .collect();
+    for length in [4096, 4097] {
+        cases.push((format!("comment {}", length), file_of_comment(length)));
+    }
+    cases
 }
 
 /// The names and files of the edge cases without an argument, in order.
@@ -54,6 +94,7 @@ fn cases_of_files() -> Vec<(String, Vec<u8>)> {
     for length in [4096, 4097] {
         cases.push((format!("bytes {}", length), file_of_bytes(length)));
     }
+    cases.extend(cases_of_comments());
     cases
 }
 
@@ -145,6 +186,30 @@ mod tests {
         ] {
             assert_eq!(number_of(name), number, "{}", name);
         }
+    }
+
+    #[test]
+    fn edges_of_comments() {
+        for (name, number) in [
+            ("comment first", 0),
+            ("comment second", 0),
+            ("comment third", 0),
+            ("comment after P5", 2),
+            ("comment in largest", 2),
+            ("comment after largest", 2),
+            ("comment after header", 5),
+            ("comment without end", 2),
+            ("comment byte 12", 2),
+            ("comment byte 32", 2),
+            ("comment 4096", 0),
+            ("comment 4097", 12),
+        ] {
+            assert_eq!(number_of(name), number, "{}", name);
+        }
+        for name in ["first", "second", "third", "4096"] {
+            assert_eq!(text_of(&format!("comment {}", name)), text_of("pixels 6"));
+        }
+        assert_eq!(file_of_comment(4096).len(), 4096);
     }
 
     #[test]

@@ -43,13 +43,36 @@ fn is_digit(byte: u8) -> bool {
     (48..=57).contains(&byte)
 }
 
-/// The position behind the white space from `start` on; at least one byte.
+/// The position behind one white space byte at `start`.
 fn walk_white_space(file: &[u8], start: usize) -> Result<usize, Refusal> {
-    let bytes = file[start..].iter();
-    match bytes.take_while(|byte| is_white_space(**byte)).count() {
-        0 => Err(refuse_at(2, start)),
-        count => Ok(start + count),
+    match file.get(start) {
+        Some(byte) if is_white_space(*byte) => Ok(start + 1),
+        _ => Err(refuse_at(2, start)),
     }
+}
+
+/// The position behind the comment at `start`: it goes up to the next byte
+/// 10 or 13, which it includes.
+fn walk_comment(file: &[u8], start: usize) -> Result<usize, Refusal> {
+    let mut bytes = file[start..].iter();
+    match bytes.position(|byte| *byte == 10 || *byte == 13) {
+        Some(count) => Ok(start + count + 1),
+        None => Err(refuse_at(2, file.len())),
+    }
+}
+
+/// The position behind the gap at `start`: a white space byte, then white
+/// space and comments in any order.
+fn walk_gap(file: &[u8], start: usize) -> Result<usize, Refusal> {
+    let mut position = walk_white_space(file, start)?;
+    while position < file.len() {
+        position = match file[position] {
+            b'#' => walk_comment(file, position)?,
+            byte if is_white_space(byte) => position + 1,
+            _ => break,
+        };
+    }
+    Ok(position)
 }
 
 /// Walks 1 to 5 digits. Answers the number and the position behind its last
@@ -70,9 +93,9 @@ fn walk_digits(file: &[u8], start: usize) -> Result<(usize, usize), Refusal> {
     Ok((value, position))
 }
 
-/// Walks white space and then a number, as `walk_digits`.
+/// Walks a gap and then a number, as `walk_digits`.
 fn walk_number(file: &[u8], start: usize) -> Result<(usize, usize), Refusal> {
-    walk_digits(file, walk_white_space(file, start)?)
+    walk_digits(file, walk_gap(file, start)?)
 }
 
 /// The number that these bytes are, if they are 1 to 5 digits and no more.
@@ -91,10 +114,7 @@ pub fn read(file: &[u8]) -> Result<Accepted, Refusal> {
     let (width, position) = walk_number(file, 2)?;
     let (height, position) = walk_number(file, position)?;
     let (largest, position) = walk_number(file, position)?;
-    if position == file.len() || !is_white_space(file[position]) {
-        return Err(refuse_at(2, position));
-    }
-    let offset = position + 1;
+    let offset = walk_white_space(file, position)?;
 
     // Ranges, only after the whole header.
     if !(1..=40).contains(&width) || !(1..=40).contains(&height) {
@@ -131,6 +151,7 @@ pub fn read_input(input: &[u8]) -> Result<Accepted, Refusal> {
 #[cfg(test)]
 mod tests {
     use super::*;
+    use crate::comments;
 
     fn number_and_detail(file: &[u8]) -> (u32, Option<usize>) {
         match read(file) {
@@ -176,7 +197,7 @@ mod tests {
 
     /// Files whose header is not well-formed, and the offset of the first
     /// unfit byte.
-    const UNFIT_HEADERS: [(&[u8], usize); 12] = [
+    const UNFIT_HEADERS: [(&[u8], usize); 11] = [
         // White space is missing.
         (b"P51 1\n9\n\x00", 2),
         (b"P5\n1,1\n9\n\x00", 4),
@@ -186,7 +207,6 @@ mod tests {
         (b"P5\n1\x0c1\n9\n\x00", 4),
         // The number is missing.
         (b"P5\n-1 1\n9\n\x00", 3),
-        (b"P5\n# no\n1 1\n9\n\x00", 3),
         (b"P5\n1 /\n9\n\x00", 5),
         (b"P5\n1 :\n9\n\x00", 5),
         // The sixth digit is unfit.
@@ -203,14 +223,89 @@ mod tests {
         }
     }
 
-    #[test]
-    fn header_that_ends_too_soon() {
-        // The offset is the file's length.
-        let whole = b"P5\n12 34\n255\n";
+    /// Every truncation of a header is 2 at its length.
+    fn assert_ends_too_soon(whole: &[u8]) {
         for length in 2..whole.len() {
             assert_eq!(number_and_detail(&whole[..length]), (2, Some(length)));
         }
         assert_eq!(number_and_detail(whole), (5, None));
+    }
+
+    #[test]
+    fn header_that_ends_too_soon() {
+        assert_ends_too_soon(b"P5\n12 34\n255\n");
+    }
+
+    #[test]
+    fn header_with_comments_that_ends_too_soon() {
+        assert_ends_too_soon(b"P5\n#\n# 9 9\r12 #1#\n \t34\r#\x0b\x0c\x00\xff\r\n#255 \n255 ");
+        for (file, [_, _, _, offset]) in comments::ACCEPTED {
+            assert_ends_too_soon(&file[..offset]);
+        }
+    }
+
+    #[test]
+    fn accepted_with_comments() {
+        for (file, [width, height, largest, offset]) in comments::ACCEPTED {
+            let accepted = Accepted {
+                width,
+                height,
+                largest,
+                offset,
+            };
+            assert_eq!(read(file), Ok(accepted), "{:?}", file);
+        }
+    }
+
+    #[test]
+    fn refused_with_comments() {
+        for (file, number, detail) in comments::REFUSED {
+            assert_eq!(number_and_detail(file), (number, detail), "{:?}", file);
+        }
+    }
+
+    /// Whether these bytes, or some continuation of them, begin with a header.
+    fn can_go_on(bytes: &[u8]) -> bool {
+        let missing = ["", "1 ", "1 1 ", "1 1 1 "];
+        missing.iter().any(|rest| {
+            let next = [bytes, rest.as_bytes()].concat();
+            let next_line = [bytes, b"\n", rest.as_bytes()].concat();
+            number_and_detail(&next).0 != 2 || number_and_detail(&next_line).0 != 2
+        })
+    }
+
+    /// Some starts of headers, each with every four bytes of these.
+    fn four_bytes_more() -> Vec<Vec<u8>> {
+        let starts = [
+            "P5",
+            "P5 1",
+            "P5 1 1",
+            "P5 1 1 1",
+            "P5 #",
+            "P5 1 #",
+            "P5 1 1 #",
+            "P5 #\r1111",
+        ];
+        let bytes = b"\n\r #12\x0c";
+        let mut files: Vec<Vec<u8>> = starts.map(|start| start.as_bytes().to_vec()).to_vec();
+        for _ in 0..4 {
+            files = files
+                .iter()
+                .flat_map(|file| bytes.map(|byte| [&file[..], &[byte]].concat()))
+                .collect();
+        }
+        files
+    }
+
+    #[test]
+    fn offset_is_the_first_unfit_byte() {
+        for file in four_bytes_more() {
+            let unfit = (2..file.len()).find(|place| !can_go_on(&file[..=*place]));
+            match number_and_detail(&file) {
+                (2, offset) => assert_eq!(offset, unfit.or(Some(file.len())), "{:?}", file),
+                _ => assert_eq!(unfit, None, "{:?}", file),
+            }
+        }
     }
 
     /// Files with a whole header, their number and its detail.

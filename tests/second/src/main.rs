@@ -8,6 +8,8 @@
 //!     second cases [count]          test cases for the C client
 //!     second calls [count]          test cases for the calls on 16-bit memory
 //!     second records                what `patch_report` prints for standard input
+//!     second files READ_REPORT FILE...
+//!                                   compares a `read_report` program with this one
 //!     second wall                   an example picture as a P5 file
 //!     second chalk                  the same with chalk smears
 
@@ -15,6 +17,7 @@ mod arguments;
 mod calls;
 mod cases;
 mod chalk;
+mod comments;
 mod compare;
 mod damage;
 mod edges;
@@ -32,6 +35,7 @@ mod question;
 mod quick;
 mod random;
 mod records;
+mod reports;
 mod wall;
 mod words;
 mod worked;
@@ -65,10 +69,18 @@ fn answer(text: impl Fn(&[u8]) -> String) -> ExitCode {
     }
 }
 
+fn code(equal: bool) -> ExitCode {
+    if equal {
+        ExitCode::SUCCESS
+    } else {
+        ExitCode::FAILURE
+    }
+}
+
 fn usage() -> ExitCode {
     eprintln!(
         "usage: second holds [arguments] | edges | records | compare HOLDS [count] \
-         | cases [count] | calls [count] | wall | chalk"
+         | cases [count] | calls [count] | files READ_REPORT FILE... | wall | chalk"
     );
     ExitCode::from(2)
 }
@@ -95,10 +107,10 @@ fn run(arguments: &[Vec<u8>]) -> ExitCode {
         ["records"] => answer(records::text),
         ["edges"] => print(edges::text().as_bytes()),
         ["compare", program, rest @ ..] => match count(rest, 600) {
-            Some(count) if compare::compare(program, count) => ExitCode::SUCCESS,
-            Some(_) => ExitCode::FAILURE,
+            Some(count) => code(compare::compare(program, count)),
             None => usage(),
         },
+        ["files", program, paths @ ..] => code(reports::compare(program, paths)),
         ["cases", rest @ ..] => match count(rest, 900) {
             Some(count) => print(cases::text(count).as_bytes()),
             None => usage(),

@@ -1,29 +1,24 @@
 -- `p5::header::header_end` meets its contract.
 use Rattle.lists.proofs.Tests.{was-true, was-false}
 use borrow.Author.Needs.{needs}
-use Rattle.p5.proofs.Walking.{end-past, end-stop, end-white}
+use Rattle.p5.proofs.Walking.{end-stop, end-white, white-within}
 use Rattle.p5.proofs.header.header_end.Statement.{statement}
 use Rattle.p5.proofs.header.header_end.Tie as tie
 
+white-at-requires : tie.Need-white-at-requires
+white-at-requires c κs = search needs
+
 returns : tie.Need-returns
-returns c = end-past _ _ _ _ _ (c .if1 .taken)
+returns c = end-stop _ _ _ _ _ (was-false (c .before .white-at .ensures) (c .if1 .taken))
 
-shared-slice-read-is-white : tie.Need-shared-slice-read-is-white
-shared-slice-read-is-white c = search needs
-
-is-white-requires : tie.Need-is-white-requires
-is-white-requires c κs = search needs
+add-t9 : tie.Need-add-t9
+add-t9 c =
+    let s = c .before .before .before in
+    let within = white-within (s .args .file .now) (s .args .at) (was-true (c .before .white-at .ensures) (c .if1 .left)) in
+    search needs
 
 returns-2 : tie.Need-returns-2
-returns-2 c = end-stop _ _ _ _ _ (was-false (c .before .is-white .ensures) (c .if2 .taken))
-
-add-t7 : tie.Need-add-t7
-add-t7 c = search needs
-
-returns-3 : tie.Need-returns-3
-returns-3 c = end-white _ _ _ _ _ (was-true (c .before .is-white .ensures) (c .if2 .left))
+returns-2 c = end-white _ _ _ _ _ (was-true (c .before .white-at .ensures) (c .if1 .left))
 
 pub header-end-spec : {M : Type 1} → statement M
-header-end-spec =
-    tie.close
-    (tie.spec returns shared-slice-read-is-white is-white-requires returns-2 add-t7 returns-3)
+header-end-spec = tie.close (tie.spec white-at-requires returns add-t9 returns-2)
