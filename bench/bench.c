@@ -10,20 +10,16 @@
  * at each side.
  */
 
-#define _POSIX_C_SOURCE 199309L
-
 #include "calls.h"
 #include "geometry.h"
 #include "pictures.h"
 #include "tables.h"
+#include "timing.h"
 
 #include <stdio.h>
 #include <stdlib.h>
 #include <string.h>
-#include <time.h>
 
-#define ROUNDS 25
-#define ROUND_SECONDS 400e-6
 #define BESIDE_ROUNDS 500
 #define BESIDE_CALLS 10
 #define FILLING 171             /* a byte of memory that no call wrote */
@@ -106,6 +102,11 @@ static uint64_t run(unsigned call, int is_ours, struct memory *m)
         return (is_ours ? controller_fill_small_parts : peer_fill_small_parts)(a, w, w,
             pixels, n, sizes[call - FILL_2], m->bytes, n, m->work, 5 * n);
     }
+}
+
+static uint64_t run_measured(unsigned call, int is_ours)
+{
+    return run(call, is_ours, is_ours ? &ours : &peer);
 }
 
 /* Fills what calls only write: an entry that an earlier call left there would hide a wrong one. */
@@ -216,50 +217,9 @@ static void compare(unsigned picture)
     place = largest_place();
 }
 
-static double now(void)
+static double beside_round(unsigned call)
 {
-    struct timespec t;
-    clock_gettime(CLOCK_THREAD_CPUTIME_ID, &t);
-    return (double)t.tv_sec + (double)t.tv_nsec * 1e-9;
-}
-
-static double lesser(double x, double y)
-{
-    return x < y ? x : y;
-}
-
-static volatile uint64_t sink;
-
-static double round_of(unsigned call, int is_ours, unsigned repeats)
-{
-    struct memory *m = is_ours ? &ours : &peer;
-    double begin = now();
-    for (unsigned i = 0; i < repeats; i++)
-        sink = run(call, is_ours, m);
-    return (now() - begin) / repeats;
-}
-
-/* How many calls fill a round. */
-static unsigned repeats_of(unsigned call)
-{
-    double once = round_of(call, 1, 1);
-    return once > ROUND_SECONDS ? 1 : (unsigned)(ROUND_SECONDS / once) + 1;
-}
-
-/* The least times of all calls in seconds; every round has all calls, ours and the peer's in turn. */
-static void measure(struct times *least)
-{
-    unsigned repeats[CALLS];
-    for (unsigned call = 0; call < CALLS; call++) {
-        repeats[call] = repeats_of(call);
-        least[call] = (struct times){ 1e9, 1e9 };
-    }
-    for (unsigned i = 0; i < ROUNDS; i++)
-        for (unsigned call = 0; call < CALLS; call++) {
-            struct times *t = &least[call];
-            t->ours = lesser(t->ours, round_of(call, 1, repeats[call]));
-            t->peer = lesser(t->peer, round_of(call, 0, repeats[call]));
-        }
+    return round_of(run_measured, call, 1, BESIDE_CALLS);
 }
 
 /* All in turn in every round, so that a slow phase of the machine is none of one alone. */
@@ -267,19 +227,14 @@ static struct against_tree measure_against_tree(void)
 {
     struct against_tree least = { 1e9, 1e9, 1e9, { 1e9, 1e9, 1e9, 1e9 } };
     for (unsigned i = 0; i < BESIDE_ROUNDS; i++) {
-        least.tree = lesser(least.tree, round_of(TREE, 1, BESIDE_CALLS));
-        least.query = lesser(least.query, round_of(QUERY, 1, BESIDE_CALLS));
-        least.patches = lesser(least.patches, round_of(PATCHES, 1, BESIDE_CALLS));
+        least.tree = lesser(least.tree, beside_round(TREE));
+        least.query = lesser(least.query, beside_round(QUERY));
+        least.patches = lesser(least.patches, beside_round(PATCHES));
         for (unsigned size = 0; size < SIZES; size++)
             least.fill[size] = lesser(least.fill[size],
-                                      round_of(FILL_2 + size, 1, BESIDE_CALLS));
+                                      beside_round(FILL_2 + size));
     }
     return least;
-}
-
-__attribute__((noinline)) static void counted(unsigned call, int is_ours)
-{
-    sink = run(call, is_ours, is_ours ? &ours : &peer);
 }
 
 static void run_once(void)
@@ -289,8 +244,8 @@ static void run_once(void)
             take(p, LARGEST_SIDE, adjacency);
             for (unsigned call = 0; call < CALLS; call++) {
                 printf("%u|%s|%s\n", adjacency, picture_names[p], call_names[call]);
-                counted(call, 1);
-                counted(call, 0);
+                counted(run_measured, call, 1);
+                counted(run_measured, call, 0);
             }
         }
 }
@@ -302,7 +257,7 @@ static void run_growth(void)
             take(NOISE, sides[s], adjacency);
             for (unsigned call = 0; call < CALLS; call++) {
                 printf("%u|%u|%s\n", adjacency, sides[s], call_names[call]);
-                counted(call, 1);
+                counted(run_measured, call, 1);
             }
         }
 }
@@ -326,7 +281,7 @@ static void compare_one(unsigned adjacency, unsigned s, unsigned p)
 
 static void measure_one(unsigned adjacency, unsigned s, unsigned p)
 {
-    measure(table[adjacency][s][p]);
+    measure(run_measured, CALLS, table[adjacency][s][p]);
     if (s == SIDES - 1)
         against_tree[adjacency][p] = measure_against_tree();
 }

@@ -1,13 +1,12 @@
 /*
  * The largest stack of each of our calls at 40 by 40: each call runs on a
  * stack of its own that was filled with a pattern, on every picture, with
- * both adjacencies, several places or least sizes, and two patterns. What an
- * empty function takes in its place is taken off, but for the return address;
- * arguments that are passed in memory are the caller's and not counted. For
- * x86-64.
+ * both adjacencies, several places, least sizes or files, and two patterns.
+ * What an empty function takes in its place is taken off, but for the return
+ * address; arguments that are passed in memory are the caller's and not
+ * counted. For x86-64.
  */
 
-#include "board.h"
 #include "calls.h"
 #include "geometry.h"
 #include "pictures.h"
@@ -19,16 +18,31 @@
 #define RETURN_ADDRESS 8
 #define MEMORY_OF_CONTROLLER 32768
 #define HEADER "P5\n40 40\n255\n"
-#define HEADER_LENGTH 13
+#define HEADER_LENGTH (sizeof HEADER - 1)
+#define READ_BYTES 32           /* of the output */
+#define FILE_ROOM (LARGEST_N + 64)      /* more than the longest file */
 
 typedef void any_function(void);
+
+/* The files that are read, by their headers: accepted without and with comments, refused with them. */
+static const struct {
+    const char *header;
+    unsigned pixels;
+} files[] = {
+    { HEADER, LARGEST_N },
+    { "P5\n# a\n# b\r 40\n# c\n40\t# d\r#\n255\n", LARGEST_N },
+    { "P5\n# a\n40\n# b\n4#0\n255\n", LARGEST_N },
+    { "P5\n40 40 # a\n# without end", 0 },
+};
+
+enum { FILES = sizeof files / sizeof *files, PLACE_STEP = (LARGEST_N - 1) / (FILES - 1) };
 
 static _Alignas(64) uint8_t stack[STACK_ROOM];
 static const uint32_t side = LARGEST_SIDE;
 static const size_t n = LARGEST_N;
-static uint8_t file[HEADER_LENGTH + LARGEST_N] = HEADER;
-static uint8_t *const pixels = file + HEADER_LENGTH;
-static uint8_t heights[LARGEST_N], bytes[LARGEST_N];
+static uint8_t file[FILE_ROOM];
+static size_t file_length;
+static uint8_t pixels[LARGEST_N], heights[LARGEST_N], bytes[LARGEST_N];
 static uint8_t packed_work[10 * LARGEST_N];
 static uint16_t fathers[LARGEST_N], firsts[LARGEST_N], map[LARGEST_N];
 static uint16_t labels[LARGEST_N], work[5 * LARGEST_N];
@@ -101,8 +115,7 @@ static void list_patches(void)
 
 static void read_for_c(void)
 {
-    answer = ((uint32_t (*)(const uint8_t *, size_t, uint8_t *, size_t))function)(
-        file, sizeof file, bytes, 32);
+    answer = ((board_read_call *)function)(file, file_length, bytes, READ_BYTES);
 }
 
 static void watershed_for_c(void)
@@ -133,7 +146,7 @@ static const struct {
     { "fill_small_parts", 19200, (any_function *)controller_fill_small_parts, fill_small_parts },
     { "query_place", 17600, (any_function *)controller_query_place, query_place },
     { "list_patches", 17600 + sizeof figures, (any_function *)controller_list_patches, list_patches },
-    { "board_read", sizeof file + 32, (any_function *)board_read, read_for_c },
+    { "board_read", HEADER_LENGTH + LARGEST_N + READ_BYTES, (any_function *)board_read, read_for_c },
     { "board_watershed", 19200, (any_function *)board_watershed, watershed_for_c },
     { "board_place", 17616, (any_function *)board_place, place_for_c },
 };
@@ -169,6 +182,15 @@ static unsigned larger(unsigned x, unsigned y)
     return x > y ? x : y;
 }
 
+static void make_file(unsigned number)
+{
+    file_length = strlen(files[number].header);
+    memcpy(file, files[number].header, file_length);
+    memcpy(file + file_length, pixels, files[number].pixels);
+    file_length += files[number].pixels;
+}
+
+/* The file that is read changes with the place. */
 static unsigned largest_used(any_function *f, any_function *with_arguments)
 {
     unsigned most = 0;
@@ -178,7 +200,8 @@ static unsigned largest_used(any_function *f, any_function *with_arguments)
             count = controller_value(controller_component_tree(a, side, side, pixels, n,
                 heights, n, fathers, n, firsts, n, map, n, work, 5 * n));
             function = f;
-            for (place = 0; place < n; place += 533) {
+            for (place = 0; place < n; place += PLACE_STEP) {
+                make_file(place / PLACE_STEP);
                 most = larger(most, used(with_arguments, 0xa5));
                 most = larger(most, used(with_arguments, 0x5a));
             }

@@ -4,6 +4,7 @@
 #define TABLES_H
 
 #include "pictures.h"
+#include "timing.h"
 
 #include <stdint.h>
 
@@ -20,11 +21,6 @@ enum {
 extern const uint32_t adjacencies[2];
 extern const unsigned sides[SIDES];
 extern const char *const call_names[CALLS];
-
-/* The least times of a call in seconds. */
-struct times {
-    double ours, peer;
-};
 
 /* The least times in seconds of the tree, of the place query, of the list of patches and of the fillings. */
 struct against_tree {

@@ -12,6 +12,8 @@
 #define VALUES 256              /* of a pixel */
 #define LARGEST_VALUE 255
 #define WALL_FILE PICTURE_COUNT /* the file's number, behind the made pictures */
+#define COMMENT_FROM 3          /* behind P5 and the first byte of white space */
+#define COMMENTED_BYTES 4096    /* of the file with a comment */
 
 extern const uint8_t wall_file[];
 extern const uint32_t wall_file_length;
@@ -139,17 +141,29 @@ void measure_controller_calls(void)
                     measure_call(&controller_calls[i], picture, adjacency);
 }
 
-static void measure_read(void)
+/* Lends the wall's file with a comment of so many bytes, or with none. */
+static void lend_file(uint32_t comment)
 {
-    lend(&read_call, wall_file_length, 0);
-    memcpy(given.pixels.at, wall_file, wall_file_length);
+    lend(&read_call, wall_file_length + comment, 0);
+    uint8_t *at = given.pixels.at, *rest = at + COMMENT_FROM + comment;
+    memcpy(at, wall_file, COMMENT_FROM);
+    memset(at + COMMENT_FROM, '#', comment);
+    if (comment > 0)
+        rest[-1] = '\n';
+    memcpy(rest, wall_file + COMMENT_FROM, wall_file_length - COMMENT_FROM);
+}
+
+static void measure_read(const char *title, uint32_t comment)
+{
+    lend_file(comment);
     given.adjacency = 0;
-    measure(&read_call, read_call.name, WALL_FILE);
+    measure(&read_call, title, WALL_FILE);
 }
 
 void measure_board_calls(void)
 {
-    measure_read();
+    measure_read("board_read", 0);
+    measure_read("board_read, 4096 bytes with a comment", COMMENTED_BYTES - wall_file_length);
     for (uint32_t adjacency = 4; adjacency <= 8; adjacency += 4) {
         measure_call(&watershed_call, WALL_FILE, adjacency);
         measure_call(&place_call, WALL_FILE, adjacency);

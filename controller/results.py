@@ -1,6 +1,6 @@
 """What the images of the controller printed and what was counted, and tables of it."""
 
-from collections import namedtuple
+from collections import defaultdict, namedtuple
 
 OUT = "target/controller"
 CALLS = ("label_section", "component_tree", "check_tree", "pass_between", "is_lowerable",
@@ -35,9 +35,13 @@ def runs(image):
             for row, count in zip(used, counts)}
 
 
-def runs_of(call, measured):
-    """The runs of one call, whatever the title says more of it."""
-    return [run for (title, _, _), run in measured.items() if title.split(",")[0] == call]
+def rows_of(call, measured):
+    """The runs of one call by the row of a table: its titles if the bare name is one, else that."""
+    rows = defaultdict(list)
+    for (title, _, _), run in measured.items():
+        if title.split(",")[0] == call:
+            rows[title].append(run)
+    return rows if call in rows else {call: sum(rows.values(), [])}
 
 
 def table_row(cells):
