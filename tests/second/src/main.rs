@@ -1,5 +1,6 @@
 //! A second program for the board picture, written from the prose of the scope
-//! document and of the change requests alone, to compare the first one with.
+//! document and of the change requests, and from what was decided on their open
+//! words, to compare the first one with.
 //!
 //!     second holds [arguments]      what `holds` prints with these arguments for
 //!                                   standard input
