@@ -10,6 +10,8 @@
  * are 0, or the number of the refusal:
  *
  *    3  a side is outside 1 to 40
+ *    4  the largest sample is outside 1 to 255
+ *    6  a pixel is above the largest sample
  *    7  the adjacency is neither 4 nor 8
  *    8  the picture's length is not n
  *    9  the lent output, list, tree or work memory is too short
@@ -20,14 +22,16 @@
  *   13  the least size is 0 or above n
  *
  * Its lower 32 bits (controller_value) are the value that is named at the
- * function, or 0 on a refusal. When causes of several refusals hold, the one
- * that comes first in the order stated at the function is returned.
+ * function, or 0 on a refusal; only the refusal 6 of controller_write_file
+ * has a place there. When causes of several refusals hold, the one that comes
+ * first in the order stated at the function is returned.
  *
  * On a refusal all lent memory is left as it was. After success only the
  * entries named at the function and the first 5 n of `work` have changed;
  * all others keep their content.
  *
- * Every function takes
+ * Every function takes these; controller_write_file neither adjacency nor
+ * work:
  *
  *   adjacency   4 or 8
  *   width       1 to 40
@@ -85,6 +89,19 @@ static inline uint32_t controller_pixel(uint64_t answer)
 static inline uint32_t controller_patch(uint64_t answer)
 {
     return controller_value(answer) & 0xffff;
+}
+
+/* The count of bytes in the answer of controller_write_file, or 0. */
+static inline uint32_t controller_count(uint64_t answer)
+{
+    return controller_value(answer) & 0xffff;
+}
+
+/* The first place above the largest sample in the answer of
+ * controller_write_file, where the refusal is 6; else 0. */
+static inline uint32_t controller_first_above(uint64_t answer)
+{
+    return controller_value(answer) >> 16;
 }
 
 /*
@@ -256,6 +273,29 @@ uint64_t controller_list_patches(
     uint16_t *depths, size_t depths_len,
     uint16_t *columns, size_t columns_len,
     uint16_t *rows, size_t rows_len, uint16_t *work, size_t work_len);
+
+/*
+ * Saves a picture as a P5 file with the shortest header.
+ *
+ *   largest  the largest sample, 1 to 255
+ *   out      lent output of as many bytes as the file has; 1,613 are enough
+ *            for every picture
+ *
+ * The file is the letters P5, byte 10, the width, a space, the height, byte
+ * 10, the largest sample, byte 10, and the n pixels. Its numbers are decimal
+ * digits with no leading zeros.
+ *
+ * The value is the count of the file's bytes (controller_count). After
+ * success as many bytes of `out` are the file. Of a refusal 6 the upper 16
+ * bits of the value are the first place above the largest sample
+ * (controller_first_above).
+ *
+ * Refusals, in this order: 3, 4, 8, 6, 9 (out_len below that count).
+ */
+uint64_t controller_write_file(
+    uint32_t width, uint32_t height, uint32_t largest,
+    const uint8_t *pixels, size_t pixels_len,
+    uint8_t *out, size_t out_len);
 
 #ifdef __cplusplus
 }

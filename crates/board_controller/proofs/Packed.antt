@@ -10,7 +10,9 @@ use Rattle.answers.specs.declared.Answer.{Answer}
 use Rattle.answers.specs.Answers.{WorkSays}
 use Rattle.board.specs.declared.query.Queried.{Queried}
 use Rattle.board.specs.Calls.{placeFaultOf, groundOf, patchNumber, QuerySays}
-use Rattle.packed_answers.specs.Packed.{answerIn, queriedIn, groundByNumber}
+use Rattle.saving.specs.declared.Saved.{Saved}
+use Rattle.saving.specs.Calls.{SaveSays}
+use Rattle.packed_answers.specs.Packed.{answerIn, queriedIn, groundByNumber, savedIn}
 
 ground-again : (n : ℕ) → groundOf (patchNumber (groundOf n)) ≡ groundOf n
 ground-again zero = refl
@@ -34,3 +36,8 @@ query-packed {p} {x} {q} {q′} {a} r e s =
 pub work-packed :
     {f v : ℕ} {p : Picture} {q q′ : List ℕ} {a : Answer} (r : ℕ) → answerIn r ≡ a → WorkSays f v p q q′ a → WorkSays f v p q q′ (answerIn r)
 work-packed {f} {v} {p} {q} {q′} r e s = subst (λ (b : Answer). WorkSays f v p q q′ b) (sym e) s
+
+-- the same of saving
+pub save-packed :
+    {w h m : ℕ} {xs o o′ : List ℕ} {a : Saved} (r : ℕ) → savedIn r ≡ a → SaveSays w h m xs o o′ a → SaveSays w h m xs o o′ (savedIn r)
+save-packed {w} {h} {m} {xs} {o} {o′} r e s = subst (λ (b : Saved). SaveSays w h m xs o o′ b) (sym e) s

@@ -7,13 +7,16 @@ use board::label_section;
 use board::pass_between;
 use board::query_place;
 use board::watershed_of;
+use board::write_file;
 use figure_lists::list_figures;
 use packed_answers::packed;
 use packed_answers::packed_query;
+use packed_answers::packed_saved;
 ghost use Rattle.picture.specs.Pictures.{pictureOf};
 ghost use Rattle.board.specs.Calls.{LabelsSay, LowerableSays, WatershedSays, FillSays, QuerySays};
 ghost use Rattle.board.specs.Trees.{TreeSays, CheckSays, PassSays};
-ghost use Rattle.packed_answers.specs.Packed.{answerIn, queriedIn};
+ghost use Rattle.saving.specs.Calls.{SaveSays};
+ghost use Rattle.packed_answers.specs.Packed.{answerIn, queriedIn, savedIn};
 ghost use Rattle.figure_lists.specs.Figures.{FiguresSay};
 
 // The labels of the section at height k; the value is the number of its components.
@@ -213,4 +216,19 @@ pub extern "C" fn controller_list_patches(
         rows,
         work,
     ))
+}
+
+// Saves a picture as a P5 file with the shortest header; the value is the count of bytes, of a refusal 6 the place above 16
+// bits.
+#[no_mangle]
+pub extern "C" fn controller_write_file(
+    width: u32,
+    height: u32,
+    largest: u32,
+    pixels: &[u8],
+    out: &mut [u8],
+) -> u64
+    ensures { λ r. ⌜ SaveSays width height largest (now (pixels .entry)) (now (out .entry)) (now (out .exit)) (savedIn r) ⌝ }
+{
+    packed_saved(write_file(width, height, largest, pixels, out))
 }

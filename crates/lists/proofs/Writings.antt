@@ -78,6 +78,11 @@ pub written-front : {xs o o′ : List ℕ} {to : ℕ} → Written 0 xs o to o′
 written-front {xs} {o} {o′} {to} w =
     let e : to ≡ length xs = w .end ∙ omega arith in w .whole ∙ ap (λ (n : ℕ). xs ++ drop n o) e
 
+-- the same, the other way
+pub front-written : {xs o o′ : List ℕ} {to : ℕ} → to ≡ length xs → o′ ≡ over xs o → Written 0 xs o to o′
+front-written {xs} {o} {o′} {to} e f =
+    record { end = omega (arith, e); whole = f ∙ ap (λ (n : ℕ). xs ++ drop n o) (sym e) }
+
 -- the texts of no number
 pub lines-none : (f : ℕ → List ℕ) (l : List ℕ) (at : ℕ) → Written at (flatMap f (range 0 0)) l at l
 unfolding flatMap
@@ -100,3 +105,7 @@ text-within {to} {xs} {a} {b} w =
     let l = ap length (w .whole) ∙ length-append xs (drop to a) in
     let h : to ≤ length b = omega arith in
     (h, sym (length-take-le to b h))
+
+-- and stands there
+pub text-front : {to : ℕ} {xs a b : List ℕ} → Written 0 xs a to b → take to b ≡ xs
+text-front {to} {xs} {a} {b} w = ap (take to) (w .whole) ∙ take-at xs (drop to a) to (omega (arith, w .end))

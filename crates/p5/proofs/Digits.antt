@@ -50,7 +50,8 @@ module _ (f : List ℕ) (p : ℕ) where
   unfolding digitsAt
   digits-many h = rw (ne-eqb (leading isDigit (drop p f)) 0 (omega arith), lt-leb _ _ h)
 
-decimal-snoc : (v : ℕ) (s : List ℕ) (b : ℕ) → decimalFrom v (s ++ b ∷ []) ≡ decimalFrom v s * 10 + (b - 48)
+-- one digit more behind the others
+pub decimal-snoc : (v : ℕ) (s : List ℕ) (b : ℕ) → decimalFrom v (s ++ b ∷ []) ≡ decimalFrom v s * 10 + (b - 48)
 decimal-snoc v [] b = refl
 decimal-snoc v (a ∷ s) b = decimal-snoc _ s b
 

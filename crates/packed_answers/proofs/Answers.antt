@@ -5,7 +5,8 @@ use native.Mathlib.Omega.{arith}
 use Rattle.answers.specs.declared.Answer.{Answer}
 use Rattle.board.specs.declared.query.Queried.{Queried}
 use Rattle.board.specs.Calls.{groundOf, patchNumber}
-use Rattle.packed_answers.specs.Packed.{twoTo32, twoTo16, answerIn, queriedIn, groundByNumber}
+use Rattle.saving.specs.declared.Saved.{Saved}
+use Rattle.packed_answers.specs.Packed.{twoTo32, twoTo16, answerIn, queriedIn, groundByNumber, savedIn}
 
 -- a number above 32 bits and a value in them
 pub answer-again : (a : Answer) → a .value < twoTo32 → answerIn (a .number * twoTo32 + a .value) ≡ a
@@ -24,3 +25,13 @@ query-again a m h l e =
     let v : r % twoTo32 / twoTo16 ≡ a .value = omega arith in
     let g : r % twoTo16 ≡ m = omega arith in
     λ j. record { number = n j; value = v j; ground = ap groundOf (g ∙ e) j }
+
+-- a number above 32 bits, a place above 16 bits and a count in those
+pub saved-again :
+    (a : Saved) → a .place < twoTo16 → a .count < twoTo16 → savedIn (a .number * twoTo32 + a .place * twoTo16 + a .count) ≡ a
+saved-again a h l =
+    let r = a .number * twoTo32 + a .place * twoTo16 + a .count in
+    let n : r / twoTo32 ≡ a .number = omega arith in
+    let p : r % twoTo32 / twoTo16 ≡ a .place = omega arith in
+    let c : r % twoTo16 ≡ a .count = omega arith in
+    λ j. record { number = n j; place = p j; count = c j }
