@@ -6,9 +6,9 @@ use mathlib.Core.List.{List}
 use Prim.Native.Nat.{ℕ, _+_, _-_, _≤_, _<_}
 use native.Mathlib.Omega.{arith}
 use lib.Dec.{ltb}
-use lib.ListN.{length, getD, take, drop, length-take, length-drop}
+use lib.ListN.{length, getD, take, drop, length-drop}
 use lib.Seq.{getD-drop}
-use borrow.Author.Tests.{eq-eqb, ne-eqb, lt-ltb, le-ltb}
+use borrow.Author.Tests.{lt-ltb, le-ltb}
 use Rattle.lists.specs.Lists.{pick}
 use Rattle.picture.specs.Pictures.{Picture, withPixels, isPicture, pictureOf}
 use Rattle.picture.specs.Watersheds.{watershed}
@@ -19,46 +19,38 @@ use Rattle.topology.proofs.Demand.{demand-3}
 use Rattle.p5.specs.Files.{readFile, outcomeNumber, headerOf}
 use Rattle.p5.proofs.Accepted.{accepted-number}
 use Rattle.hold_lines.specs.Lines.{refusedLine}
-use Rattle.hold_list.specs.HoldText.{patchList, holdList, pictureIn, fileText, filledList, askedSize, programText}
+use Rattle.file_text.specs.FileText.{fileFault}
+use Rattle.file_text.proofs.FileTexts.{text-refused, text-print, text-counted}
+use Rattle.hold_list.specs.HoldText.{patchList, holdList, pictureIn, pictureText, filledList, askedSize, programText}
 use Rattle.hold_list.specs.Steps.{askedList}
 
 -- a picture with adjacency 4
 abbrev picture : ℕ → ℕ → List ℕ → Picture
 picture = pictureOf 4
 
--- the text for a file by the cases of reading, whatever is printed of its picture
-module _ (print : Picture → List ℕ) (f : List ℕ) where
-  file-long : 4096 < length f → fileText print f ≡ refusedLine 12
-  unfolding fileText
-  file-long h = rw (lt-ltb 4096 (length f) h, fileText)
-
-  file-refused : length f ≤ 4096 → outcomeNumber (readFile f) ≢ 0 → fileText print f ≡ refusedLine (outcomeNumber (readFile f))
-  unfolding fileText
-  file-refused h d = rw (le-ltb 4096 (length f) h, ne-eqb (outcomeNumber (readFile f)) 0 d, fileText)
-
-  file-print : length f ≤ 4096 → outcomeNumber (readFile f) ≡ 0 → fileText print f ≡ print (pictureIn f)
-  unfolding fileText
-  file-print h e = rw (le-ltb 4096 (length f) h, eq-eqb (outcomeNumber (readFile f)) 0 e, fileText)
-
 -- a test may come before reading or after it
-test-later : (b : Bool) (g h : Picture → List ℕ) (f : List ℕ) → pick b (fileText g f) (fileText h f) ≡ fileText (λ p. pick b (g p) (h p)) f
+test-later :
+    (b : Bool) (g h : Picture → List ℕ) (f : List ℕ) →
+    pick b (pictureText g f) (pictureText h f) ≡ pictureText (λ p. pick b (g p) (h p)) f
 test-later true g h f = refl
 test-later false g h f = refl
 
--- the same of what the program prints
-module _ (words : ℕ) (a f : List ℕ) where
-  asked : programText words a f ≡ fileText (askedList words a) f
+-- what the program prints by the fault of the file
+module _ (words : ℕ) (a : List ℕ) where
+  asked : (f : List ℕ) → programText words a f ≡ pictureText (askedList words a) f
   unfolding programText askedList
-  asked = test-later (ltb words 2) holdList (filledList (askedSize words a)) f
+  asked f = test-later (ltb words 2) holdList (filledList (askedSize words a)) f
 
-  pub text-long : 4096 < length f → programText words a f ≡ refusedLine 12
-  text-long h = asked ∙ file-long (askedList words a) f h
+  pub words-refused : (f : List ℕ) → fileFault f ≢ 0 → programText words a f ≡ refusedLine (fileFault f)
+  words-refused f d = asked f ∙ text-refused _ f d
 
-  pub text-refused : length f ≤ 4096 → outcomeNumber (readFile f) ≢ 0 → programText words a f ≡ refusedLine (outcomeNumber (readFile f))
-  text-refused h d = asked ∙ file-refused (askedList words a) f h d
+  pub words-list : (f : List ℕ) → fileFault f ≡ 0 → programText words a f ≡ askedList words a (pictureIn f)
+  words-list f e = asked f ∙ text-print _ f e
 
-  pub text-list : length f ≤ 4096 → outcomeNumber (readFile f) ≡ 0 → programText words a f ≡ askedList words a (pictureIn f)
-  text-list h e = asked ∙ file-print (askedList words a) f h e
+  -- more than 4,096 bytes of an input: refusal 12
+  pub words-counted :
+      (count : ℕ) (input : List ℕ) → 4096 < count → 4096 < length input → programText words a (take count input) ≡ refusedLine 12
+  words-counted count input h g = asked (take count input) ∙ text-counted _ count input h g
 
 -- what is printed of a picture by the number of words
 module _ (words : ℕ) (a : List ℕ) (p : Picture) where
@@ -94,12 +86,6 @@ module _ (f : List ℕ) where
   read-picture w h o ew eh eo =
       ap (picture w h) (take-rest o f ∙ ap (λ (i : ℕ). drop i f) eo) ∙
       ap₂ (λ (a b : ℕ). picture a b (drop (headerOf (readFile f) .offset) f)) ew eh
-
--- more than 4,096 bytes of an input: refusal 12
-pub text-counted :
-    (words : ℕ) (a : List ℕ) (count : ℕ) (input : List ℕ) → 4096 < count → 4096 < length input →
-    programText words a (take count input) ≡ refusedLine 12
-text-counted words a count input h g = text-long words a (take count input) (omega (arith, length-take count input))
 
 -- bytes that are the pixels of the watershed of an accepted picture
 module _ (p : Picture) (h : isPicture p ≡ true) (xs : List ℕ) (e : xs ≡ watershed p .pixels) where

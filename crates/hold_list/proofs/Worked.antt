@@ -12,7 +12,8 @@ use Rattle.p5.specs.Headers.{gapEnd, digitsAt, numberAt, endAt, walk}
 use Rattle.p5.specs.Files.{onPixels, onHeader, readFile}
 use Rattle.text.specs.Decimal.{decimal}
 use Rattle.hold_lines.specs.Lines.{refusedLine}
-use Rattle.hold_list.specs.HoldText.{patchList, holdList, fileText, filledList, namedSize, programText}
+use Rattle.file_text.specs.FileText.{fileFault, fileText}
+use Rattle.hold_list.specs.HoldText.{patchList, holdList, filledList, namedSize, programText}
 
 -- H3 with largest sample 9
 abbrev h3 : List ℕ
@@ -31,12 +32,12 @@ h3Text =
     50 ∷ 32 ∷ 50 ∷ 32 ∷ 48 ∷ 32 ∷ 52 ∷ 32 ∷ 51 ∷ 53 ∷ 32 ∷ 48 ∷ 10 ∷ []
 
 pub worked-text : programText 1 [] h3 ≡ h3Text
-unfolding adjacent componentAt components isBranch nodesAt nodes fatherOf lowerable best watershed isLeaf patchNodes depthOf patchOf patches patchAt lineCount gapEnd digitsAt numberAt endAt walk onPixels onHeader readFile decimal patchList holdList fileText programText
+unfolding adjacent componentAt components isBranch nodesAt nodes fatherOf lowerable best watershed isLeaf patchNodes depthOf patchOf patches patchAt lineCount gapEnd digitsAt numberAt endAt walk onPixels onHeader readFile decimal patchList holdList fileFault fileText programText
 worked-text = refl
 
 -- an empty file is refused with number 1
 pub worked-refusal : programText 1 [] [] ≡ 114 ∷ 101 ∷ 102 ∷ 117 ∷ 115 ∷ 101 ∷ 100 ∷ 32 ∷ 49 ∷ 10 ∷ []
-unfolding readFile decimal fileText programText
+unfolding readFile decimal fileFault fileText programText
 worked-refusal = refl
 
 -- what is printed for H3 with the argument 2: filled it is 3 3 4 2 2
@@ -52,7 +53,7 @@ h3Filled =
     50 ∷ 32 ∷ 50 ∷ 32 ∷ 50 ∷ 32 ∷ 50 ∷ 32 ∷ 51 ∷ 53 ∷ 32 ∷ 48 ∷ 10 ∷ []
 
 pub worked-filled : programText 2 (50 ∷ []) h3 ≡ h3Filled
-unfolding adjacent componentAt components isBranch nodesAt nodes fatherOf lowerable best watershed isLeaf patchNodes depthOf patchOf patches patchAt lineCount gapEnd digitsAt numberAt endAt walk onPixels onHeader readFile decimal filledAt filled patchList holdList fileText filledList namedSize programText
+unfolding adjacent componentAt components isBranch nodesAt nodes fatherOf lowerable best watershed isLeaf patchNodes depthOf patchOf patches patchAt lineCount gapEnd digitsAt numberAt endAt walk onPixels onHeader readFile decimal filledAt filled patchList holdList fileFault fileText filledList namedSize programText
 worked-filled = refl
 
 -- no size is named by the letter x, by no bytes, by six digits, by two arguments
@@ -65,5 +66,5 @@ pub worked-unnamed :
     (programText 2 (48 ∷ []) h3 ≡ refusedLine 13) ×
     (programText 2 (54 ∷ []) h3 ≡ refusedLine 13) ×
     (programText 2 (120 ∷ []) [] ≡ refusedLine 1)
-unfolding gapEnd digitsAt numberAt endAt walk onPixels onHeader readFile decimal fileText filledList namedSize programText
+unfolding gapEnd digitsAt numberAt endAt walk onPixels onHeader readFile decimal fileFault fileText filledList namedSize programText
 worked-unnamed = (refl, refl, refl, refl, refl, refl, refl)

@@ -1,5 +1,5 @@
 -- What the program `holds` prints for a file.
-use mathlib.Core.Bool.{true, false, _&&_}
+use mathlib.Core.Bool.{_&&_}
 use mathlib.Core.List.{List, [], _∷_, _++_}
 use Prim.Native.Nat.{ℕ}
 use lib.Dec.{eqb, ltb, leb}
@@ -11,8 +11,9 @@ use Rattle.picture.specs.Patches.{Patch, patches, lineCount}
 use Rattle.picture.specs.Filling.{filled}
 use Rattle.faults.specs.Faults.{sizeUnfit}
 use Rattle.p5.specs.Headers.{isDigit, decimalValue}
-use Rattle.p5.specs.Files.{readFile, outcomeNumber, headerOf}
+use Rattle.p5.specs.Files.{readFile, headerOf}
 use Rattle.hold_lines.specs.Lines.{headLines, refusedLine, lineOf}
+use Rattle.file_text.specs.FileText.{fileText}
 
 -- the line of a patch
 abbrev pub patchLine : Patch → List ℕ
@@ -37,18 +38,13 @@ pictureIn f =
     let h = headerOf (readFile f) in
     pictureOf 4 (h .width) (h .height) (drop (h .offset) f)
 
--- the text for a file: 12 for more than 4096 bytes, else the refusal of reading, else what is
--- printed of its picture
-unfoldable pub fileText : (Picture → List ℕ) → List ℕ → List ℕ
-fileText print f =
-    elim (ltb 4096 (length f)) [
-      | true ↦ refusedLine 12
-      | false ↦ elim (eqb (outcomeNumber (readFile f)) 0) [ true ↦ print (pictureIn f) | false ↦ refusedLine (outcomeNumber (readFile f)) ]
-    ]
+-- the text for a file: its refusal, else what is printed of its picture
+abbrev pub pictureText : (Picture → List ℕ) → List ℕ → List ℕ
+pictureText print f = fileText (λ g. print (pictureIn g)) f
 
 -- the text for a file without an argument: the hold list of its picture
 abbrev pub holdText : List ℕ → List ℕ
-holdText f = fileText holdList f
+holdText f = pictureText holdList f
 
 -- the hold list of a picture filled with the least size s; 13 where s is 0 or above n
 unfoldable pub filledList : ℕ → Picture → List ℕ
@@ -64,4 +60,4 @@ askedSize words a = pick (eqb words 2) (namedSize a) 0
 
 -- what `holds` prints for a file, the number of its words, and its argument a; with fewer than two words it has no argument
 unfoldable pub programText : ℕ → List ℕ → List ℕ → List ℕ
-programText words a f = pick (ltb words 2) (holdText f) (fileText (filledList (askedSize words a)) f)
+programText words a f = pick (ltb words 2) (holdText f) (pictureText (filledList (askedSize words a)) f)

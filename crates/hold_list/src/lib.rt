@@ -1,6 +1,7 @@
 // The text for a whole file: its refusal, or the hold list of its picture or of the filled one.
 use argument::asked_size;
 use faults::size_after;
+use file_text::read_handed;
 use filling::whole::fill_core;
 use hold_lines::put_head;
 use hold_lines::put_lines;
@@ -8,7 +9,6 @@ use hold_lines::put_refusal;
 use patches::cores::patch_figures;
 use patches::places::count_line;
 use ranges::lesser;
-use reading::read_file;
 use watershed::whole::watershed_core;
 
 mod argument;
@@ -155,10 +155,7 @@ fn put_file_text(file: &[u8], words: usize, argument: &[u8], out: &mut [u8]) -> 
     requires { ⌜ 59264 ≤ length (now out) ⌝ }
     ensures { λ r. ⌜ Written 0 (programText words (now (argument .entry)) (now (file .entry))) (now (out .entry)) r (now (out .exit)) ⌝ }
 {
-    if 4096 < file.len() {
-        return put_refusal(out, 12);
-    }
-    let answer = read_file(file);
+    let answer = read_handed(file);
     let number = answer.number;
     if number != 0 {
         return put_refusal(out, number as u32);

@@ -14,7 +14,7 @@ pub struct Read {
 }
 
 // The answer for a file that is refused.
-fn refused(number: u8, place: usize) -> Read
+pub fn refused(number: u8, place: usize) -> Read
     ensures { λ r. ⌜ RefusedRead number place r ⌝ }
 {
     Read {

@@ -7,7 +7,7 @@ use Rattle.lists.specs.Writing.{Written}
 use Rattle.lists.proofs.Cuts.{take-counted}
 use Rattle.answers.proofs.Calls.{lent-length}
 use Rattle.hold_list.specs.HoldText.{programText}
-use Rattle.hold_list.proofs.Texts.{text-counted}
+use Rattle.hold_list.proofs.Texts.{words-counted}
 use borrow.Author.Needs.{needs}
 use Rattle.hold_list.proofs.put_text.Statement.{statement}
 use Rattle.hold_list.proofs.put_text.Tie as tie
@@ -32,7 +32,7 @@ returns c =
       subst (λ (file : List ℕ). Written 0 (programText (s .args .words) (s .args .argument .now) file) (s .args .out .now) (p .result) (p .last .1 .1 .1 .0))
           (take-counted input (s .args .count) (e .lesser .result) (omega (arith, e .lesser .ensures, e .before .bytes .given)))
           (p .ensures),
-      λ h. text-counted (s .args .words) (s .args .argument .now) (s .args .count) input h (omega (arith, e .before .bytes .given)),
+      λ h. words-counted (s .args .words) (s .args .argument .now) (s .args .count) input h (omega (arith, e .before .bytes .given)),
     )
 
 pub put-text-spec : {M : Type 1} → statement M

@@ -1,0 +1,3 @@
+-- Laws of the text for a file.
+pub mod FileTexts
+pub mod Examples

@@ -1,0 +1,2 @@
+-- What the program `resave` prints for a file.
+pub mod Resaved
