@@ -17,6 +17,7 @@
  *         DEPTHS-LENGTH COLUMNS-LENGTH ROWS-LENGTH WORK-LENGTH NUMBER
  *         [COUNT SIZES HEIGHTS DEPTHS COLUMN-SUMS ROW-SUMS]
  *   fill ADJACENCY WIDTH HEIGHT PIXELS SIZE OUT-LENGTH WORK-LENGTH NUMBER [OUT]
+ *   save WIDTH HEIGHT LARGEST PIXELS OUT-LENGTH NUMBER COUNT PLACE [FILE]
  *
  * cases.h has the form of the fields. Lengths count entries; a 16-bit entry
  * is four hexadecimal digits, highest first. The fields in brackets stand
@@ -27,7 +28,9 @@
 #include "cases.h"
 
 #define MOST_ENTRIES (MEMORY_ROOM / 2)
+#define MOST_PLACES 1600
 #define MOST_PATCHES 800 /* enough for every picture, the header says */
+#define MOST_BYTES 1613 /* the same of a saved picture */
 
 /* The lists of figures of patches, in the order of the arguments. */
 enum { SIZES, HEIGHTS, DEPTHS, COLUMNS, ROWS, FIGURES };
@@ -43,7 +46,7 @@ enum { SIZES, HEIGHTS, DEPTHS, COLUMNS, ROWS, FIGURES };
         ENTRIES(figures[ROWS])
 
 /* The arguments of a call, and the lists that are lent or expected. */
-static uint32_t node_count, place, other_place, least_size;
+static uint32_t node_count, place, other_place, least_size, largest;
 static uint8_t k;
 static size_t out_length, work_length;
 static size_t heights_length, fathers_length, firsts_length, map_length;
@@ -52,8 +55,9 @@ static struct given pixels_given, heights_given, fathers_given, firsts_given;
 static struct given map_given, out_given, figures_given[FIGURES];
 
 /* The number and the value that a call returns; of a place the value is made
- * of the pixel and the patch. */
-static uint64_t number, value, pixel, patch;
+ * of the pixel and the patch, of a saved picture of the first place above the
+ * largest sample and the count of bytes. */
+static uint64_t number, value, pixel, patch, first_above, count;
 
 static struct memory pixels, heights, fathers, firsts, map, out, work;
 static struct memory figures[FIGURES];
@@ -114,7 +118,7 @@ static void take_label(void)
     take_work_and_number();
     if (number != 0)
         return;
-    value = take_number(1600);
+    value = take_number(MOST_PLACES);
     take_entries(&out_given);
 }
 
@@ -214,18 +218,42 @@ static void take_patches(void)
     }
 }
 
+static void take_save(void)
+{
+    width = take_word();
+    height = take_word();
+    largest = take_word();
+    take_bytes(&pixels_given);
+    out_length = take_length();
+    number = take_number(9);
+    count = take_number(MOST_BYTES);
+    first_above = take_number(MOST_PLACES - 1);
+    value = first_above * 65536 + count;
+    if (number != 0)
+        return;
+    take_bytes(&out_given);
+    if (out_given.length != count)
+        malformed = 1;
+}
+
 static uint16_t *lent_entries(struct memory *memory)
 {
     return (uint16_t *)(void *)lent(memory);
 }
 
 /* Prepares what every call is lent. */
-static void prepare_picture_and_work(unsigned turn)
+static void prepare_picture(unsigned turn)
 {
     /* What an earlier case left in memory is no fault of this one. */
     for (size_t index = 0; index < MEMORIES; index++)
         remember(memories[index].memory);
     prepare_input(&pixels, &pixels_given, 1, 3, turn);
+}
+
+/* Prepares what every call but saving is lent. */
+static void prepare_picture_and_work(unsigned turn)
+{
+    prepare_picture(turn);
     prepare(&work, 2 * work_length, 2, 7, turn);
 }
 
@@ -268,11 +296,9 @@ static int is_right(uint64_t result)
            controller_value(result) == value;
 }
 
-/* Checks the result and all memory; work is zero over 5 n entries after
- * success. */
-static int check(uint64_t result)
+/* Checks the result and all memory. */
+static int check_without_work(uint64_t result)
 {
-    static const uint8_t zeros[MEMORY_ROOM];
     if (!is_right(result)) {
         printf("returned %lu and %lu, expected %lu and %lu\n",
                (unsigned long)controller_refusal(result),
@@ -280,14 +306,21 @@ static int check(uint64_t result)
                (unsigned long)number, (unsigned long)value);
         return 0;
     }
-    if (number == 0)
-        expect(&work, zeros, 10 * pixels_given.length);
     for (size_t index = 0; index < MEMORIES; index++)
         if (!as_expected(memories[index].memory)) {
             printf("memory differs: %s\n", memories[index].name);
             return 0;
         }
     return 1;
+}
+
+/* The same for a call with work; it is zero over 5 n entries after success. */
+static int check(uint64_t result)
+{
+    static const uint8_t zeros[MEMORY_ROOM];
+    if (number == 0)
+        expect(&work, zeros, 10 * pixels_given.length);
+    return check_without_work(result);
 }
 
 /* Checks the two parts of the value for a place. */
@@ -300,6 +333,19 @@ static int check_place(uint64_t result)
            (unsigned long)controller_pixel(result),
            (unsigned long)controller_patch(result), (unsigned long)pixel,
            (unsigned long)patch);
+    return 0;
+}
+
+/* Checks the two parts of the value for a saved picture. */
+static int check_save(uint64_t result)
+{
+    if (controller_count(result) == count &&
+        controller_first_above(result) == first_above)
+        return 1;
+    printf("count %lu and first place %lu, expected %lu and %lu\n",
+           (unsigned long)controller_count(result),
+           (unsigned long)controller_first_above(result),
+           (unsigned long)count, (unsigned long)first_above);
     return 0;
 }
 
@@ -384,6 +430,16 @@ static int run_patches(unsigned turn)
     return check(result);
 }
 
+static int run_save(unsigned turn)
+{
+    prepare_picture(turn);
+    prepare(&out, out_length, 1, 5, turn);
+    uint64_t result = controller_write_file(width, height, largest,
+                                            BYTES(pixels), BYTES(out));
+    expect_given(&out, &out_given);
+    return check_without_work(result) && check_save(result);
+}
+
 int main(void)
 {
     static const struct kind kinds[] = {
@@ -396,6 +452,7 @@ int main(void)
         {"place", take_place, run_place},
         {"patches", take_patches, run_patches},
         {"fill", take_fill, run_fill},
+        {"save", take_save, run_save},
     };
     return run_cases(kinds, sizeof kinds / sizeof *kinds);
 }

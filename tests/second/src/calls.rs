@@ -15,6 +15,10 @@
 //!         COLUMNS-LENGTH ROWS-LENGTH WORK-LENGTH NUMBER
 //!         [COUNT SIZES HEIGHTS DEPTHS COLUMN-SUMS ROW-SUMS]
 //!     fill ADJACENCY WIDTH HEIGHT PIXELS SIZE OUT-LENGTH WORK-LENGTH NUMBER [OUT]
+//!     save WIDTH HEIGHT LARGEST PIXELS OUT-LENGTH NUMBER COUNT PLACE [FILE]
+//!
+//! Of a saved picture the count is 0 on a refusal, and the place is the first
+//! one above the largest sample where the number is 6, else 0.
 
 use crate::fills;
 use crate::generate;
@@ -26,6 +30,7 @@ use crate::question::{
 };
 use crate::quick;
 use crate::random::Random;
+use crate::saves;
 use crate::worked;
 
 /// The pictures worked by hand, each also under the other adjacency and
@@ -425,7 +430,9 @@ pub fn text(count: usize) -> String {
         calls.extend(KINDS.map(|kind| generated_call(&mut random, kind)));
     }
     calls.extend(fills::calls(count));
-    calls.iter().map(|call| call.line() + "\n").collect()
+    let mut lines: Vec<String> = calls.iter().map(Call::line).collect();
+    lines.extend(saves::lines(count));
+    lines.join("\n") + "\n"
 }
 
 #[cfg(test)]
@@ -436,6 +443,7 @@ mod tests {
         match kind {
             "label" | "fill" => 8,
             "lowerable" | "watershed" | "place" => 7,
+            "save" => 6,
             "tree" => 10,
             "check" | "patches" => 11,
             _ => 13,
@@ -444,7 +452,7 @@ mod tests {
 
     #[test]
     fn every_number_occurs() {
-        let expected: [(&str, &[u32]); 9] = [
+        let expected: [(&str, &[u32]); 10] = [
             ("label", &[0, 3, 7, 8, 9]),
             ("lowerable", &[0, 3, 7, 8, 9, 10]),
             ("tree", &[0, 3, 7, 8, 9]),
@@ -454,6 +462,7 @@ mod tests {
             ("place", &[0, 3, 7, 8, 9, 10]),
             ("patches", &[0, 3, 7, 8, 9]),
             ("fill", &[0, 3, 7, 8, 9, 13]),
+            ("save", &[0, 3, 4, 6, 8, 9]),
         ];
         limits::assert_numbers(&text(100), number_field, &expected, 2);
     }

@@ -18,17 +18,17 @@ pub struct Accepted {
     pub offset: usize,
 }
 
-/// The longest input that the program `holds` takes.
+/// The longest input that the programs `holds` and `resave` take.
 pub const INPUT_LIMIT: usize = 4096;
 
-fn refuse(number: u32) -> Refusal {
+pub fn refuse(number: u32) -> Refusal {
     Refusal {
         number,
         detail: None,
     }
 }
 
-fn refuse_at(number: u32, detail: usize) -> Refusal {
+pub fn refuse_at(number: u32, detail: usize) -> Refusal {
     Refusal {
         number,
         detail: Some(detail),
@@ -140,7 +140,7 @@ pub fn read(file: &[u8]) -> Result<Accepted, Refusal> {
     })
 }
 
-/// Reads the input of the program `holds`: refusal 12 first, then 1 to 6.
+/// Reads the input of these programs: refusal 12 first, then 1 to 6.
 pub fn read_input(input: &[u8]) -> Result<Accepted, Refusal> {
     if input.len() > INPUT_LIMIT {
         return Err(refuse(12));

@@ -11,6 +11,8 @@
 //!     second records                what `patch_report` prints for standard input
 //!     second files READ_REPORT FILE...
 //!                                   compares a `read_report` program with this one
+//!     second resave                 what `resave` prints for standard input
+//!     second saves RESAVE FILE...   compares a `resave` program with this one
 //!     second wall                   an example picture as a P5 file
 //!     second chalk                  the same with chalk smears
 
@@ -37,6 +39,9 @@ mod quick;
 mod random;
 mod records;
 mod reports;
+mod resave;
+mod saves;
+mod saving;
 mod wall;
 mod words;
 mod worked;
@@ -62,10 +67,10 @@ fn print(bytes: &[u8]) -> ExitCode {
 }
 
 /// Prints the text for standard input.
-fn answer(text: impl Fn(&[u8]) -> String) -> ExitCode {
+fn answer<Text: AsRef<[u8]>>(text: impl Fn(&[u8]) -> Text) -> ExitCode {
     let mut input = Vec::new();
     match std::io::stdin().read_to_end(&mut input) {
-        Ok(_) => print(text(&input).as_bytes()),
+        Ok(_) => print(text(&input).as_ref()),
         Err(_) => ExitCode::FAILURE,
     }
 }
@@ -81,7 +86,8 @@ fn code(equal: bool) -> ExitCode {
 fn usage() -> ExitCode {
     eprintln!(
         "usage: second holds [arguments] | edges | records | compare HOLDS [count] \
-         | cases [count] | calls [count] | files READ_REPORT FILE... | wall | chalk"
+         | cases [count] | calls [count] | files READ_REPORT FILE... | resave \
+         | saves RESAVE FILE... | wall | chalk"
     );
     ExitCode::from(2)
 }
@@ -112,6 +118,8 @@ fn run(arguments: &[Vec<u8>]) -> ExitCode {
             None => usage(),
         },
         ["files", program, paths @ ..] => code(reports::compare(program, paths)),
+        ["resave"] => answer(resave::text),
+        ["saves", program, paths @ ..] => code(resave::compare(program, paths)),
         ["cases", rest @ ..] => match count(rest, 900) {
             Some(count) => print(cases::text(count).as_bytes()),
             None => usage(),

@@ -35,7 +35,7 @@ fn line(file: &[u8]) -> String {
 }
 
 /// The file at a path; else says why there is none.
-fn given_file(path: &str) -> Option<Vec<u8>> {
+pub fn given_file(path: &str) -> Option<Vec<u8>> {
     match std::fs::read(path) {
         Ok(file) if file.len() <= FILE_LIMIT => return Some(file),
         Ok(_) => println!("{}: over {} bytes", path, FILE_LIMIT),
@@ -45,7 +45,7 @@ fn given_file(path: &str) -> Option<Vec<u8>> {
 }
 
 /// The file cut to every length below its own.
-fn truncations(file: &[u8]) -> impl Iterator<Item = Vec<u8>> + '_ {
+pub fn truncations(file: &[u8]) -> impl Iterator<Item = Vec<u8>> + '_ {
     (0..file.len()).map(|length| file[..length].to_vec())
 }
 
