@@ -18,6 +18,7 @@ typedef __typeof__(controller_watershed_of) watershed_of_call;
 typedef __typeof__(controller_fill_small_parts) fill_small_parts_call;
 typedef __typeof__(controller_query_place) query_place_call;
 typedef __typeof__(controller_list_patches) list_patches_call;
+typedef __typeof__(controller_write_file) write_file_call;
 typedef __typeof__(board_read) board_read_call;
 
 extern label_section_call peer_label_section;
@@ -29,6 +30,7 @@ extern watershed_of_call peer_watershed_of;
 extern fill_small_parts_call peer_fill_small_parts;
 extern query_place_call peer_query_place;
 extern list_patches_call peer_list_patches;
+extern write_file_call peer_write_file;
 extern board_read_call peer_read;
 
 /* How many pixels fell and were tested in the peer's watersheds since these were set to 0; counted only if compiled with COUNT_FALLS. */

@@ -1,4 +1,4 @@
-/* The sides of a picture, the neighbours of a place, and the refusals. */
+/* The limits of a picture and of its file, the neighbours of a place, and the refusals. */
 
 #ifndef GEOMETRY_H
 #define GEOMETRY_H
@@ -8,6 +8,9 @@
 
 #define LARGEST_SIDE 40
 #define LARGEST_N (LARGEST_SIDE * LARGEST_SIDE)
+#define LARGEST_SAMPLE 255      /* of a file */
+#define LONGEST_HEADER "P5\n40 40\n255\n"      /* of a file that is saved */
+#define MOST_HEADER_BYTES (sizeof LONGEST_HEADER - 1)
 #define MOST_PATCHES (LARGEST_N / 2)    /* of a checkerboard with adjacency 4 */
 #define FIGURES 5               /* of a patch: size, height, depth, column sum, row sum */
 

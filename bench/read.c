@@ -11,7 +11,6 @@
 #define LETTERS 2               /* bytes of P5 */
 #define NUMBERS 3               /* width, height and largest sample */
 #define MOST_DIGITS 5           /* of a number */
-#define LARGEST_SAMPLE 255
 #define NUMBER_BYTES 8          /* of a number in the output */
 #define OUTPUT_BYTES (4 * NUMBER_BYTES)
 

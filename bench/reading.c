@@ -8,6 +8,7 @@
  */
 
 #include "calls.h"
+#include "files.h"
 #include "geometry.h"
 #include "timing.h"
 
@@ -17,8 +18,6 @@
 
 #define OUTPUT_BYTES 32
 #define OUTPUT_ROOM 40          /* more than is lent */
-#define FILLING 171             /* a byte of output that no call wrote */
-#define ANSWERS 10
 #define MALFORMED 2
 #define NUMBERS 3               /* of a header */
 #define SHOWN_BYTES 40          /* of a file that is read differently */
@@ -31,12 +30,6 @@
 /* The wall without comments, and the length to which the longest comment brings it. */
 #define WALL_BYTES (sizeof "P5\n40\n40\n255\n" - 1 + LARGEST_N)
 #define LONG_BYTES 4096
-
-#define LENGTH_OF(array) (sizeof(array) / sizeof *(array))
-
-/* examples/wall.pgm */
-extern const uint8_t wall_file[];
-extern const uint32_t wall_file_length;
 
 struct file {
     size_t length;
@@ -92,7 +85,6 @@ enum { GAP_CHOICES = sizeof in_gap, MOST_IN_GAP = 5 };
 
 static struct file given;               /* that is compared */
 static struct file timed[TIMED];        /* walls, then comments without end */
-static unsigned long answered[ANSWERS]; /* how often, while comparing */
 
 static void put(struct file *file, const void *bytes, size_t count)
 {
@@ -125,7 +117,7 @@ static void make_wall(struct file *file, const size_t *comments)
         put_text(file, numbers[i]);
     }
     put_text(file, "\n");
-    put(file, wall_file + wall_file_length - LARGEST_N, LARGEST_N);
+    put(file, wall_pixels(), LARGEST_N);
 }
 
 static void make_timed(void)
@@ -166,7 +158,7 @@ static void same(size_t room)
     uint32_t second = peer_read(given.bytes, given.length, peer, room);
     if (first != second || memcmp(ours, peer, sizeof ours) != 0)
         end_by_difference(room, first, second);
-    answered[first]++;
+    count_answer(first);
 }
 
 static void compare_outputs(void)
@@ -240,19 +232,6 @@ static void compare(void)
     compare_gaps();
 }
 
-static void print_answered(void)
-{
-    unsigned long all = 0;
-    for (unsigned i = 0; i < ANSWERS; i++)
-        all += answered[i];
-    printf("\nresults of reading: the same %lu times; by answer", all);
-    for (unsigned i = 0; i < ANSWERS; i++)
-        if (answered[i] > 0)
-            printf(" %u: %lu", i, answered[i]);
-    printf("\n");
-    fflush(stdout);
-}
-
 /* Ends the program unless the walls are accepted and the comments without end refused. */
 static void check_timed(void)
 {
@@ -265,17 +244,12 @@ static void check_timed(void)
 
 static void print_tables(const struct times *least)
 {
-    printf("\nReading: time of ours over time of the peer, 40 by 40\n\n");
-    printf("| file | bytes | ours, ns | peer, ns | ours over the peer |\n|---|---|---|---|---|\n");
+    print_times_head("Reading", "file");
     for (unsigned i = 0; i < WALLS; i++)
-        printf("| %s | %zu | %.0f | %.0f | %.2f |\n", walls[i].name, timed[i].length,
-               least[i].ours * 1e9, least[i].peer * 1e9, least[i].ours / least[i].peer);
-    printf("\nReading a comment that never ends, refused: nanoseconds a byte\n\n");
-    printf("| bytes | ours | peer |\n|---|---|---|\n");
+        print_times(walls[i].name, timed[i].length, least[i]);
+    print_growth_head("Reading a comment that never ends, refused: nanoseconds a byte", "bytes");
     for (unsigned i = WALLS; i < TIMED; i++)
-        printf("| %zu | %.2f | %.2f |\n", timed[i].length,
-               least[i].ours * 1e9 / (double)timed[i].length,
-               least[i].peer * 1e9 / (double)timed[i].length);
+        print_growth(timed[i].length, timed[i].length, least[i]);
 }
 
 static void read_once(void)
@@ -297,7 +271,7 @@ int main(int arguments, char **argument)
         return 0;
     }
     compare();
-    print_answered();
+    print_answers("reading");
     measure(read_timed, TIMED, least);
     print_tables(least);
     return 0;

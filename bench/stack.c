@@ -1,10 +1,10 @@
 /*
  * The largest stack of each of our calls at 40 by 40: each call runs on a
  * stack of its own that was filled with a pattern, on every picture, with
- * both adjacencies, several places, least sizes or files, and two patterns.
- * What an empty function takes in its place is taken off, but for the return
- * address; arguments that are passed in memory are the caller's and not
- * counted. For x86-64.
+ * both adjacencies, several places, least sizes, files or largest samples, and
+ * two patterns. What an empty function takes in its place is taken off, but
+ * for the return address; arguments that are passed in memory are the
+ * caller's and not counted. For x86-64.
  */
 
 #include "calls.h"
@@ -17,8 +17,6 @@
 #define STACK_ROOM 65536
 #define RETURN_ADDRESS 8
 #define MEMORY_OF_CONTROLLER 32768
-#define HEADER "P5\n40 40\n255\n"
-#define HEADER_LENGTH (sizeof HEADER - 1)
 #define READ_BYTES 32           /* of the output */
 #define FILE_ROOM (LARGEST_N + 64)      /* more than the longest file */
 
@@ -29,13 +27,17 @@ static const struct {
     const char *header;
     unsigned pixels;
 } files[] = {
-    { HEADER, LARGEST_N },
+    { LONGEST_HEADER, LARGEST_N },
     { "P5\n# a\n# b\r 40\n# c\n40\t# d\r#\n255\n", LARGEST_N },
     { "P5\n# a\n40\n# b\n4#0\n255\n", LARGEST_N },
     { "P5\n40 40 # a\n# without end", 0 },
 };
 
 enum { FILES = sizeof files / sizeof *files, PLACE_STEP = (LARGEST_N - 1) / (FILES - 1) };
+
+/* The largest samples with which pictures are saved: the first is accepted, the next two are below a
+ * pixel of most pictures, the last is outside its range. */
+static const uint32_t largest_samples[FILES] = { LARGEST_SAMPLE, 99, 9, 0 };
 
 static _Alignas(64) uint8_t stack[STACK_ROOM];
 static const uint32_t side = LARGEST_SIDE;
@@ -113,6 +115,13 @@ static void list_patches(void)
         figures[3], MOST_PATCHES, figures[4], MOST_PATCHES, work, 5 * n);
 }
 
+/* The largest sample changes with the place. */
+static void write_file(void)
+{
+    answer = ((write_file_call *)function)(side, side, largest_samples[place / PLACE_STEP],
+                                           pixels, n, file, MOST_HEADER_BYTES + n);
+}
+
 static void read_for_c(void)
 {
     answer = ((board_read_call *)function)(file, file_length, bytes, READ_BYTES);
@@ -146,7 +155,8 @@ static const struct {
     { "fill_small_parts", 19200, (any_function *)controller_fill_small_parts, fill_small_parts },
     { "query_place", 17600, (any_function *)controller_query_place, query_place },
     { "list_patches", 17600 + sizeof figures, (any_function *)controller_list_patches, list_patches },
-    { "board_read", HEADER_LENGTH + LARGEST_N + READ_BYTES, (any_function *)board_read, read_for_c },
+    { "write_file", LARGEST_N + MOST_HEADER_BYTES + LARGEST_N, (any_function *)controller_write_file, write_file },
+    { "board_read", MOST_HEADER_BYTES + LARGEST_N + READ_BYTES, (any_function *)board_read, read_for_c },
     { "board_watershed", 19200, (any_function *)board_watershed, watershed_for_c },
     { "board_place", 17616, (any_function *)board_place, place_for_c },
 };

@@ -37,6 +37,7 @@ struct arguments {
     uint32_t count;             /* nodes of the lent tree */
     uint32_t x, y;              /* places */
     uint32_t s;                 /* the least size of a part */
+    uint32_t largest;           /* sample of the file that is saved */
     struct bytes bytes;         /* the tree's heights, or an output of bytes */
     struct entries lists[MOST_LISTS];
     struct entries work;
@@ -54,6 +55,7 @@ struct call {
     uint32_t places;            /* how many it takes */
     int takes_tree;
     int takes_size;
+    int saves;                  /* takes a largest sample, and no adjacency */
     int lists_patches;          /* the lists have an entry a patch, not a pixel */
     int on_tablet;
 };
@@ -63,7 +65,9 @@ extern struct arguments given;
 /* The refusal's number above 32 bits of value, also for the calls of board.h. */
 extern uint64_t answer;
 
-#define CONTROLLER_CALLS 9
+#define NO_ADJACENCY 0          /* of the calls that take none */
+
+#define CONTROLLER_CALLS 10
 #define LABEL_SECTION 0         /* the number of the call that takes k */
 #define FILL_SMALL_PARTS 6      /* the number of the call that takes s */
 extern const struct call controller_calls[CONTROLLER_CALLS];

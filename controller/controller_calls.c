@@ -64,6 +64,11 @@ static void list_patches(void)
                                 LENT(lists[3]), LENT(lists[4]), LENT(work));
 }
 
+static void write_file(void)
+{
+    answer = CALL(write_file)(given.width, given.height, given.largest, LENT(pixels), LENT(bytes));
+}
+
 #define ON_PICTURE .most_entries = LARGEST_N, .work_a_pixel = WORK_A_PIXEL
 #define WITH_TREE .bytes_a_pixel = 1, .lists = 3
 
@@ -78,6 +83,7 @@ const struct call controller_calls[CONTROLLER_CALLS] = {
     { "query_place", query_place, ON_PICTURE, .places = 1 },
     { "list_patches", list_patches, .work_a_pixel = WORK_A_PIXEL,
       .lists = FIGURES, .most_entries = MOST_PATCHES, .lists_patches = 1 },
+    { "write_file", write_file, .bytes_a_pixel = 1, .other_bytes = MOST_HEADER_BYTES, .saves = 1 },
 };
 
 /* The work memory is written over again: the next call must not find it zero. */

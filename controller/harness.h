@@ -4,7 +4,8 @@
 #define HARNESS_H
 
 /*
- * Every call on every picture at 40 by 40 with both adjacencies. A line
+ * Every call on every picture at 40 by 40 with both adjacencies, or with 0
+ * for one that takes none. A line
  *
  *   measured|call|adjacency|picture|answer|sum over all lent memory
  *

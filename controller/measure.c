@@ -56,6 +56,7 @@ static void prepare(const struct call *call, unsigned picture, uint32_t adjacenc
     given.height = LARGEST_SIDE;
     given.x = call->places == 1 ? first_largest() : 0;
     given.y = LARGEST_N - 1;
+    given.largest = LARGEST_SAMPLE;
     if (call->takes_tree)
         lend_tree();
 }
@@ -128,17 +129,28 @@ static void measure_fillings(unsigned picture, uint32_t adjacency)
     }
 }
 
+/* Measures the call of a number under every adjacency that it takes. */
+static void measure_adjacencies(unsigned number, unsigned picture)
+{
+    const struct call *call = &controller_calls[number];
+    if (call->saves) {
+        measure_call(call, picture, NO_ADJACENCY);
+        return;
+    }
+    for (uint32_t adjacency = 4; adjacency <= 8; adjacency += 4)
+        if (number == LABEL_SECTION)
+            measure_sections(picture, adjacency);
+        else if (number == FILL_SMALL_PARTS)
+            measure_fillings(picture, adjacency);
+        else
+            measure_call(call, picture, adjacency);
+}
+
 void measure_controller_calls(void)
 {
     for (unsigned i = 0; i < CONTROLLER_CALLS; i++)
         for (unsigned picture = 0; picture <= WALL_FILE; picture++)
-            for (uint32_t adjacency = 4; adjacency <= 8; adjacency += 4)
-                if (i == LABEL_SECTION)
-                    measure_sections(picture, adjacency);
-                else if (i == FILL_SMALL_PARTS)
-                    measure_fillings(picture, adjacency);
-                else
-                    measure_call(&controller_calls[i], picture, adjacency);
+            measure_adjacencies(i, picture);
 }
 
 /* Lends the wall's file with a comment of so many bytes, or with none. */
@@ -156,7 +168,7 @@ static void lend_file(uint32_t comment)
 static void measure_read(const char *title, uint32_t comment)
 {
     lend_file(comment);
-    given.adjacency = 0;
+    given.adjacency = NO_ADJACENCY;
     measure(&read_call, title, WALL_FILE);
 }
 

@@ -17,6 +17,7 @@
     empty controller_fill_small_parts
     empty controller_query_place
     empty controller_list_patches
+    empty controller_write_file
     empty board_read
     empty board_watershed
     empty board_place

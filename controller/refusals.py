@@ -1,7 +1,8 @@
 """Counts the answers of the sweep. Fails if a refusal that a header lists was not reached.
 
-Each output, list and work memory must have been refused with 9 when it alone was too short, and
-each least size that no picture has with 13. A refusal must leave all lent memory as it was.
+Each output, list and work memory must have been refused with 9 when it alone was too short, each
+least size that no picture has with 13, each largest sample that no file has with 4, and a pixel
+above the largest sample with 6. A refusal must leave all lent memory as it was.
 """
 
 import sys
@@ -12,8 +13,15 @@ from results import CALLS, OUT, lines, symbol, table
 
 SUCCESS = 0
 TOO_SHORT = 9
-UNFIT_SIZE = 13
-SIZE_CHANGES = {"size 0", "size n + 1", "size 65537", "size largest"}
+
+# The changes that a call must have refused as such, by the refusal's number. A call that takes such
+# arguments too must be named here.
+REFUSED_CHANGES = {
+    "fill_small_parts": {13: ("size 0", "size 65537", "size largest", "size n + 1")},
+    "write_file": {4: ("sample 0", "sample 256", "sample 65537", "sample largest"),
+                   6: ("first pixel above", "middle pixel above", "last pixel above",
+                       "all pixels above")},
+}
 NUMBERS = sorted(set().union(*headers.refusals().values()))     # of all refusals
 
 # A line of the sweep; number is that of the refusal.
@@ -42,13 +50,13 @@ def missed_lengths(swept):
             for call in CALLS if refused[call] != lengths[call]]
 
 
-def missed_sizes(swept):
-    """The least sizes that were not refused as such."""
-    listed = headers.refusals()
-    refused = {(line.call, line.change) for line in swept if line.number == UNFIT_SIZE}
-    return ["%s with %d for %s" % (call, UNFIT_SIZE, change) for call in CALLS
-            for change in sorted(SIZE_CHANGES)
-            if UNFIT_SIZE in listed[symbol(call)] and (call, change) not in refused]
+def missed_changes(swept):
+    """The changes of arguments that were not refused as such."""
+    refused = {(line.call, line.number, line.change) for line in swept}
+    return ["%s with %d for %s" % (call, number, change)
+            for call, numbers in REFUSED_CHANGES.items()
+            for number, changes in numbers.items()
+            for change in changes if (call, number, change) not in refused]
 
 
 def changed_memory(swept):
@@ -70,7 +78,7 @@ def main():
     table("Calls of the sweep, by the refusal's number", ["call", "accepted"] + NUMBERS,
           [["`%s`" % call, reached[call, SUCCESS]]
            + [reached[call, number] or "" for number in NUMBERS] for call in CALLS])
-    missed = missed_numbers(reached) + missed_lengths(swept) + missed_sizes(swept)
+    missed = missed_numbers(reached) + missed_lengths(swept) + missed_changes(swept)
     faults = ["the sweep did not reach " + said for said in missed] + changed_memory(swept)
     for said in faults:
         print("controller: " + said, file=sys.stderr)

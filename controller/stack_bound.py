@@ -1,10 +1,10 @@
 """The deepest stack of a call for every input, from the frames of the compiled functions.
 
-Frames have fixed sizes, and no function calls itself or through a pointer (it stops where one
-does), so this is a bound and not a measurement. The compiler tells the frames of our functions
-(.su); those of libgcc and the C library are read from their code, so that the bound holds for the
-ones that are linked. Where two functions have one name (both libraries hold the tree) the larger
-counts.
+Frames have fixed sizes. No function calls one through a pointer, or itself but those with a known
+number of activations (it stops where one does). So this is a bound and not a measurement. The
+compiler tells the frames of our functions (.su); those of libgcc and the C library are read from
+their code, so that the bound holds for the ones that are linked. Where two functions have one name
+(both libraries hold the tree) the larger counts.
 """
 
 import re
@@ -12,6 +12,10 @@ import subprocess
 from collections import defaultdict
 
 REGISTER_BYTES = 4
+
+# How many frames at once a function has that calls itself. put_number has one for each decimal digit
+# of its number of 32 bits: each calls the next with a tenth of it, until that is below 10.
+MOST_ACTIVATIONS = {"text::put_number": 10}
 
 
 class Code:
@@ -80,16 +84,26 @@ def read_code(image):
     return code
 
 
+def activations(name, code):
+    """How many frames of a function may be on the stack at once."""
+    if name not in code.calls[name]:
+        return 1
+    assert name in MOST_ACTIVATIONS, ("calls itself", name)
+    return MOST_ACTIVATIONS[name]
+
+
 def deepest(name, frames, code, above=()):
     """The bytes of stack of a function, and the chain of calls that takes them."""
     assert name in code.functions, ("no such function", name)
     assert name not in above, ("recursive", above)
     assert name not in code.indirect, ("calls through a pointer", name)
     assert name in frames or name not in code.unclear, ("a frame that is not known", name)
-    below = [deepest(callee, frames, code, above + (name,)) for callee in sorted(code.calls[name])]
+    below = [deepest(callee, frames, code, above + (name,))
+             for callee in sorted(code.calls[name] - {name})]
     size, chain = max(below, key=lambda found: found[0], default=(0, ()))
-    own = frames.get(name, code.pushed[name])
-    return own + size, ("%s %d" % (name, own),) + chain
+    own, times = frames.get(name, code.pushed[name]), activations(name, code)
+    shown = "%s %d" % (name, own) if times == 1 else "%s %d times %d" % (name, times, own)
+    return times * own + size, (shown,) + chain
 
 
 def bounds(image, paths, names):

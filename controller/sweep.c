@@ -1,6 +1,7 @@
 /*
  * Every call on several pictures with right and wrong sides and adjacencies,
- * and with one argument changed at a time; the filling with many least sizes.
+ * and with one argument changed at a time, or pixels above the largest sample;
+ * the filling with many least sizes.
  */
 
 #include "board_controller.h"
@@ -25,16 +26,21 @@ static const uint32_t sides[] = { 0, 1, 2, SMALL_SIDE, LARGEST_SIDE, LARGEST_SID
 static const uint32_t adjacencies[] = { 3, 4, 8 };
 
 /* What is drawn beside the pixels: the height of a section, two places in hundredths of the last
- * one, and the least size of a part likewise, plus one. */
+ * one, the least size of a part likewise, plus one, and the largest sample of a file. That of the
+ * first is below a pixel's largest value, so that a pixel may be above it. */
 static const struct {
     uint8_t k;
-    uint32_t x, y, size;
-} draws[] = { { 100, 33, 50, 1 }, { 0, 0, 100, 0 }, { 255, 100, 0, 100 }, { 7, 66, 66, 50 } };
+    uint32_t x, y, size, largest;
+} draws[] = {
+    { 100, 33, 50, 1, 99 }, { 0, 0, 100, 0, 255 }, { 255, 100, 0, 100, 1 }, { 7, 66, 66, 50, 100 },
+};
 
 /* The first of these have no argument changed: each is a draw. */
 enum change {
     PIXELS_SHORT = LENGTH_OF(draws), PIXELS_LONG, ALL_ELSE_LONG, BYTES_SHORT, WORK_SHORT,
     X_OUTSIDE, X_LARGEST, Y_OUTSIDE, SIZE_0, SIZE_ABOVE_N, SIZE_OF_17_BITS, SIZE_LARGEST,
+    SAMPLE_0, SAMPLE_OF_9_BITS, SAMPLE_OF_17_BITS, SAMPLE_LARGEST,
+    FIRST_ABOVE, MIDDLE_ABOVE, LAST_ABOVE, ALL_ABOVE,
     OTHER_COUNT, OTHER_HEIGHT, OTHER_FATHER, OTHER_FIRST, OTHER_MAP, FIRST_LIST_SHORT,
     CHANGES = FIRST_LIST_SHORT + MOST_LISTS,
 };
@@ -42,9 +48,11 @@ enum change {
 static const char *const change_names[CHANGES] = {
     "none", "none, second draw", "none, third draw", "none, fourth draw", "pixels short",
     "pixels long", "all else long", "bytes short", "work short", "x outside", "x largest",
-    "y outside", "size 0", "size n + 1", "size 65537", "size largest", "other count",
-    "other height", "other father", "other first place", "other map", "list 1 short",
-    "list 2 short", "list 3 short", "list 4 short", "list 5 short",
+    "y outside", "size 0", "size n + 1", "size 65537", "size largest", "sample 0", "sample 256",
+    "sample 65537", "sample largest", "first pixel above", "middle pixel above",
+    "last pixel above", "all pixels above", "other count", "other height", "other father",
+    "other first place", "other map", "list 1 short", "list 2 short", "list 3 short",
+    "list 4 short", "list 5 short",
 };
 
 /* Takes a least size that is refused; cut to 16 bits the third would be 1. */
@@ -53,6 +61,27 @@ static int change_size(const struct call *call, unsigned change)
     const uint32_t unfit[] = { 0, (uint32_t)given.pixels.length + 1, 65537, UINT32_MAX };
     given.s = unfit[change - SIZE_0];
     return call->takes_size;
+}
+
+/* Takes a largest sample that is refused; cut to 16 bits the third would be 1. */
+static int change_sample(const struct call *call, unsigned change)
+{
+    static const uint32_t unfit[] = { 0, 256, 65537, UINT32_MAX };
+    given.largest = unfit[change - SAMPLE_0];
+    return call->saves;
+}
+
+/* Makes pixels one above the largest sample; answers 0 if there are none. */
+static int raise_pixels(const struct call *call, unsigned change)
+{
+    size_t n = given.pixels.length;
+    if (!call->saves || n == 0)
+        return 0;
+    size_t first = change == MIDDLE_ABOVE ? n / 2 : change == LAST_ABOVE ? n - 1 : 0;
+    size_t end = change == ALL_ABOVE ? n : first + 1;
+    for (size_t x = first; x < end; x++)
+        given.pixels.at[x] = (uint8_t)(given.largest + 1);
+    return 1;
 }
 
 /* One entry less; answers 0 if there is none. */
@@ -130,6 +159,16 @@ static int make_change(const struct call *call, unsigned change)
     case SIZE_OF_17_BITS:
     case SIZE_LARGEST:
         return change_size(call, change);
+    case SAMPLE_0:
+    case SAMPLE_OF_9_BITS:
+    case SAMPLE_OF_17_BITS:
+    case SAMPLE_LARGEST:
+        return change_sample(call, change);
+    case FIRST_ABOVE:
+    case MIDDLE_ABOVE:
+    case LAST_ABOVE:
+    case ALL_ABOVE:
+        return raise_pixels(call, change);
     case OTHER_COUNT:
     case OTHER_HEIGHT:
     case OTHER_FATHER:
@@ -151,14 +190,18 @@ static void draw_pixels(uint32_t n, unsigned draw)
     }
 }
 
+/* The pixels of a file are no larger than its largest sample. */
 static void lend_picture(const struct call *call, uint32_t n, unsigned draw)
 {
     lend(call, n, SPARE);
     draw_pixels(n, draw);
+    given.largest = draws[draw].largest;
+    for (uint32_t x = 0; call->saves && x < n + SPARE; x++)
+        given.pixels.at[x] = (uint8_t)(given.pixels.at[x] % (given.largest + 1));
 }
 
-/* Makes each list as long as there are patches. */
-static void fit_lists(const struct call *call, uint32_t n, unsigned draw)
+/* Makes each list as long as there are patches, or the output as long as the file. */
+static void fit_output(const struct call *call, uint32_t n, unsigned draw)
 {
     run_uncounted(stack_top(), call->with_arguments);
     lend_picture(call, n, draw);
@@ -166,6 +209,8 @@ static void fit_lists(const struct call *call, uint32_t n, unsigned draw)
         return;
     for (unsigned i = 0; i < call->lists; i++)
         given.lists[i].length = controller_value(answer);
+    if (call->saves)
+        given.bytes.length = controller_count(answer);
 }
 
 /* Lends the call all that it takes, nothing longer than it must be. */
@@ -182,8 +227,8 @@ static void prepare(const struct call *call, unsigned draw)
     given.s = last * draws[draw].size / 100 + 1;
     if (call->takes_tree)
         lend_tree();
-    if (call->lists_patches)
-        fit_lists(call, n, draw);
+    if (call->lists_patches || call->saves)
+        fit_output(call, n, draw);
 }
 
 static void begin_call(const char *kind, const struct call *call)
@@ -215,17 +260,25 @@ static void sweep_change(const struct call *call, unsigned change)
     end_call();
 }
 
+static void sweep_sides(const struct call *call, uint32_t adjacency)
+{
+    given.adjacency = adjacency;
+    for (unsigned j = 0; j < LENGTH_OF(sides); j++)
+        for (unsigned k = 0; k < LENGTH_OF(sides); k++) {
+            given.width = sides[j];
+            given.height = sides[k];
+            for (unsigned change = 0; change < CHANGES; change++)
+                sweep_change(call, change);
+        }
+}
+
 static void sweep_call(const struct call *call)
 {
-    for (unsigned i = 0; i < LENGTH_OF(adjacencies); i++)
-        for (unsigned j = 0; j < LENGTH_OF(sides); j++)
-            for (unsigned k = 0; k < LENGTH_OF(sides); k++) {
-                given.adjacency = adjacencies[i];
-                given.width = sides[j];
-                given.height = sides[k];
-                for (unsigned change = 0; change < CHANGES; change++)
-                    sweep_change(call, change);
-            }
+    if (call->saves)
+        sweep_sides(call, NO_ADJACENCY);
+    else
+        for (unsigned i = 0; i < LENGTH_OF(adjacencies); i++)
+            sweep_sides(call, adjacencies[i]);
 }
 
 static void sweep_size(const struct call *call, unsigned draw, uint32_t s)

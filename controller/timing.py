@@ -10,7 +10,7 @@ from results import runs, table
 MEGAHERTZ = 48
 WALL = "examples/wall.pgm"
 ADJACENCIES = ("4", "8")
-NO_ADJACENCY = "0"              # of board_read
+NO_ADJACENCY = "0"              # of board_read and write_file
 
 
 def milliseconds(cycles):
@@ -18,6 +18,11 @@ def milliseconds(cycles):
     time = cycles / MEGAHERTZ / 1000
     decimals = 0 if time >= 100 else 1 if time >= 10 else 2
     return "%.*f" % (decimals, time)
+
+
+def takes(key, adjacency):
+    """Whether a run is one under an adjacency, or of a call that takes none."""
+    return key[1] in (adjacency, NO_ADJACENCY)
 
 
 def ratio(ours, peer, key):
@@ -31,7 +36,7 @@ def wall_table(adjacency, ours, peer):
             "ms, M0+, one wait state", "cycles over the peer's"]
     rows = []
     for key, run in ours.items():
-        if key[1] in (adjacency, NO_ADJACENCY) and key[2] == WALL:
+        if takes(key, adjacency) and key[2] == WALL:
             rows.append(["`%s`" % key[0], format(run.instructions, ","), format(run.m0plus, ","),
                          format(run.m0, ","), milliseconds(run.m0plus), milliseconds(run.m0),
                          milliseconds(run.m0plus + run.words), ratio(ours, peer, key)])
@@ -40,10 +45,11 @@ def wall_table(adjacency, ours, peer):
 
 def picture_table(title, adjacency, keys, value):
     """A row a picture, a column a call."""
-    titles = list(dict.fromkeys(key[0] for key in keys))
-    pictures = list(dict.fromkeys(key[2] for key in keys))
+    key_of = {(key[0], key[2]): key for key in keys if takes(key, adjacency)}
+    titles = list(dict.fromkeys(name for name, _ in key_of))
+    pictures = list(dict.fromkeys(picture for _, picture in key_of))
     table("%s, adjacency %s" % (title, adjacency), ["picture"] + ["`%s`" % name for name in titles],
-          [[picture] + [value((name, adjacency, picture)) for name in titles]
+          [[picture] + [value(key_of[name, picture]) for name in titles]
            for picture in pictures])
 
 
@@ -59,7 +65,7 @@ def span_table(ours, peer):
     for name in dict.fromkeys(key[0] for key in peer):
         cells = ["`%s`" % name]
         for adjacency in ADJACENCIES:
-            keys = [key for key in peer if key[:2] == (name, adjacency)]
+            keys = [key for key in peer if key[0] == name and takes(key, adjacency)]
             cells.append(span([ours[key].m0plus for key in keys], milliseconds))
             cells.append(span([ours[key].m0plus / peer[key].m0plus for key in keys], "{:.2f}".format))
         rows.append(cells)
