@@ -8,26 +8,19 @@ use lib.Dec.{leb}
 use lib.ListN.{length, length-append}
 use Rattle.lists.specs.Writing.{Written}
 use Rattle.picture.specs.Pictures.{sideFits}
-use Rattle.picture.proofs.Sides.{sides-area}
+use Rattle.picture.proofs.Sides.{side-most, sides-area}
 use Rattle.lists.proofs.Tests.{and-left, and-right}
 use Rattle.text.specs.Decimal.{fields}
-use Rattle.text.proofs.Decimals.{decimal-length, last-length, next-length}
+use Rattle.text.proofs.Decimals.{one-length, two-length}
 use Rattle.saving.specs.ShortFiles.{shortHeader, fileOf}
 use Rattle.saving.proofs.Contents.{Savable}
 
-sides-most : (w h : ℕ) → w < 100 → h < 100 → length (fields (w ∷ h ∷ [])) ≤ 6
-sides-most w h a b =
-    omega (arith, decimal-length 1 w a, next-length w h [], decimal-length 1 h b, last-length h)
-
 -- the room that two sides take, and where they end, in either order
 pub sides-room : (x y at long : ℕ) → x < 100 → y < 100 → at + 6 ≤ long → at + length (fields (x ∷ y ∷ [])) ≤ long
-sides-room x y at long a b l = omega (arith, sides-most x y a b)
+sides-room x y at long a b l = omega (arith, two-length 1 x y a b)
 
 pub sides-end : {x y from to : ℕ} {a b : List ℕ} → Written from (fields (x ∷ y ∷ [])) a to b → x < 100 → y < 100 → to ≤ from + 6
-sides-end {x} {y} w a b = omega (arith, w .end, sides-most x y a b)
-
-pub largest-most : (m : ℕ) → m < 1000 → length (fields (m ∷ [])) ≤ 4
-largest-most m h = omega (arith, decimal-length 2 m h, last-length m)
+sides-end {x} {y} w a b = omega (arith, w .end, two-length 1 x y a b)
 
 -- P5, byte 10, the sides, the largest sample
 pub header-parts :
@@ -35,10 +28,10 @@ pub header-parts :
 unfolding shortHeader
 header-parts w h m = refl
 
-pub header-most : (w h m : ℕ) → w < 100 → h < 100 → m < 1000 → length (shortHeader w h m) ≤ 13
+header-most : (w h m : ℕ) → w < 100 → h < 100 → m < 1000 → length (shortHeader w h m) ≤ 13
 unfolding shortHeader
 header-most w h m a b c =
-    omega (arith, length-append (fields (w ∷ h ∷ [])) (fields (m ∷ [])), sides-most w h a b, largest-most m c)
+    omega (arith, length-append (fields (w ∷ h ∷ [])) (fields (m ∷ [])), two-length 1 w h a b, one-length 2 m c)
 
 -- the file in two parts, and its length
 module _ (w h m : ℕ) (xs : List ℕ) where
@@ -54,8 +47,8 @@ module _ (w h m : ℕ) (xs : List ℕ) where
 module _ {w h m : ℕ} {xs : List ℕ} (s : Savable w h m xs) where
   pub few-digits : (w < 100) × (h < 100) × (m < 1000)
   few-digits =
-      let a = leb-true w 40 (and-right (leb 1 w) _ (and-left (sideFits w) _ (s .sides))) in
-      let b = leb-true h 40 (and-right (leb 1 h) _ (and-right (sideFits w) _ (s .sides))) in
+      let a = side-most w (and-left (sideFits w) _ (s .sides)) in
+      let b = side-most h (and-right (sideFits w) _ (s .sides)) in
       let c = leb-true m 255 (and-right (leb 1 m) _ (s .largest)) in
       (omega arith, omega arith, omega arith)
 

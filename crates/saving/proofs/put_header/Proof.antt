@@ -5,7 +5,8 @@ use Prim.Native.Nat.{ℕ}
 use native.Mathlib.Omega.{arith}
 use Rattle.lists.specs.Writing.{Written}
 use Rattle.lists.proofs.Writings.{written-then, written-length}
-use Rattle.saving.proofs.Headers.{sides-room, sides-end, largest-most, header-parts}
+use Rattle.text.proofs.Decimals.{one-length}
+use Rattle.saving.proofs.Headers.{sides-room, sides-end, header-parts}
 use borrow.Author.Needs.{needs}
 use Rattle.saving.proofs.put_header.Statement.{statement}
 use Rattle.saving.proofs.put_header.Tie as tie
@@ -48,7 +49,7 @@ put-fields-requires-2 c κs =
     let i = written-length (omega (arith, a .end, s .pre .3)) a in
     let j = written-length (omega (arith, a .end, b .end, s .pre .3)) b in
     let k = written-length (omega (arith, a .end, b .end, g .end, s .pre .3)) g in
-    (omega arith, omega (arith, a .end, b .end, g .end, s .pre .3, largest-most (s .args .largest) (s .pre .2)))
+    (omega arith, omega (arith, a .end, b .end, g .end, s .pre .3, one-length 2 (s .args .largest) (s .pre .2)))
 
 same-length : tie.Need-same-length
 same-length c = search needs
@@ -73,7 +74,7 @@ returns c =
         b .end,
         sides-end g (omega (arith, s .pre .0, s .pre .1)) (omega (arith, s .pre .0, s .pre .1)),
         l .end,
-        largest-most (s .args .largest) (s .pre .2),
+        one-length 2 (s .args .largest) (s .pre .2),
       ),
     )
 
