@@ -30,8 +30,8 @@
  * entries named at the function and the first 5 n of `work` have changed;
  * all others keep their content.
  *
- * Every function takes these; controller_write_file neither adjacency nor
- * work:
+ * Every function takes these; controller_write_file takes neither adjacency
+ * nor work:
  *
  *   adjacency   4 or 8
  *   width       1 to 40
@@ -278,17 +278,17 @@ uint64_t controller_list_patches(
  * Saves a picture as a P5 file with the shortest header.
  *
  *   largest  the largest sample, 1 to 255
- *   out      lent output of as many bytes as the file has; 1,613 are enough
- *            for every picture
+ *   out      lent output of at least as many bytes as the file has; 1,613
+ *            are enough for every picture
  *
  * The file is the letters P5, byte 10, the width, a space, the height, byte
  * 10, the largest sample, byte 10, and the n pixels. Its numbers are decimal
  * digits with no leading zeros.
  *
  * The value is the count of the file's bytes (controller_count). After
- * success as many bytes of `out` are the file. Of a refusal 6 the upper 16
- * bits of the value are the first place above the largest sample
- * (controller_first_above).
+ * success the first bytes of `out`, as many as that, are the file. Of a
+ * refusal 6 the upper 16 bits of the value are the first place above the
+ * largest sample (controller_first_above).
  *
  * Refusals, in this order: 3, 4, 8, 6, 9 (out_len below that count).
  */

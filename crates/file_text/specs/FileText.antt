@@ -8,9 +8,13 @@ use Rattle.faults.specs.PictureFault.{firstOf, when}
 use Rattle.p5.specs.Files.{readFile, outcomeNumber}
 use Rattle.hold_lines.specs.Lines.{refusedLine}
 
--- the fault of a file that a program is handed: 12 for more than 4,096 bytes, then that of reading
+-- the most bytes of input that a program takes
+abbrev pub inputMost : ℕ
+inputMost = 4096
+
+-- the fault of a file that a program is handed: 12 for more than that, then that of reading
 unfoldable pub fileFault : List ℕ → ℕ
-fileFault f = firstOf (when (ltb 4096 (length f)) 12) (outcomeNumber (readFile f))
+fileFault f = firstOf (when (ltb inputMost (length f)) 12) (outcomeNumber (readFile f))
 
 -- the text for a file: the line of its refusal, else what is printed of it
 unfoldable pub fileText : (List ℕ → List ℕ) → List ℕ → List ℕ

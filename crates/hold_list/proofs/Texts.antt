@@ -19,7 +19,7 @@ use Rattle.topology.proofs.Demand.{demand-3}
 use Rattle.p5.specs.Files.{readFile, outcomeNumber, headerOf}
 use Rattle.p5.proofs.Accepted.{accepted-number}
 use Rattle.hold_lines.specs.Lines.{refusedLine}
-use Rattle.file_text.specs.FileText.{fileFault}
+use Rattle.file_text.specs.FileText.{inputMost, fileFault}
 use Rattle.file_text.proofs.FileTexts.{text-refused, text-print, text-counted}
 use Rattle.hold_list.specs.HoldText.{patchList, holdList, pictureIn, pictureText, filledList, askedSize, programText}
 use Rattle.hold_list.specs.Steps.{askedList}
@@ -47,9 +47,9 @@ module _ (words : ℕ) (a : List ℕ) where
   pub words-list : (f : List ℕ) → fileFault f ≡ 0 → programText words a f ≡ askedList words a (pictureIn f)
   words-list f e = asked f ∙ text-print _ f e
 
-  -- more than 4,096 bytes of an input: refusal 12
+  -- an input that is too long: refusal 12
   pub words-counted :
-      (count : ℕ) (input : List ℕ) → 4096 < count → 4096 < length input → programText words a (take count input) ≡ refusedLine 12
+      (count : ℕ) (input : List ℕ) → inputMost < count → inputMost < length input → programText words a (take count input) ≡ refusedLine 12
   words-counted count input h g = asked (take count input) ∙ text-counted _ count input h g
 
 -- what is printed of a picture by the number of words

@@ -22,6 +22,7 @@ ghost use Rattle.patches.specs.Figures.{Figures};
 ghost use Rattle.patch_numbers.specs.Numbers.{FiveBlocks};
 ghost use Rattle.lists.specs.Writing.{Written};
 ghost use Rattle.hold_lines.specs.Lines.{refusedLine};
+ghost use Rattle.file_text.specs.FileText.{inputMost};
 ghost use Rattle.hold_list.specs.HoldText.{patchList, holdList, filledList, programText};
 ghost use Rattle.hold_list.specs.Steps.{askedList};
 
@@ -184,7 +185,7 @@ pub fn put_text(
     out: &mut [u8; 59264],
 ) -> usize
     ensures { λ r. ⌜ Written 0 (programText words (now (argument .entry)) (take count (now (input .entry)))) (now (out .entry)) r (now (out .exit)) ⌝ }
-    ensures { λ r. ⌜ (4096 < count → programText words (now (argument .entry)) (take count (now (input .entry))) ≡ refusedLine 12) ⌝ }
+    ensures { λ r. ⌜ (inputMost < count → programText words (now (argument .entry)) (take count (now (input .entry))) ≡ refusedLine 12) ⌝ }
 {
     let bytes: &[u8] = input;
     let length = lesser(count, bytes.len());

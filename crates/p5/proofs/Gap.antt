@@ -10,7 +10,7 @@ use lib.ListN.{length, getD, take, drop, take-append-drop, length-drop, List·ge
 use lib.Seq.{drop-drop, getD-drop, getD-take, length-take-le}
 use Rattle.p5.specs.declared.field.Field.the-variants.{Unfit}
 use Rattle.p5.specs.Headers.{isWhite, blankLength, isDigit, gapEnd, digitsAt, numberAt}
-use Rattle.p5.specs.Shapes.{Gap}
+use Rattle.p5.specs.Shapes.{none, white, Gap}
 use Rattle.lists.proofs.Tests.{on-test}
 use Rattle.p5.proofs.Blanks.{blank-le, blank-run, blank-cut, counted, digit-blank}
 
@@ -31,6 +31,10 @@ module _ (f : List ℕ) (p : ℕ) where
   -- where there is a gap, its first byte is white space
   gap-begins : (gapEnd f p ≡ p → ⊥) → isWhite (getD f p 0) ≡ true
   gap-begins found = on-test (isWhite (getD f p 0)) (λ e. e) (λ e. absurd (found (sym (gap-none e))))
+
+-- one byte of white space is a gap
+pub gap-one : {b : ℕ} → isWhite b ≡ true → Gap (b ∷ [])
+gap-one e = record { begins = e; blank = white e none }
 
 pub first-byte : (f : List ℕ) (p : ℕ) → getD (drop p f) 0 0 ≡ getD f p 0
 first-byte f p = getD-drop p f 0 0 ∙ ap (λ (i : ℕ). getD f i 0) (add-zero p)

@@ -4,8 +4,7 @@ use Rattle.p5.specs.declared.header.Header.{Header}
 use Rattle.p5.specs.declared.file.Outcome.{Outcome}
 use Rattle.p5.specs.Files.{outcomeNumber, placeOf, headerOf, noHeader}
 use Rattle.reading.specs.declared.Read.{Read}
-use Rattle.reading.specs.Reads.{ReadIs}
-use Rattle.reading.specs.Steps.{RefusedRead}
+use Rattle.reading.specs.Reads.{ReadIs, RefusedRead}
 
 pub refused-read : (o : Outcome) {r : Read} → RefusedRead (outcomeNumber o) (placeOf o) r → headerOf o ≡ noHeader → ReadIs o r
 refused-read o e h =

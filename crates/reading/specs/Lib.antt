@@ -1,3 +1,2 @@
 -- The answer for a file.
 pub mod Reads
-pub mod Steps

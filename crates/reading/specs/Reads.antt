@@ -15,6 +15,10 @@ pub record ReadIs (o : Outcome) (r : Read) : Type 0 where
   pub largest : r .largest ≡ headerOf o .largest
   pub offset : r .offset ≡ headerOf o .offset
 
+-- the record of a refusal: beside the number and the place every figure is 0
+abbrev pub RefusedRead : ℕ → ℕ → Read → Type 0
+RefusedRead n p r = r ≡ record { number = n; place = p; width = 0; height = 0; largest = 0; offset = 0 }
+
 -- reading: the record holds the answer for the file
 abbrev pub ReadSays : List ℕ → Read → Type 0
 ReadSays f r = ReadIs (readFile f) r

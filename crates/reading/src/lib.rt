@@ -1,7 +1,6 @@
 // The answer for a file as one record.
 use p5::file::Outcome;
-ghost use Rattle.reading.specs.Reads.{ReadIs, ReadSays};
-ghost use Rattle.reading.specs.Steps.{RefusedRead};
+ghost use Rattle.reading.specs.Reads.{ReadIs, RefusedRead, ReadSays};
 
 // The number of a refusal, or 0, with the refusal's place; of an accepted file the sides, the largest sample and the offset of the pixels.
 pub struct Read {

@@ -13,9 +13,9 @@ use Rattle.p5.proofs.Accepted.{accepted, accepted-number}
 use Rattle.hold_lines.specs.Lines.{refusedLine}
 use Rattle.reading.specs.declared.Read.{Read}
 use Rattle.reading.specs.Reads.{ReadSays}
-use Rattle.file_text.specs.FileText.{fileFault}
+use Rattle.file_text.specs.FileText.{inputMost, fileFault}
 use Rattle.file_text.proofs.FileTexts.{fault-none, fault-read, text-refused, text-print, text-counted}
-use Rattle.saving.specs.ShortFiles.{savedAgain}
+use Rattle.saving.specs.ShortFiles.{fileMost, savedAgain}
 use Rattle.saving.specs.Calls.{SaveSays}
 use Rattle.saving.specs.Reading.{ReadsAs}
 use Rattle.saving.specs.declared.Saved.{Saved}
@@ -27,19 +27,21 @@ use Rattle.resaving.specs.Resaved.{resavedText, ResavedOnce, EqualTexts}
 module _ (f : List ℕ) where
   pub resaved-refused : fileFault f ≢ 0 → resavedText f ≡ refusedLine (fileFault f)
   unfolding resavedText
-  resaved-refused d = text-refused savedAgain f d
+  resaved-refused d = text-refused _ f d
 
   pub resaved-file : fileFault f ≡ 0 → resavedText f ≡ savedAgain f
   unfolding resavedText
   resaved-file e = text-print savedAgain f e
 
 pub resaved-counted :
-    (count : ℕ) (input : List ℕ) → 4096 < count → 4096 < length input → resavedText (take count input) ≡ refusedLine 12
+    (count : ℕ) (input : List ℕ) → inputMost < count → inputMost < length input → resavedText (take count input) ≡ refusedLine 12
 unfolding resavedText
-resaved-counted count input h g = text-counted savedAgain count input h g
+resaved-counted count input h g = text-counted _ count input h g
 
 -- what reading answers for an accepted file is its picture
-pub answer-reads : (f : List ℕ) (r : Read) → outcomeNumber (readFile f) ≡ 0 → ReadSays f r → ReadsAs f (r .width) (r .height) (r .largest) (from (r .offset) f)
+pub answer-reads :
+    (f : List ℕ) (r : Read) → outcomeNumber (readFile f) ≡ 0 → ReadSays f r →
+    ReadsAs f (r .width) (r .height) (r .largest) (from (r .offset) f)
 answer-reads f r e s =
     let h = headerOf (readFile f) in
     record {
@@ -54,11 +56,11 @@ answer-reads f r e s =
 -- the picture of an accepted file is saved without a refusal where there is room for every file, and its file is written
 module _ (f : List ℕ) (w h m : ℕ) (xs : List ℕ) (a : ReadsAs f w h m xs) where
   pub saved-written :
-      (o o′ : List ℕ) (r : Saved) → 1613 ≤ length o → SaveSays w h m xs o o′ r → Written 0 (savedAgain f) o (r .count) o′
+      (o o′ : List ℕ) (r : Saved) → fileMost ≤ length o → SaveSays w h m xs o o′ r → Written 0 (savedAgain f) o (r .count) o′
   saved-written o o′ r room s =
       let c = accepted-saves f w h m xs a in
-      let none = room-given w h m xs (length o) c (omega (arith, file-most (savable w h m xs c))) in
-      let left = save-left w h m xs o o′ r s (s .number ∙ none) in
+      let none = room-given w h m xs (length o) c (omega (arith, file-most (savable c))) in
+      let left = save-left s (s .number ∙ none) in
       rw (saved-file f w h m xs a) (front-written (left .0) (left .1))
 
 pub resaved-once : ResavedOnce

@@ -22,6 +22,10 @@ short = 80 ∷ 53 ∷ 10 ∷ 53 ∷ 32 ∷ 49 ∷ 10 ∷ 57 ∷ 10 ∷ 3 ∷ 1 �
 abbrev refused : List ℕ → List ℕ
 refused digits = 114 ∷ 101 ∷ 102 ∷ 117 ∷ 115 ∷ 101 ∷ 100 ∷ 32 ∷ digits ++ 10 ∷ []
 
-pub worked-texts : (resavedText signed ≡ short) × (resavedText short ≡ short) × (resavedText [] ≡ refused (49 ∷ [])) × (resavedText (replicate 4097 0) ≡ refused (49 ∷ 50 ∷ []))
+pub worked-texts :
+    (resavedText signed ≡ short) ×
+    (resavedText short ≡ short) ×
+    (resavedText [] ≡ refused (49 ∷ [])) ×
+    (resavedText (replicate 4097 0) ≡ refused (49 ∷ 50 ∷ []))
 unfolding gapEnd digitsAt numberAt endAt walk onPixels onHeader readFile decimal fileFault fileText shortHeader fileOf savedAgain resavedText
 worked-texts = (refl, refl, refl, refl)

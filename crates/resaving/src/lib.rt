@@ -8,11 +8,13 @@ ghost use Prim.Native.Nat.{_≤_, _<_};
 ghost use lib.ListN.{length, take};
 ghost use Rattle.lists.specs.Writing.{Written};
 ghost use Rattle.hold_lines.specs.Lines.{refusedLine};
+ghost use Rattle.file_text.specs.FileText.{inputMost};
+ghost use Rattle.saving.specs.ShortFiles.{fileMost};
 ghost use Rattle.resaving.specs.Resaved.{resavedText};
 
 // Writes the text for a file and answers the position behind it.
 fn put_file_text(file: &[u8], out: &mut [u8]) -> usize
-    requires { ⌜ 1613 ≤ length (now out) ⌝ }
+    requires { ⌜ fileMost ≤ length (now out) ⌝ }
     ensures { λ r. ⌜ Written 0 (resavedText (now (file .entry))) (now (out .entry)) r (now (out .exit)) ⌝ }
 {
     let answer = read_handed(file);
@@ -36,7 +38,7 @@ fn put_file_text(file: &[u8], out: &mut [u8]) -> usize
 // its length is taken as its length. A header of 13 bytes and 1,600 pixels have room.
 pub fn put_text(input: &[u8; 4097], count: usize, out: &mut [u8; 1613]) -> usize
     ensures { λ r. ⌜ Written 0 (resavedText (take count (now (input .entry)))) (now (out .entry)) r (now (out .exit)) ⌝ }
-    ensures { λ r. ⌜ (4096 < count → resavedText (take count (now (input .entry))) ≡ refusedLine 12) ⌝ }
+    ensures { λ r. ⌜ (inputMost < count → resavedText (take count (now (input .entry))) ≡ refusedLine 12) ⌝ }
 {
     let bytes: &[u8] = input;
     let length = lesser(count, bytes.len());

@@ -12,7 +12,7 @@ use Rattle.picture.proofs.Sides.{side-most, sides-area}
 use Rattle.lists.proofs.Tests.{and-left, and-right}
 use Rattle.text.specs.Decimal.{fields}
 use Rattle.text.proofs.Decimals.{one-length, two-length}
-use Rattle.saving.specs.ShortFiles.{shortHeader, fileOf}
+use Rattle.saving.specs.ShortFiles.{shortHeader, fileOf, headerMost, fileMost}
 use Rattle.saving.proofs.Contents.{Savable}
 
 -- the room that two sides take, and where they end, in either order
@@ -28,7 +28,7 @@ pub header-parts :
 unfolding shortHeader
 header-parts w h m = refl
 
-header-most : (w h m : ℕ) → w < 100 → h < 100 → m < 1000 → length (shortHeader w h m) ≤ 13
+header-most : (w h m : ℕ) → w < 100 → h < 100 → m < 1000 → length (shortHeader w h m) ≤ headerMost
 unfolding shortHeader
 header-most w h m a b c =
     omega (arith, length-append (fields (w ∷ h ∷ [])) (fields (m ∷ [])), two-length 1 w h a b, one-length 2 m c)
@@ -55,7 +55,7 @@ module _ {w h m : ℕ} {xs : List ℕ} (s : Savable w h m xs) where
   pub few-pixels : length xs ≤ 1600
   few-pixels = omega (arith, s .count, sides-area w h (s .sides))
 
-  pub file-most : length (fileOf w h m xs) ≤ 1613
+  pub file-most : length (fileOf w h m xs) ≤ fileMost
   file-most =
       let d = few-digits in
       omega (arith, file-length w h m xs, header-most w h m (d .0) (d .1) (d .2), few-pixels)

@@ -1,32 +1,28 @@
--- What is saved is read again, and in no more bytes than any file of the picture has.
+-- What is saved is read again, and in no more bytes than any file of the picture has; the place of 6.
 use mathlib.Core.Path.{_≡_, refl, sym, ap, _∙_}
-use mathlib.Core.Bool.{true}
 use mathlib.Core.List.{List, [], _∷_, _++_, append-assoc}
 use Prim.Native.Nat.{ℕ, _<_}
 use native.Mathlib.Omega.{arith}
-use borrow.Author.Tests.{leb-true, le-leb}
+use borrow.Author.Tests.{leb-true, leb-false, le-leb}
 use lib.ListN.{length, take, length-append}
 use lib.Seq.{take-at}
 use Rattle.picture.specs.Pictures.{sideFits}
 use Rattle.text.specs.Decimal.{decimal}
 use Rattle.p5.specs.declared.header.Header.{Header}
-use Rattle.p5.specs.Headers.{isWhite}
 use Rattle.p5.specs.Files.{atMost, headerOf}
-use Rattle.p5.specs.Shapes.{none, white, Gap, Headed, Accepts}
+use Rattle.p5.specs.Shapes.{Headed, Accepts}
 use Rattle.p5.proofs.Accepted.{accepted, inside, fits-inside}
-use Rattle.p5.proofs.Gap.{gap-some}
-use Rattle.p5.proofs.Leading.{leading-below, leading-full}
+use Rattle.p5.proofs.Gap.{gap-one, gap-some}
+use Rattle.p5.proofs.Leading.{leading-le, leading-next, leading-below, leading-full}
 use Rattle.p5.proofs.Shape.{headed-rest}
 use Rattle.lists.proofs.Tests.{and-left, and-right, and-both}
 use Rattle.saving.specs.ShortFiles.{shortHeader, fileOf, savedAgain}
-use Rattle.saving.specs.Reading.{ReadsAs, SavedReads, CallReads, AcceptedSaves, EqualBytes, SavedOnce, Shortest}
+use Rattle.saving.specs.Calls.{firstAbove, SaveSays}
+use Rattle.saving.specs.Reading.{ReadsAs, SavedReads, CallReads, AcceptedSaves, EqualBytes, SavedOnce, Shortest, CallSaves, CallPlace}
+use Rattle.saving.specs.declared.Saved.{Saved}
 use Rattle.saving.proofs.Numerals.{numeral, numeral-shortest}
-use Rattle.saving.proofs.Contents.{Savable, savable, faultless, saving-none, save-left}
+use Rattle.saving.proofs.Contents.{Savable, savable, faultless, saving-none, save-left, save-above}
 use Rattle.saving.proofs.Headers.{file-length, few-digits}
-
--- one white space byte is a gap
-gap-of : (b : ℕ) → isWhite b ≡ true → Gap (b ∷ [])
-gap-of b e = record { begins = e; blank = white e none }
 
 -- the header that reading answers for a short header
 abbrev headerFor : ℕ → ℕ → ℕ → Header
@@ -50,11 +46,11 @@ module _ (w h m : ℕ) (xs : List ℕ) where
         largest = decimal m;
         last = 10;
         bytes = file-bytes;
-        is-gap₁ = gap-of 10 refl;
+        is-gap₁ = gap-one refl;
         is-width = numeral w a;
-        is-gap₂ = gap-of 32 refl;
+        is-gap₂ = gap-one refl;
         is-height = numeral h b;
-        is-gap₃ = gap-of 10 refl;
+        is-gap₃ = gap-one refl;
         is-largest = numeral m c;
         is-last = refl;
         offset = sym (length-append (shortHeader w h m) xs);
@@ -76,7 +72,7 @@ module _ (w h m : ℕ) (xs : List ℕ) where
 pub saved-reads : SavedReads
 unfolding saved-accepts
 saved-reads w h m xs z =
-    let a = saved-accepts w h m xs (savable w h m xs z) in
+    let a = saved-accepts w h m xs (savable z) in
     record {
       header = headerFor w h m;
       read = accepted (fileOf w h m xs) (headerFor w h m) .1 a;
@@ -87,11 +83,24 @@ saved-reads w h m xs z =
     }
 
 -- the bytes that an unrefused call leaves are the file
+module _ {w h m : ℕ} {xs o o′ : List ℕ} {r : Saved} (s : SaveSays w h m xs o o′ r) (z : r .number ≡ 0) where
+  call-file : take (r .count) o′ ≡ fileOf w h m xs
+  call-file = let left = save-left s z in rw (left .0, left .1) (take-at (fileOf w h m xs) _ _ refl)
+
 pub call-reads : CallReads
-call-reads w h m xs o o′ r s z =
-    let left = save-left w h m xs o o′ r s z in
-    let same : take (r .count) o′ ≡ fileOf w h m xs = rw (left .0, left .1) (take-at (fileOf w h m xs) _ _ refl) in
-    rw same (saved-reads w h m xs (saving-none w h m xs (length o) (sym (s .number) ∙ z) .0))
+call-reads w h m xs o o′ r s z = rw (call-file s z) (saved-reads w h m xs (saving-none w h m xs (length o) (sym (s .number) ∙ z) .0))
+
+-- a place where `leading` stopped within the pixels is the first one above the largest sample
+pub call-place : CallPlace
+call-place w h m xs o o′ r s z =
+    let above = save-above s z in
+    let within : firstAbove m xs < length xs = omega (arith, above .1, leading-le (atMost m) xs) in
+    rw (above .0)
+    (record {
+      within = within;
+      above = leb-false _ _ (leading-next (atMost m) xs within);
+      none = λ i l. leb-true _ _ (leading-below (atMost m) xs i l);
+    })
 
 -- an accepted file is one of the shape, with those pixels
 module _ (f : List ℕ) (w h m : ℕ) (xs : List ℕ) (r : ReadsAs f w h m xs) where
@@ -110,7 +119,7 @@ pub accepted-saves : AcceptedSaves
 accepted-saves f w h m xs r =
     let a = read-accepts f w h m xs r in
     let e = read-pixels f w h m xs r in
-    faultless w h m xs
+    faultless
     (record {
       sides = and-both (rw (r .width) at (fits-inside (a .width))) (rw (r .height) at (fits-inside (a .height)));
       largest = rw (r .largest) at (fits-inside (a .largest));
@@ -148,3 +157,7 @@ saved-shortest f w h m xs r =
       gap-some (k .is-gap₃),
       ap length (read-pixels f w h m xs r),
     )
+
+pub call-saves : CallSaves
+call-saves f w h m xs o o′ r a s z =
+    (call-file s z ∙ sym (saved-file f w h m xs a), rw (save-left s z .0) (saved-shortest f w h m xs a))

@@ -30,7 +30,8 @@ contentFault w h m xs =
 unfoldable pub savingFault : ℕ → ℕ → ℕ → List ℕ → ℕ → ℕ
 savingFault w h m xs out = firstOf (contentFault w h m xs) (when (ltb out (length (fileOf w h m xs))) 9)
 
--- the number, of 6 with the first place above the largest sample, of none with the count of bytes; and the file in front of what was in the output, or all as it was after a refusal
+-- the number, with 6 the first place above the largest sample, with 0 the count of bytes
+-- the output: the file in front of what was there, or all as it was after a refusal
 pub record SaveSays (w h m : ℕ) (xs o o′ : List ℕ) (r : Saved) : Type 0 where
   pub number : r .number ≡ savingFault w h m xs (length o)
   pub place : r .place ≡ pick (eqb (savingFault w h m xs (length o)) 6) (firstAbove m xs) 0

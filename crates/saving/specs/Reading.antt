@@ -1,8 +1,8 @@
--- What is shown of saved pictures: reading yields the picture again, equal pictures yield equal bytes, and no file of a picture is shorter.
+-- What is shown of saving: reading yields the picture again, equal pictures yield equal bytes, no file of a picture is shorter, and 6 names the first place.
 use mathlib.Core.Path.{_≡_}
 use mathlib.Core.List.{List}
-use Prim.Native.Nat.{ℕ, _≤_}
-use lib.ListN.{length, take, drop}
+use Prim.Native.Nat.{ℕ, _≤_, _<_}
+use lib.ListN.{length, getD, take, drop}
 use Rattle.p5.specs.declared.header.Header.{Header}
 use Rattle.p5.specs.declared.file.Outcome.the-variants.{Accepted}
 use Rattle.p5.specs.Files.{readFile}
@@ -47,3 +47,20 @@ SavedOnce =
 -- no file that is read as the picture has fewer bytes
 abbrev pub Shortest : Type 0
 Shortest = (f : List ℕ) (w h m : ℕ) (xs : List ℕ) → ReadsAs f w h m xs → length (fileOf w h m xs) ≤ length f
+
+-- what an unrefused call leaves for the picture of an accepted file is that file saved again, in no more bytes than it has
+abbrev pub CallSaves : Type 0
+CallSaves =
+    (f : List ℕ) (w h m : ℕ) (xs o o′ : List ℕ) (r : Saved) → ReadsAs f w h m xs → SaveSays w h m xs o o′ r → r .number ≡ 0 →
+    (take (r .count) o′ ≡ savedAgain f) × (r .count ≤ length f)
+
+-- x is the first place whose pixel is above m
+pub record FirstPlaceAbove (m : ℕ) (xs : List ℕ) (x : ℕ) : Type 0 where
+  pub within : x < length xs
+  pub above : m < getD xs x 0
+  pub none : (i : ℕ) → i < x → getD xs i 0 ≤ m
+
+-- a call that is refused with 6 answers the first place above the largest sample
+abbrev pub CallPlace : Type 0
+CallPlace =
+    (w h m : ℕ) (xs o o′ : List ℕ) (r : Saved) → SaveSays w h m xs o o′ r → r .number ≡ 6 → FirstPlaceAbove m xs (r .place)

@@ -14,11 +14,11 @@ ghost use Prim.Native.Nat.{_+_, _<_, _≤_};
 ghost use lib.ListN.{length};
 ghost use Rattle.lists.specs.Lists.{over};
 ghost use Rattle.lists.specs.Writing.{Written};
-ghost use Rattle.saving.specs.ShortFiles.{shortHeader};
+ghost use Rattle.saving.specs.ShortFiles.{shortHeader, headerMost};
 ghost use Rattle.saving.specs.Calls.{SaveSays};
 ghost use Rattle.saving.specs.Steps.{IsSaved, ContentSays};
 
-// The most bytes of a header: P5 and byte 10, two sides of 2 digits and a largest sample of 3, each with one byte behind it.
+// The most bytes of a header: P5 and byte 10, two sides of two digits and a largest sample of three, each with one byte behind it.
 const HEADER_MOST: usize = 13;
 
 // The number of a refusal, of 6 with the first place above the largest sample; or 0 with the count of bytes written.
@@ -61,8 +61,8 @@ fn content_refusal(width: u32, height: u32, largest: u32, pixels: &[u8]) -> Save
 
 // Writes the shortest header and answers the position behind it.
 fn put_header(out: &mut [u8], width: u32, height: u32, largest: u32) -> usize
-    requires { ⌜ (width < 100) × (height < 100) × (largest < 1000) × (13 ≤ length (now out)) ⌝ }
-    ensures { λ r. ⌜ Written 0 (shortHeader width height largest) (now (out .entry)) r (now (out .exit)) × (r ≤ 13) ⌝ }
+    requires { ⌜ (width < 100) × (height < 100) × (largest < 1000) × (headerMost ≤ length (now out)) ⌝ }
+    ensures { λ r. ⌜ Written 0 (shortHeader width height largest) (now (out .entry)) r (now (out .exit)) × (r ≤ headerMost) ⌝ }
 {
     let letters = P5;
     let next = put_bytes(out, 0, &letters);

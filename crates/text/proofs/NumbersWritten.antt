@@ -1,7 +1,9 @@
 -- Laws of numbers written: by decimal digits, as the fields of a line, as bytes with the lowest first.
 use mathlib.Core.Path.{_≡_, sym, ap, subst, _∙_}
+use mathlib.Core.Logic.{by-cases}
 use mathlib.Core.List.{List, [], _∷_, _++_}
 use Prim.Native.Nat.{ℕ, suc, _+_, _-_, _/_, _%_, _≤_, _<_}
+use native.Mathlib.Decide.{decLt}
 use native.Mathlib.Omega.{arith}
 use native.Mathlib.Numerals.{add-one}
 use lib.ListN.{length, getD, take, length-append}
@@ -28,6 +30,13 @@ number-room n h =
 
 pub number-some : (n : ℕ) → n < 10 → length (decimal n) ≡ 1
 number-some n h = ap length (decimal-one n h)
+
+-- a tenth has no more digits
+pub number-fewer : (n : ℕ) → length (decimal (n / 10)) ≤ length (decimal n)
+number-fewer n =
+    by-cases (decLt n 10)
+    (λ b. omega (arith, number-some n b, number-some (n / 10) (omega arith)))
+    (λ b. omega (arith, number-room n (omega arith)))
 
 -- one number more of a line, and the last one with the byte that ends it
 pub spaced-more :

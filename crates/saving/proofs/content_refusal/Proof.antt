@@ -23,7 +23,9 @@ sides c = was-true (c .before .sides-fit .ensures) (c .if1 .left)
 largest : (c : tie.Else2) → largestFits (c .before .before .before .before .before .args .largest) ≡ true
 largest c = was-true (c .before .largest-fits .ensures) (c .if2 .left)
 
-count : (c : tie.Else3) → let a = c .before .before .before .before .before .before .before .args in eqb (length (a .pixels .now)) (a .width * a .height) ≡ true
+count :
+    (c : tie.Else3) → let a = c .before .before .before .before .before .before .before .args in
+    eqb (length (a .pixels .now)) (a .width * a .height) ≡ true
 count c = was-true (c .before .count-fits .ensures) (c .if3 .left)
 
 sides-fit-requires : tie.Need-sides-fit-requires
@@ -34,7 +36,7 @@ answer-saving-requires c κs = search needs
 
 returns : tie.Need-returns
 returns c =
-    content-number _ _ _ _ _ 3
+    content-number _ _ _ _
     (fault-sides _ _ _ _ (was-false (c .before .before .sides-fit .ensures) (c .before .if1 .taken)))
     (λ z. omega arith) (c .answer-saving .ensures)
 
@@ -47,7 +49,7 @@ answer-saving-requires-2 c κs = search needs
 returns-2 : tie.Need-returns-2
 returns-2 c =
     let past = c .before .before .before in
-    content-number _ _ _ _ _ 4
+    content-number _ _ _ _
     (fault-largest _ _ _ _ (sides past) (was-false (c .before .before .largest-fits .ensures) (c .before .if2 .taken)))
     (λ z. omega arith) (c .answer-saving2 .ensures)
 
@@ -60,7 +62,7 @@ answer-saving-requires-3 c κs = search needs
 returns-3 : tie.Need-returns-3
 returns-3 c =
     let past = c .before .before .before in
-    content-number _ _ _ _ _ 8
+    content-number _ _ _ _
     (fault-count _ _ _ _ (sides (past .before .before)) (largest past) (was-false (c .before .before .count-fits .ensures) (c .before .if3 .taken)))
     (λ z. omega arith) (c .answer-saving3 .ensures)
 
@@ -83,10 +85,10 @@ returns-4 : tie.Need-returns-4
 returns-4 c =
     let past = c .before .before .before in
     let place = c .before .before .first-above .ensures in
-    content-above _ _ _ _ _
+    content-above _ _ _ _
     (fault-above _ _ _ _ (sides (past .before .before .before .before)) (largest (past .before .before)) (count past)
     (ne-eqb _ _ (λ e. c .before .if4 .taken (place ∙ e))))
-    _ place (c .answer-saving4 .ensures)
+    place (c .answer-saving4 .ensures)
 
 answer-saving-requires-5 : tie.Need-answer-saving-requires-5
 answer-saving-requires-5 c κs = search needs
@@ -94,7 +96,7 @@ answer-saving-requires-5 c κs = search needs
 returns-5 : tie.Need-returns-5
 returns-5 c =
     let past = c .before .before .before in
-    content-number _ _ _ _ _ 0
+    content-number _ _ _ _
     (fault-none _ _ _ _ (sides (past .before .before .before .before)) (largest (past .before .before)) (count past)
     (eq-eqb _ _ (sym (c .before .before .first-above .ensures) ∙ c .before .if4 .left)))
     (λ z. omega arith) (c .answer-saving5 .ensures)

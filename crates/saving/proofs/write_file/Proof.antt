@@ -46,14 +46,14 @@ content-refusal-requires : tie.Need-content-refusal-requires
 content-refusal-requires c κs = search needs
 
 returns : tie.Need-returns
-returns c = save-refused _ _ _ _ _ _ (c .before .content-refusal .ensures) (c .if1 .taken)
+returns c = save-refused (c .before .content-refusal .ensures) (c .if1 .taken)
 
 slice-aggregate-put-header : tie.Need-slice-aggregate-put-header
 slice-aggregate-put-header c = search needs
 
 put-header-requires : tie.Need-put-header-requires
 put-header-requires c κs =
-    let d = few-digits (savable _ _ _ _ (content (c .before))) in
+    let d = few-digits (savable (content (c .before))) in
     (d .0, d .1, d .2, omega arith)
 
 add-count : tie.Need-add-count
@@ -68,7 +68,7 @@ answer-saving-requires c κs = search needs
 returns-2 : tie.Need-returns-2
 returns-2 c =
     let s = c .before .before in
-    save-short _ _ _ _ _ _ _ (content (past s)) (fault s) (c .before .if2 .taken) (c .answer-saving .ensures)
+    save-short (content (past s)) (fault s) (c .before .if2 .taken) (c .answer-saving .ensures)
 
 array-share-prefix-header : tie.Need-array-share-prefix-header
 array-share-prefix-header c = search needs
@@ -93,7 +93,7 @@ put-file-requires c κs =
 cast-answer-saving : tie.Need-cast-answer-saving
 cast-answer-saving c =
     let s = c .before .before .before .before .before .before in
-    record { fits = omega (arith, s .before .before .put-header .ensures .1, few-pixels (savable _ _ _ _ (content (past s)))) }
+    record { fits = omega (arith, s .before .before .put-header .ensures .1, few-pixels (savable (content (past s)))) }
 
 answer-saving-requires-2 : tie.Need-answer-saving-requires-2
 answer-saving-requires-2 c κs = search needs
@@ -107,7 +107,7 @@ returns-3 c =
     let s = e .before in
     let a = origin (past s) .args in
     let header = s .before .before .put-header .ensures .0 in
-    save-done _ _ _ _ _ _ _ _ (sym (fault s) ∙ e .if2 .left) (counted s) (c .answer-saving2 .ensures)
+    save-done (sym (fault s) ∙ e .if2 .left) (counted s) (c .answer-saving2 .ensures)
     (c .before .before .before .put-file .ensures
     ∙ ap (λ (l : List ℕ). over l (a .out .now))
     (ap (λ (l : List ℕ). l ++ a .pixels .now) (text-front header) ∙ file-parts (a .width) (a .height) (a .largest) (a .pixels .now)))

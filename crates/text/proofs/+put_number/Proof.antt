@@ -2,7 +2,7 @@
 use borrow.Author.Needs.{needs}
 use native.Mathlib.Omega.{arith}
 use Rattle.lists.proofs.Writings.{written-length}
-use Rattle.text.proofs.NumbersWritten.{number-one, number-more, number-room, number-some}
+use Rattle.text.proofs.NumbersWritten.{number-one, number-more, number-room, number-some, number-fewer}
 use Prim.Native.Nat.{ℕ, _<_, _≤_}
 use borrow.Fn.Kinds.{In}
 use borrow.Fn.PlainCycle.{Measures, is, falls, and}
@@ -48,9 +48,7 @@ module _ (t : ℕ) where
 
   put-number-requires : lts.Need-put-number-requires (claims t) (at-number t) reads.Post
   put-number-requires c κs =
-      let n = c .before .before .before .args .n in
-      let b : 10 ≤ n = omega arith in
-      let l = number-room n b in
+      let l = number-fewer (c .before .before .before .args .n) in
       let r = c .before .before .before .pre .1 in
       let e = c .before .before .before .pre .0 in
       (omega arith, omega arith)
