@@ -13,7 +13,7 @@
  *    4  the largest sample is outside 1 to 255
  *    6  a pixel is above the largest sample
  *    7  the adjacency is neither 4 nor 8
- *    8  the picture's length is not n
+ *    8  the length of the picture or of its stored form is not n
  *    9  the lent output, list, tree or work memory is too short
  *   10  the place is n or more
  *   11  the lent tree is not that of the picture under the adjacency: its
@@ -30,8 +30,8 @@
  * entries named at the function and the first 5 n of `work` have changed;
  * all others keep their content.
  *
- * Every function takes these; controller_write_file takes neither adjacency
- * nor work:
+ * Every function takes these; controller_write_file, controller_store_rows
+ * and controller_restore_rows take neither adjacency nor work:
  *
  *   adjacency   4 or 8
  *   width       1 to 40
@@ -295,6 +295,40 @@ uint64_t controller_list_patches(
 uint64_t controller_write_file(
     uint32_t width, uint32_t height, uint32_t largest,
     const uint8_t *pixels, size_t pixels_len,
+    uint8_t *out, size_t out_len);
+
+/*
+ * Puts the rows of a picture in the order of the store, each pixel by its
+ * difference.
+ *
+ *   out  lent output of at least n bytes
+ *
+ * The value is 0. After success the first n bytes of `out` are the stored
+ * form: rows 0, 2, 4 and so on, then rows 1, 3, 5 and so on, and of each row
+ * the first pixel as it is, every other one less its left neighbour in the
+ * picture, modulo 256.
+ *
+ * Refusals, in this order: 3, 8, 9 (out_len below n).
+ */
+uint64_t controller_store_rows(
+    uint32_t width, uint32_t height,
+    const uint8_t *pixels, size_t pixels_len,
+    uint8_t *out, size_t out_len);
+
+/*
+ * The way back: restores the picture of a stored form. Every n bytes are the
+ * stored form of exactly one picture with these sides.
+ *
+ *   stored  the stored form, n bytes; read only, it may lie in flash
+ *   out     lent output of at least n bytes
+ *
+ * The value is 0. After success the first n bytes of `out` are the pixels.
+ *
+ * Refusals, in this order: 3, 8 (stored_len is not n), 9 (out_len below n).
+ */
+uint64_t controller_restore_rows(
+    uint32_t width, uint32_t height,
+    const uint8_t *stored, size_t stored_len,
     uint8_t *out, size_t out_len);
 
 #ifdef __cplusplus

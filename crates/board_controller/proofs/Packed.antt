@@ -12,6 +12,7 @@ use Rattle.board.specs.declared.query.Queried.{Queried}
 use Rattle.board.specs.Calls.{placeFaultOf, groundOf, patchNumber, QuerySays}
 use Rattle.saving.specs.declared.Saved.{Saved}
 use Rattle.saving.specs.Calls.{SaveSays}
+use Rattle.stored_rows.specs.Calls.{RowsSay}
 use Rattle.packed_answers.specs.Packed.{answerIn, queriedIn, groundByNumber, savedIn}
 
 ground-again : (n : ℕ) → groundOf (patchNumber (groundOf n)) ≡ groundOf n
@@ -41,3 +42,8 @@ work-packed {f} {v} {p} {q} {q′} r e s = subst (λ (b : Answer). WorkSays f v 
 pub save-packed :
     {w h m : ℕ} {xs o o′ : List ℕ} {a : Saved} (r : ℕ) → savedIn r ≡ a → SaveSays w h m xs o o′ a → SaveSays w h m xs o o′ (savedIn r)
 save-packed {w} {h} {m} {xs} {o} {o′} r e s = subst (λ (b : Saved). SaveSays w h m xs o o′ b) (sym e) s
+
+-- the same of rows, stored or restored
+pub rows-packed :
+    {f : ℕ} {new o o′ : List ℕ} {a : Answer} (r : ℕ) → answerIn r ≡ a → RowsSay f new o o′ a → RowsSay f new o o′ (answerIn r)
+rows-packed {f} {new} {o} {o′} r e s = subst (λ (b : Answer). RowsSay f new o o′ b) (sym e) s

@@ -6,6 +6,8 @@ use board::is_lowerable;
 use board::label_section;
 use board::pass_between;
 use board::query_place;
+use board::restore_rows;
+use board::store_rows;
 use board::watershed_of;
 use board::write_file;
 use figure_lists::list_figures;
@@ -16,6 +18,7 @@ ghost use Rattle.picture.specs.Pictures.{pictureOf};
 ghost use Rattle.board.specs.Calls.{LabelsSay, LowerableSays, WatershedSays, FillSays, QuerySays};
 ghost use Rattle.board.specs.Trees.{TreeSays, CheckSays, PassSays};
 ghost use Rattle.saving.specs.Calls.{SaveSays};
+ghost use Rattle.stored_rows.specs.Calls.{StoreSays, RestoreSays};
 ghost use Rattle.packed_answers.specs.Packed.{answerIn, queriedIn, savedIn};
 ghost use Rattle.figure_lists.specs.Figures.{FiguresSay};
 
@@ -231,4 +234,30 @@ pub extern "C" fn controller_write_file(
     ensures { λ r. ⌜ SaveSays width height largest (now (pixels .entry)) (now (out .entry)) (now (out .exit)) (savedIn r) ⌝ }
 {
     packed_saved(write_file(width, height, largest, pixels, out))
+}
+
+// The rows of a picture as they are stored; the value is 0.
+#[no_mangle]
+pub extern "C" fn controller_store_rows(
+    width: u32,
+    height: u32,
+    pixels: &[u8],
+    out: &mut [u8],
+) -> u64
+    ensures { λ r. ⌜ StoreSays width height (now (pixels .entry)) (now (out .entry)) (now (out .exit)) (answerIn r) ⌝ }
+{
+    packed(store_rows(width, height, pixels, out))
+}
+
+// The way back: the pixels of stored rows; the value is 0.
+#[no_mangle]
+pub extern "C" fn controller_restore_rows(
+    width: u32,
+    height: u32,
+    stored: &[u8],
+    out: &mut [u8],
+) -> u64
+    ensures { λ r. ⌜ RestoreSays width height (now (stored .entry)) (now (out .entry)) (now (out .exit)) (answerIn r) ⌝ }
+{
+    packed(restore_rows(width, height, stored, out))
 }

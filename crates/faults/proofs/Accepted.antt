@@ -1,57 +1,67 @@
 -- The fault of a picture's arguments: which tests make which number, and that no fault is what accepts a picture.
-use mathlib.Core.Path.{_≡_, refl, sym, _∙_}
-use mathlib.Core.Bool.{Bool, true, false, _&&_, _||_}
+use mathlib.Core.Path.{_≡_, sym, _∙_}
+use mathlib.Core.Bool.{true, false, _&&_, _||_}
 use Prim.Native.Nat.{ℕ, _*_}
 use native.Mathlib.Omega.{arith}
 use lib.Dec.{eqb}
 use lib.ListN.{length}
 use Rattle.picture.specs.Pictures.{Picture, sideFits, allBytes, isPicture}
-use Rattle.faults.specs.PictureFault.{pictureFault, pictureFaultOf}
-use Rattle.lists.proofs.Tests.{and-left, and-right, and-both}
+use Rattle.faults.specs.PictureFault.{sidesFault, pictureFault, pictureFaultOf}
+use Rattle.lists.proofs.Tests.{and-left, and-right, and-both, on-test}
+
+module _ (w h l : ℕ) where
+  pub sides-outside : (sideFits w && sideFits h) ≡ false → sidesFault w h l ≡ 3
+  unfolding sidesFault
+  sides-outside p = rw p
+
+  pub sides-uncounted : (sideFits w && sideFits h) ≡ true → eqb l (w * h) ≡ false → sidesFault w h l ≡ 8
+  unfolding sidesFault
+  sides-uncounted p q = rw (p, q)
+
+  pub sides-none : (sideFits w && sideFits h) ≡ true → eqb l (w * h) ≡ true → sidesFault w h l ≡ 0
+  unfolding sidesFault
+  sides-none p q = rw (p, q)
+
+-- no fault of sides and length: both tests pass
+pub record Sized (w h l : ℕ) : Type 0 where
+  pub sides : (sideFits w && sideFits h) ≡ true
+  pub size : eqb l (w * h) ≡ true
+
+pub no-sides-fault : (w h l : ℕ) → sidesFault w h l ≡ 0 → Sized w h l
+no-sides-fault w h l e =
+    on-test (sideFits w && sideFits h)
+    (λ p.
+    on-test (eqb l (w * h))
+    (λ q. record { sides = p; size = q })
+    (λ q. let z = sides-uncounted w h l p q in absurd (omega arith)))
+    (λ p. let z = sides-outside w h l p in absurd (omega arith))
 
 module _ (a w h l : ℕ) where
   pub fault-adjacency : (eqb a 4 || eqb a 8) ≡ false → pictureFault a w h l ≡ 7
   unfolding pictureFault
   fault-adjacency p = rw p
 
-  pub fault-sides : (eqb a 4 || eqb a 8) ≡ true → (sideFits w && sideFits h) ≡ false → pictureFault a w h l ≡ 3
+  pub fault-sides : (eqb a 4 || eqb a 8) ≡ true → pictureFault a w h l ≡ sidesFault w h l
   unfolding pictureFault
-  fault-sides p q = rw (p, q)
+  fault-sides p = rw p
 
-  pub fault-length :
-      (eqb a 4 || eqb a 8) ≡ true → (sideFits w && sideFits h) ≡ true → eqb l (w * h) ≡ false → pictureFault a w h l ≡ 8
-  unfolding pictureFault
-  fault-length p q r = rw (p, q, r)
-
-  pub fault-none :
-      (eqb a 4 || eqb a 8) ≡ true → (sideFits w && sideFits h) ≡ true → eqb l (w * h) ≡ true → pictureFault a w h l ≡ 0
-  unfolding pictureFault
-  fault-none p q r = rw (p, q, r)
-
--- no fault: each of the three tests passes
+-- no fault: the adjacency is 4 or 8, and sides and length have none
 pub record Sound (a w h l : ℕ) : Type 0 where
   pub adjacency : (eqb a 4 || eqb a 8) ≡ true
-  pub sides : (sideFits w && sideFits h) ≡ true
-  pub size : eqb l (w * h) ≡ true
+  pub sized : Sized w h l
 
 pub no-fault : (a w h l : ℕ) → pictureFault a w h l ≡ 0 → Sound a w h l
 no-fault a w h l e =
-    by (eqb a 4 || eqb a 8) (sideFits w && sideFits h) (eqb l (w * h)) refl refl refl
-  where
-    by :
-        (s t u : Bool) →
-        (eqb a 4 || eqb a 8) ≡ s → (sideFits w && sideFits h) ≡ t → eqb l (w * h) ≡ u →
-        Sound a w h l
-    by true true true p q r = record { adjacency = p; sides = q; size = r }
-    by true true false p q r = let z = sym (fault-length a w h l p q r) ∙ e in absurd (omega arith)
-    by true false u p q r = let z = sym (fault-sides a w h l p q) ∙ e in absurd (omega arith)
-    by false t u p q r = let z = sym (fault-adjacency a w h l p) ∙ e in absurd (omega arith)
+    on-test (eqb a 4 || eqb a 8)
+    (λ p. record { adjacency = p; sized = no-sides-fault w h l (sym (fault-sides a w h l p) ∙ e) })
+    (λ p. let z = fault-adjacency a w h l p in absurd (omega arith))
 
 -- a picture without a fault whose pixels are bytes is accepted
 pub accepted : (p : Picture) → pictureFaultOf p ≡ 0 → allBytes (p .pixels) ≡ true → isPicture p ≡ true
 unfolding isPicture
 accepted p e b =
     let s = no-fault (p .adjacency) (p .width) (p .height) (length (p .pixels)) e in
+    let t = s .sized in
     and-both (s .adjacency)
-    (and-both (and-left (sideFits (p .width)) _ (s .sides))
-    (and-both (and-right (sideFits (p .width)) _ (s .sides)) (and-both (s .size) b)))
+    (and-both (and-left (sideFits (p .width)) _ (t .sides))
+    (and-both (and-right (sideFits (p .width)) _ (t .sides)) (and-both (t .size) b)))

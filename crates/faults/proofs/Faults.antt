@@ -63,10 +63,10 @@ module _ (f n : ℕ) (t : Bool) (g : ℕ) (is : firstOf f (when t (suc n)) ≡ g
 -- no fault of a picture's arguments: n is the number of pixels, at most 1,600
 module _ (a w h l : ℕ) where
   pub fault-size : pictureFault a w h l ≡ 0 → l ≡ w * h
-  fault-size e = eqb-true l (w * h) (no-fault a w h l e .size)
+  fault-size e = eqb-true l (w * h) (no-fault a w h l e .sized .size)
 
   pub fault-few : pictureFault a w h l ≡ 0 → w * h ≤ 1600
-  fault-few e = sides-area w h (no-fault a w h l e .sides)
+  fault-few e = sides-area w h (no-fault a w h l e .sized .sides)
 
   module _ (work : ℕ) where
     -- the code counts from the number of pixels

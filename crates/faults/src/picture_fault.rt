@@ -1,9 +1,9 @@
-// The fault of a picture's arguments.
+// The fault of a picture's arguments: of its sides and length, and with its adjacency.
 use ranges::sides_fit;
 ghost use mathlib.Core.Path.{_≡_};
 ghost use mathlib.Core.Bool.{_||_};
 ghost use lib.Dec.{eqb};
-ghost use Rattle.faults.specs.PictureFault.{pictureFault};
+ghost use Rattle.faults.specs.PictureFault.{sidesFault, pictureFault};
 
 // The adjacency is 4 or 8.
 fn adjacency_fits(a: u32) -> bool
@@ -15,13 +15,10 @@ fn adjacency_fits(a: u32) -> bool
     a == 8
 }
 
-// The number of the first fault of an adjacency, two sides and a number of pixels; 0 for none.
-pub fn picture_fault(a: u32, w: u32, h: u32, length: usize) -> u8
-    ensures { λ r. ⌜ r ≡ pictureFault a w h length ⌝ }
+// The number of the first fault of two sides and a number of pixels; 0 for none.
+pub fn sides_fault(w: u32, h: u32, length: usize) -> u8
+    ensures { λ r. ⌜ r ≡ sidesFault w h length ⌝ }
 {
-    if !adjacency_fits(a) {
-        return 7;
-    }
     if !sides_fit(w, h) {
         return 3;
     }
@@ -29,4 +26,14 @@ pub fn picture_fault(a: u32, w: u32, h: u32, length: usize) -> u8
         return 8;
     }
     0
+}
+
+// The number of the first fault of an adjacency, two sides and a number of pixels; 0 for none.
+pub fn picture_fault(a: u32, w: u32, h: u32, length: usize) -> u8
+    ensures { λ r. ⌜ r ≡ pictureFault a w h length ⌝ }
+{
+    if !adjacency_fits(a) {
+        return 7;
+    }
+    sides_fault(w, h, length)
 }

@@ -1,5 +1,5 @@
 -- Laws of the list functions that the definitions share: membership, selection, tallies, ranges, stores.
-use mathlib.Core.Path.{_≡_, refl, sym, ap, subst, _∙_}
+use mathlib.Core.Path.{_≡_, refl, sym, ap, ap₂, subst, _∙_}
 use mathlib.Core.Bool.{Bool, true, false, _&&_, _||_, or-assoc, false≢true}
 use mathlib.Core.Logic.{_⊎_, inl, inr, ⊎-elim, _≢_, by-cases}
 use mathlib.Core.List.{List, [], _∷_, _++_, map, List·Memᴰ, List·Memᴰ·head, List·Memᴰ·tail, List·Memᴰ·not-nil, List·Memᴰ·cases-cons, flatMap, append-nil, append-assoc}
@@ -224,7 +224,12 @@ mem-range {y} x (suc l) a b =
     (λ e. List·Memᴰ·head (eqb-true y x e))
     (λ e. let d = eqb-false y x e in List·Memᴰ·tail (mem-range (suc x) l (omega arith) (omega arith)))
 
--- the elements of a mapped range
+-- the elements of a range, and of a mapped one
+pub getD-range : (x l i : ℕ) → i < l → getD (range x l) i 0 ≡ x + i
+getD-range x zero i h = absurd (omega arith)
+getD-range x (suc l) zero h = omega arith
+getD-range x (suc l) (suc i) h = getD-range (suc x) l i (omega arith) ∙ omega arith
+
 pub getD-map-range : {A : Type 0} (f : ℕ → A) (d : A) (x l i : ℕ) → i < l → getD (map f (range x l)) i d ≡ f (x + i)
 getD-map-range f d x zero i h = absurd (omega arith)
 getD-map-range f d x (suc l) zero h = let e : x ≡ x + 0 = omega arith in ap f e
@@ -285,6 +290,33 @@ select-append {A} t (x ∷ xs) m =
 pub all-snoc : {A : Type 0} (t : A → Bool) (s : List A) (b : A) → all t s ≡ true → t b ≡ true → all t (s ++ b ∷ []) ≡ true
 all-snoc t [] b h e = and-both e refl
 all-snoc t (a ∷ s) b h e = and-both (and-left (t a) _ h) (all-snoc t s b (and-right (t a) _ h) e)
+
+-- a test that every member of two lists passes, of the images of a list
+pub all-append : {A : Type 0} (t : A → Bool) (l m : List A) → all t l ≡ true → all t m ≡ true → all t (l ++ m) ≡ true
+all-append t [] m h k = k
+all-append t (x ∷ xs) m h k = and-both (and-left (t x) _ h) (all-append t xs m (and-right (t x) _ h) k)
+
+pub all-flatMap :
+    {A B : Type 0} (t : B → Bool) (f : A → List B) (l : List A) → ((x : A) → List·Memᴰ x l → all t (f x) ≡ true) →
+    all t (flatMap f l) ≡ true
+unfolding flatMap
+all-flatMap t f [] h = refl
+all-flatMap t f (x ∷ xs) h =
+    all-append t (f x) (flatMap f xs) (h x (List·Memᴰ·head refl)) (all-flatMap t f xs (λ y m. h y (List·Memᴰ·tail m)))
+
+-- the images of a list by functions that agree on it, and of a mapped list, behind one another
+pub flatMap-same :
+    {A B : Type 0} (f g : A → List B) (l : List A) → ((x : A) → List·Memᴰ x l → f x ≡ g x) → flatMap f l ≡ flatMap g l
+unfolding flatMap
+flatMap-same f g [] h = refl
+flatMap-same {B = B} f g (x ∷ xs) h =
+    ap₂ (λ (a b : List B). a ++ b) (h x (List·Memᴰ·head refl)) (flatMap-same f g xs (λ y m. h y (List·Memᴰ·tail m)))
+
+pub flatMap-map :
+    {A B C : Type 0} (f : B → List C) (g : A → B) (l : List A) → flatMap f (map g l) ≡ flatMap (λ x. f (g x)) l
+unfolding flatMap
+flatMap-map f g [] = refl
+flatMap-map {C = C} f g (x ∷ xs) = ap (λ (b : List C). f (g x) ++ b) (flatMap-map f g xs)
 
 -- the images of a list, and of a range longer by one, behind one another
 flatMap-append : {A B : Type 0} (f : A → List B) (l m : List A) → flatMap f (l ++ m) ≡ flatMap f l ++ flatMap f m

@@ -5,7 +5,7 @@ use mathlib.Core.List.{List, [], _∷_, _++_, map, List·Memᴰ, List·Memᴰ·n
 use Prim.Native.Nat.{ℕ, zero, suc, _≤_, _<_}
 use native.Mathlib.Omega.{arith}
 use lib.Dec.{eqb}
-use lib.ListN.{length, getD}
+use lib.ListN.{length, getD, take, drop}
 use borrow.Author.Tests.{eqb-true}
 use Rattle.lists.specs.Lists.{pick, any, all, select, range, isIn}
 use Rattle.lists.proofs.Tests.{and-left, and-right, and-both, not-of-false, test-false}
@@ -18,6 +18,17 @@ module _ {A : Type 0} (t : A → Bool) where
   all-at [] d p q i = p
   all-at (x ∷ xs) d p q zero = and-left (t x) _ q
   all-at (x ∷ xs) d p q (suc i) = all-at xs d p (and-right (t x) _ q) i
+
+  -- a test that every member passes, every member of a part passes
+  pub all-take : (n : ℕ) (xs : List A) → all t xs ≡ true → all t (take n xs) ≡ true
+  all-take zero xs h = refl
+  all-take (suc n) [] h = refl
+  all-take (suc n) (x ∷ xs) h = and-both (and-left (t x) _ h) (all-take n xs (and-right (t x) _ h))
+
+  pub all-drop : (n : ℕ) (xs : List A) → all t xs ≡ true → all t (drop n xs) ≡ true
+  all-drop zero xs h = h
+  all-drop (suc n) [] h = refl
+  all-drop (suc n) (x ∷ xs) h = all-drop n xs (and-right (t x) _ h)
 
   -- if some member passes the test and every member passes another, one passes both
   pub any-all :
