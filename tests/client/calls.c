@@ -18,6 +18,8 @@
  *         [COUNT SIZES HEIGHTS DEPTHS COLUMN-SUMS ROW-SUMS]
  *   fill ADJACENCY WIDTH HEIGHT PIXELS SIZE OUT-LENGTH WORK-LENGTH NUMBER [OUT]
  *   save WIDTH HEIGHT LARGEST PIXELS OUT-LENGTH NUMBER COUNT PLACE [FILE]
+ *   store WIDTH HEIGHT PIXELS OUT-LENGTH NUMBER [OUT]
+ *   restore WIDTH HEIGHT STORED OUT-LENGTH NUMBER [OUT]
  *
  * cases.h has the form of the fields. Lengths count entries; a 16-bit entry
  * is four hexadecimal digits, highest first. The fields in brackets stand
@@ -236,6 +238,20 @@ static void take_save(void)
         malformed = 1;
 }
 
+/* Takes the fields of storing and of the way back; the stored form that is
+ * restored is taken as pixels. */
+static void take_rows(void)
+{
+    width = take_word();
+    height = take_word();
+    take_bytes(&pixels_given);
+    out_length = take_length();
+    number = take_number(9);
+    value = 0;
+    if (number == 0)
+        take_output();
+}
+
 static uint16_t *lent_entries(struct memory *memory)
 {
     return (uint16_t *)(void *)lent(memory);
@@ -250,7 +266,7 @@ static void prepare_picture(unsigned turn)
     prepare_input(&pixels, &pixels_given, 1, 3, turn);
 }
 
-/* Prepares what every call but saving is lent. */
+/* Prepares what every call with work is lent. */
 static void prepare_picture_and_work(unsigned turn)
 {
     prepare_picture(turn);
@@ -440,6 +456,30 @@ static int run_save(unsigned turn)
     return check_without_work(result) && check_save(result);
 }
 
+/* Storing or the way back: they take the same arguments. */
+typedef uint64_t rows_call(uint32_t width, uint32_t height,
+                           const uint8_t *bytes, size_t bytes_len,
+                           uint8_t *out, size_t out_len);
+
+static int run_rows(rows_call *call, unsigned turn)
+{
+    prepare_picture(turn);
+    prepare(&out, out_length, 1, 5, turn);
+    uint64_t result = call(width, height, BYTES(pixels), BYTES(out));
+    expect_given(&out, &out_given);
+    return check_without_work(result);
+}
+
+static int run_store(unsigned turn)
+{
+    return run_rows(controller_store_rows, turn);
+}
+
+static int run_restore(unsigned turn)
+{
+    return run_rows(controller_restore_rows, turn);
+}
+
 int main(void)
 {
     static const struct kind kinds[] = {
@@ -453,6 +493,8 @@ int main(void)
         {"patches", take_patches, run_patches},
         {"fill", take_fill, run_fill},
         {"save", take_save, run_save},
+        {"store", take_rows, run_store},
+        {"restore", take_rows, run_restore},
     };
     return run_cases(kinds, sizeof kinds / sizeof *kinds);
 }

@@ -2,19 +2,11 @@
 
 use crate::literal::{Adjacency, Picture};
 
-/// The refusal's number or 0. The order is 7, 3, 8, 9, 10. `enough` says
-/// whether the lent memory is enough for n pixels.
-pub fn refusal(
-    adjacency: u32,
-    sides: (u32, u32),
-    length: usize,
-    enough: impl Fn(usize) -> bool,
-    places: &[u32],
-) -> u32 {
+/// The refusal's number or 0 of sides, of a number of bytes and of lent memory.
+/// The order is 3, 8, 9. `enough` says whether the lent memory is enough for n
+/// pixels.
+pub fn refusal_of_sizes(sides: (u32, u32), length: usize, enough: impl Fn(usize) -> bool) -> u32 {
     let (width, height) = sides;
-    if adjacency != 4 && adjacency != 8 {
-        return 7;
-    }
     if !(1..=40).contains(&width) || !(1..=40).contains(&height) {
         return 3;
     }
@@ -25,7 +17,26 @@ pub fn refusal(
     if !enough(count) {
         return 9;
     }
-    if places.iter().any(|place| *place as usize >= count) {
+    0
+}
+
+/// The refusal's number or 0. The order is 7, 3, 8, 9, 10.
+pub fn refusal(
+    adjacency: u32,
+    sides: (u32, u32),
+    length: usize,
+    enough: impl Fn(usize) -> bool,
+    places: &[u32],
+) -> u32 {
+    if adjacency != 4 && adjacency != 8 {
+        return 7;
+    }
+    let number = refusal_of_sizes(sides, length, enough);
+    if number != 0 {
+        return number;
+    }
+    // The number of pixels is n here.
+    if places.iter().any(|place| *place as usize >= length) {
         return 10;
     }
     0

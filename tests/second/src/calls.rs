@@ -1,7 +1,7 @@
-//! Test cases for the calls on 16-bit memory, one a line, in the form of
-//! the module `cases`. Lengths count entries. A 16-bit entry is four
-//! hexadecimal digits, highest first. TREE stands for the five fields
-//! COUNT HEIGHTS FATHERS FIRSTS MAP.
+//! Test cases for the calls on 16-bit memory, for saving and for storing rows,
+//! one a line, in the form of the module `cases`. Lengths count entries. A
+//! 16-bit entry is four hexadecimal digits, highest first. TREE stands for the
+//! five fields COUNT HEIGHTS FATHERS FIRSTS MAP.
 //!
 //!     label ADJACENCY WIDTH HEIGHT PIXELS K OUT-LENGTH WORK-LENGTH NUMBER [COUNT LABELS]
 //!     lowerable ADJACENCY WIDTH HEIGHT PIXELS PLACE WORK-LENGTH NUMBER [ANSWER]
@@ -16,6 +16,8 @@
 //!         [COUNT SIZES HEIGHTS DEPTHS COLUMN-SUMS ROW-SUMS]
 //!     fill ADJACENCY WIDTH HEIGHT PIXELS SIZE OUT-LENGTH WORK-LENGTH NUMBER [OUT]
 //!     save WIDTH HEIGHT LARGEST PIXELS OUT-LENGTH NUMBER COUNT PLACE [FILE]
+//!     store WIDTH HEIGHT PIXELS OUT-LENGTH NUMBER [OUT]
+//!     restore WIDTH HEIGHT STORED OUT-LENGTH NUMBER [OUT]
 //!
 //! Of a saved picture the count is 0 on a refusal, and the place is the first
 //! one above the largest sample where the number is 6, else 0.
@@ -31,6 +33,7 @@ use crate::question::{
 use crate::quick;
 use crate::random::Random;
 use crate::saves;
+use crate::stores;
 use crate::worked;
 
 /// The pictures worked by hand, each also under the other adjacency and
@@ -432,6 +435,7 @@ pub fn text(count: usize) -> String {
     calls.extend(fills::calls(count));
     let mut lines: Vec<String> = calls.iter().map(Call::line).collect();
     lines.extend(saves::lines(count));
+    lines.extend(stores::lines(count));
     lines.join("\n") + "\n"
 }
 
@@ -444,6 +448,7 @@ mod tests {
             "label" | "fill" => 8,
             "lowerable" | "watershed" | "place" => 7,
             "save" => 6,
+            "store" | "restore" => 5,
             "tree" => 10,
             "check" | "patches" => 11,
             _ => 13,
@@ -452,7 +457,7 @@ mod tests {
 
     #[test]
     fn every_number_occurs() {
-        let expected: [(&str, &[u32]); 10] = [
+        let expected: [(&str, &[u32]); 12] = [
             ("label", &[0, 3, 7, 8, 9]),
             ("lowerable", &[0, 3, 7, 8, 9, 10]),
             ("tree", &[0, 3, 7, 8, 9]),
@@ -463,6 +468,8 @@ mod tests {
             ("patches", &[0, 3, 7, 8, 9]),
             ("fill", &[0, 3, 7, 8, 9, 13]),
             ("save", &[0, 3, 4, 6, 8, 9]),
+            ("store", &[0, 3, 8, 9]),
+            ("restore", &[0, 3, 8, 9]),
         ];
         limits::assert_numbers(&text(100), number_field, &expected, 2);
     }

@@ -6,6 +6,27 @@ use crate::random::Random;
 /// Sides at the limits, and sides whose low 8 or 16 bits are not refused.
 pub const SIDES: [u32; 9] = [0, 1, 40, 41, 256, 259, 65_536, 65_539, u32::MAX];
 
+/// Width, height and a number of pixels: sides outside the limits whose product
+/// is that number, in full or in its low 32 bits.
+pub const WRONG_SIDES: [(u32, u32, u32); 16] = [
+    (0, 0, 0),
+    (0, 5, 0),
+    (5, 0, 0),
+    (0, u32::MAX, 0),
+    (41, 1, 41),
+    (1, 41, 41),
+    (41, 40, 1640),
+    (40, 41, 1640),
+    (41, 41, 1681),
+    (1, 1600, 1600),
+    (1600, 1, 1600),
+    (65_536, 65_536, 0),
+    (1 << 31, 2, 0),
+    (u32::MAX, u32::MAX, 1),
+    (3, 2_863_311_531, 1),
+    (2_863_311_531, 3, 1),
+];
+
 /// Numbers of pixels and lengths of lists, where 6 are needed, or 2 for a
 /// list of patches.
 pub const LENGTHS: [u32; 5] = [0, 1, 5, 7, 12];
@@ -47,6 +68,50 @@ pub fn changed<Call: Clone>(good: &Call, numbers: &[u32], changes: &[Change<Call
         }));
     }
     calls
+}
+
+/// How many ways there are to give a cause of a refusal to a call.
+const WAYS: usize = 3;
+
+/// The ways to give one.
+pub type Cause<Call> = [fn(&mut Call); WAYS];
+
+/// Two causes meet in so many ways.
+const TURNS: usize = WAYS * WAYS;
+
+/// The causes of a set, by their bits.
+fn causes_of(set: usize, count: usize) -> impl Iterator<Item = usize> {
+    (0..count).filter(move |cause| set >> cause & 1 == 1)
+}
+
+/// Calls for the order of refusals: the call with each set of the causes, in
+/// several ways.
+pub fn calls_for_the_order<Call: Clone>(good: &Call, causes: &[Cause<Call>]) -> Vec<Call> {
+    let mut calls = Vec::new();
+    for set in 0..1 << causes.len() {
+        for turn in 0..TURNS {
+            let mut call = good.clone();
+            for cause in causes_of(set, causes.len()) {
+                // Neighbouring causes meet in every way.
+                let way = if cause % 2 == 0 { turn } else { turn / WAYS };
+                causes[cause][way % WAYS](&mut call);
+            }
+            calls.push(call);
+        }
+    }
+    calls
+}
+
+/// Asserts that of the calls for the order each set of causes is answered by
+/// its first. A cause is named by its number.
+#[cfg(test)]
+pub fn assert_first_causes(causes: &[u32], answered: &[u32]) {
+    assert_eq!(answered.len(), TURNS << causes.len());
+    for (index, number) in answered.iter().enumerate() {
+        let first = causes_of(index / TURNS, causes.len()).next();
+        let expected = first.map_or(0, |cause| causes[cause]);
+        assert_eq!(*number, expected, "call {}", index);
+    }
 }
 
 pub fn wrong_adjacency(random: &mut Random) -> u32 {

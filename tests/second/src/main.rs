@@ -7,7 +7,8 @@
 //!     second edges                  the expected output of the edge cases
 //!     second compare HOLDS [count]  compares a `holds` program with this one
 //!     second cases [count]          test cases for the C client
-//!     second calls [count]          test cases for the calls on 16-bit memory
+//!     second calls [count]          test cases for the calls on 16-bit memory,
+//!                                   for saving and for storing rows
 //!     second records                what `patch_report` prints for standard input
 //!     second files READ_REPORT FILE...
 //!                                   compares a `read_report` program with this one
@@ -42,6 +43,8 @@ mod reports;
 mod resave;
 mod saves;
 mod saving;
+mod stores;
+mod storing;
 mod wall;
 mod words;
 mod worked;

@@ -3,7 +3,7 @@
 
 use crate::generate;
 use crate::hexadecimal;
-use crate::limits::{self, Change};
+use crate::limits::{self, Cause, Change};
 use crate::random::Random;
 use crate::saving::{Save, LONGEST};
 use crate::worked;
@@ -145,7 +145,7 @@ fn call_of_h10() -> Save {
 }
 
 /// How a cause of a refusal is given to that call; each has several ways.
-const CAUSES: [[fn(&mut Save); 3]; 6] = [
+const CAUSES: [Cause<Save>; 6] = [
     [
         |call| call.sides.0 = 0,
         |call| call.sides.0 = 41,
@@ -183,24 +183,6 @@ const CAUSES: [[fn(&mut Save); 3]; 6] = [
         |call| call.out_length = 9,
     ],
 ];
-
-/// Calls for the order of refusals: one for each set of causes and each way.
-fn calls_for_the_order() -> Vec<Save> {
-    let mut calls = Vec::new();
-    for set in 0..64 {
-        for turn in 0..9 {
-            let mut call = call_of_h10();
-            let given = CAUSES.iter().enumerate();
-            for (cause, ways) in given.filter(|(cause, _)| set >> cause & 1 == 1) {
-                // Neighbouring causes meet in every way.
-                let way = if cause % 2 == 0 { turn } else { turn / 3 };
-                ways[way % 3](&mut call);
-            }
-            calls.push(call);
-        }
-    }
-    calls
-}
 
 /// Largest samples at the limits, and some whose low 8 or 16 bits are not
 /// refused.
@@ -278,34 +260,16 @@ fn calls_at_the_limits() -> Vec<Save> {
     calls
 }
 
-/// Sides outside the limits whose product is the number of pixels, in full or
-/// in its low 32 bits.
+/// Sides outside the limits, with output for any picture.
 fn calls_of_wrong_sides() -> Vec<Save> {
-    [
-        (0, 0, 0),
-        (0, 5, 0),
-        (5, 0, 0),
-        (0, u32::MAX, 0),
-        (41, 1, 41),
-        (1, 41, 41),
-        (41, 40, 1640),
-        (40, 41, 1640),
-        (41, 41, 1681),
-        (1, 1600, 1600),
-        (1600, 1, 1600),
-        (65_536, 65_536, 0),
-        (1 << 31, 2, 0),
-        (u32::MAX, u32::MAX, 1),
-        (3, 2_863_311_531, 1),
-        (2_863_311_531, 3, 1),
-    ]
-    .map(|(width, height, count)| Save {
-        sides: (width, height),
-        largest: 9,
-        pixels: mixed_pixels(count, 9),
-        out_length: 2000,
-    })
-    .to_vec()
+    limits::WRONG_SIDES
+        .map(|(width, height, count)| Save {
+            sides: (width, height),
+            largest: 9,
+            pixels: mixed_pixels(count, 9),
+            out_length: 2000,
+        })
+        .to_vec()
 }
 
 /// Breaks one of the arguments.
@@ -340,7 +304,7 @@ pub fn lines(count: usize) -> Vec<String> {
     calls.extend(calls_of_digits());
     calls.extend(calls_of_every_number());
     calls.extend(calls_of_first_places());
-    calls.extend(calls_for_the_order());
+    calls.extend(limits::calls_for_the_order(&call_of_h10(), &CAUSES));
     calls.extend(calls_at_the_limits());
     calls.extend(calls_of_wrong_sides());
     let mut random = Random::new(60_003);
@@ -367,17 +331,14 @@ mod tests {
         assert_eq!(line(&call), "save 5 1 3 - 13 8 0 0");
     }
 
-    /// Every set of causes is answered by its first.
     #[test]
     fn sets_of_causes() {
-        let numbers = [3, 3, 4, 8, 6, 9];
-        for (index, call) in calls_for_the_order().iter().enumerate() {
-            let set = index / 9;
-            let first = (0..6).find(|cause| set >> cause & 1 == 1);
-            let expected = first.map_or(0, |cause: usize| numbers[cause]);
-            let number = call.file().map_or_else(|refusal| refusal.number, |_| 0);
-            assert_eq!(number, expected, "{:?}", call);
-        }
+        let calls = limits::calls_for_the_order(&call_of_h10(), &CAUSES);
+        let numbers: Vec<u32> = calls
+            .iter()
+            .map(|call| call.file().map_or_else(|refusal| refusal.number, |_| 0))
+            .collect();
+        limits::assert_first_causes(&[3, 3, 4, 8, 6, 9], &numbers);
     }
 
     /// Digits of width, height and largest sample of the accepted calls.
