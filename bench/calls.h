@@ -19,6 +19,8 @@ typedef __typeof__(controller_fill_small_parts) fill_small_parts_call;
 typedef __typeof__(controller_query_place) query_place_call;
 typedef __typeof__(controller_list_patches) list_patches_call;
 typedef __typeof__(controller_write_file) write_file_call;
+typedef __typeof__(controller_store_rows) store_rows_call;
+typedef __typeof__(controller_restore_rows) restore_rows_call;
 typedef __typeof__(board_read) board_read_call;
 
 extern label_section_call peer_label_section;
@@ -31,6 +33,8 @@ extern fill_small_parts_call peer_fill_small_parts;
 extern query_place_call peer_query_place;
 extern list_patches_call peer_list_patches;
 extern write_file_call peer_write_file;
+extern store_rows_call peer_store_rows;
+extern restore_rows_call peer_restore_rows;
 extern board_read_call peer_read;
 
 /* How many pixels fell and were tested in the peer's watersheds since these were set to 0; counted only if compiled with COUNT_FALLS. */

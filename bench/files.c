@@ -1,11 +1,11 @@
-/* What the measurements of reading and of saving files share. */
+/* What the measurements of reading and saving files and of storing rows share. */
 
 #include "files.h"
 #include "geometry.h"
 
 #include <stdio.h>
 
-#define ANSWERS 10              /* success, and refusals of files up to 9 */
+#define ANSWERS 10              /* success, and refusals up to 9 */
 #define NANOSECONDS 1e9         /* of a second */
 
 static unsigned long answered[ANSWERS];
@@ -46,9 +46,10 @@ void print_times(const char *name, size_t bytes, struct times least)
            least.peer * NANOSECONDS, least.ours / least.peer);
 }
 
-void print_growth_head(const char *title, const char *first)
+void print_growth_head(const char *title, const char *what, const char *unit, const char *first)
 {
-    printf("\n%s\n\n| %s | ours | peer |\n|---|---|---|\n", title, first);
+    printf("\n%s %s: nanoseconds a %s\n\n| %s | ours | peer |\n|---|---|---|\n",
+           title, what, unit, first);
 }
 
 void print_growth(size_t first, size_t units, struct times least)

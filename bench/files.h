@@ -1,4 +1,4 @@
-/* What the measurements of reading and of saving files share. */
+/* What the measurements of reading and saving files and of storing rows share. */
 
 #ifndef FILES_H
 #define FILES_H
@@ -29,7 +29,7 @@ void print_times_head(const char *title, const char *first);
 void print_times(const char *name, size_t bytes, struct times least);
 
 /* Prints the head of a table of times a unit, and a row for so many units. */
-void print_growth_head(const char *title, const char *first);
+void print_growth_head(const char *title, const char *what, const char *unit, const char *first);
 void print_growth(size_t first, size_t units, struct times least);
 
 #endif

@@ -64,6 +64,12 @@ static inline unsigned fault_of(uint32_t a, uint32_t w, uint32_t h, size_t n,
     return 0;
 }
 
+/* The same for a call that takes neither adjacency nor work memory: these are never refused. */
+static inline unsigned fault_of_rows(uint32_t w, uint32_t h, size_t n, size_t out_length)
+{
+    return fault_of(4, w, h, n, out_length, SIZE_MAX);
+}
+
 /* The same for a call that takes a place and is lent no output; 10 comes last. */
 static inline unsigned fault_with_place(uint32_t a, uint32_t w, uint32_t h,
                                         size_t n, uint32_t place,

@@ -10,28 +10,20 @@ import ctypes
 import time
 
 import numpy
+from our_library import N, SIDE, WALL, bench_pixels, file_pixels, names, ours
 from skimage.measure import label
 from skimage.morphology import area_closing, max_tree
 
-SIDE = 40
-N = SIDE * SIDE
 ROUNDS = 15
 TIMED_SIZE = 12                 # the least size of a part whose filling is timed
-WALL = "examples/wall.pgm"
 SMALL_PICTURES = 150            # of each number of values
 SMALL_SIDE = 7                  # the largest side of those
 LEAST_SIDE = 3                  # of a picture for scikit-image
 VALUES = (2, 3, 5, 16, 256)     # how many a picture by chance has
 LONG_SHAPES = ((1, SIDE), (SIDE, 1), (2, SIDE), (SIDE, 3), (7, SIDE))
 
-ours = ctypes.CDLL("target/bench/libours.so")
 bytes_pointer = ctypes.POINTER(ctypes.c_uint8)
 words_pointer = ctypes.POINTER(ctypes.c_uint16)
-ours.controller_component_tree.restype = ctypes.c_uint64
-ours.controller_label_section.restype = ctypes.c_uint64
-ours.controller_fill_small_parts.restype = ctypes.c_uint64
-count = ctypes.c_uint.in_dll(ours, "picture_count").value
-names = (ctypes.c_char_p * count).in_dll(ours, "picture_names")
 
 
 def lent_words(count):
@@ -39,10 +31,8 @@ def lent_words(count):
     return memory, memory.ctypes.data_as(words_pointer), ctypes.c_size_t(count)
 
 
-def bench_picture(number):
-    pixels = numpy.zeros(N, numpy.uint8)
-    ours.make_picture(number, SIDE, pixels.ctypes.data_as(bytes_pointer))
-    return pixels.reshape(SIDE, SIDE)
+def picture_of(pixels):
+    return numpy.frombuffer(bytearray(pixels), numpy.uint8).reshape(SIDE, SIDE)
 
 
 def connectivity_of(adjacency):
@@ -79,7 +69,7 @@ def least(call, repeats):
 
 
 def row(number, adjacency):
-    picture = bench_picture(number)
+    picture = picture_of(bench_pixels(number))
     pixels_pointer = picture.ctypes.data_as(bytes_pointer)
     heights = numpy.zeros(N, numpy.uint8)
     lists = [lent_words(N) for _ in range(3)]
@@ -109,12 +99,7 @@ def row(number, adjacency):
         (lambda: fill(TIMED_SIZE), lambda: area_closing(picture, TIMED_SIZE, connectivity), 5),
     ]
     ratios = [least(first, repeats) / least(second, repeats) for first, second, repeats in pairs]
-    return f"| {names[number].decode()} |" + "".join(f" {ratio:.3f} |" for ratio in ratios)
-
-
-def wall_picture():
-    with open(WALL, "rb") as file:
-        return numpy.frombuffer(file.read()[-N:], numpy.uint8).reshape(SIDE, SIDE)
+    return f"| {names[number]} |" + "".join(f" {ratio:.3f} |" for ratio in ratios)
 
 
 def small_pictures():
@@ -153,8 +138,8 @@ def compare_fillings(name, picture):
 
 
 def compare_all_fillings():
-    pictures = [(names[number].decode(), bench_picture(number)) for number in range(count)]
-    pictures += [(WALL, wall_picture())]
+    pictures = [(name, picture_of(bench_pixels(number))) for number, name in enumerate(names)]
+    pictures += [(WALL, picture_of(file_pixels(WALL)))]
     pictures += [("by chance", picture) for picture in small_pictures()]
     compared = sum(compare_fillings(name, picture) for name, picture in pictures)
     print(f"\nfill_small_parts and area_closing: the same on {len(pictures)} pictures with both adjacencies and every least size, {compared} runs")
@@ -165,5 +150,5 @@ print("\nTime of ours over time of scikit-image, 40 by 40; ours is called from P
 for adjacency in (4, 8):
     print(f"\nAdjacency {adjacency}:\n\n| picture | component_tree / max_tree | label_section / label |"
           f" fill_small_parts, {TIMED_SIZE} / area_closing |\n|---|---|---|---|")
-    for number in range(count):
+    for number in range(len(names)):
         print(row(number, adjacency))

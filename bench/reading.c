@@ -247,7 +247,7 @@ static void print_tables(const struct times *least)
     print_times_head("Reading", "file");
     for (unsigned i = 0; i < WALLS; i++)
         print_times(walls[i].name, timed[i].length, least[i]);
-    print_growth_head("Reading a comment that never ends, refused: nanoseconds a byte", "bytes");
+    print_growth_head("Reading", "a comment that never ends, refused", "byte", "bytes");
     for (unsigned i = WALLS; i < TIMED; i++)
         print_growth(timed[i].length, timed[i].length, least[i]);
 }
@@ -255,7 +255,7 @@ static void print_tables(const struct times *least)
 static void read_once(void)
 {
     for (unsigned i = 0; i < WALLS; i++) {
-        printf("%s|%zu\n", walls[i].name, timed[i].length);
+        printf("Reading|%s|%zu\n", walls[i].name, timed[i].length);
         counted(read_timed, i, 1);
         counted(read_timed, i, 0);
     }

@@ -122,6 +122,12 @@ static void write_file(void)
                                            pixels, n, file, MOST_HEADER_BYTES + n);
 }
 
+/* Storing rows and the way back have one signature. */
+static void convert_rows(void)
+{
+    answer = ((store_rows_call *)function)(side, side, pixels, n, bytes, n);
+}
+
 static void read_for_c(void)
 {
     answer = ((board_read_call *)function)(file, file_length, bytes, READ_BYTES);
@@ -156,6 +162,8 @@ static const struct {
     { "query_place", 17600, (any_function *)controller_query_place, query_place },
     { "list_patches", 17600 + sizeof figures, (any_function *)controller_list_patches, list_patches },
     { "write_file", LARGEST_N + MOST_HEADER_BYTES + LARGEST_N, (any_function *)controller_write_file, write_file },
+    { "store_rows", 2 * LARGEST_N, (any_function *)controller_store_rows, convert_rows },
+    { "restore_rows", 2 * LARGEST_N, (any_function *)controller_restore_rows, convert_rows },
     { "board_read", MOST_HEADER_BYTES + LARGEST_N + READ_BYTES, (any_function *)board_read, read_for_c },
     { "board_watershed", 19200, (any_function *)board_watershed, watershed_for_c },
     { "board_place", 17616, (any_function *)board_place, place_for_c },

@@ -32,7 +32,7 @@ struct entries {
 /* What the next call is given; each call takes its part. */
 struct arguments {
     uint32_t adjacency, width, height;
-    struct bytes pixels;        /* or the file */
+    struct bytes pixels;        /* or the file, or the stored form */
     uint8_t k;
     uint32_t count;             /* nodes of the lent tree */
     uint32_t x, y;              /* places */
@@ -55,7 +55,8 @@ struct call {
     uint32_t places;            /* how many it takes */
     int takes_tree;
     int takes_size;
-    int saves;                  /* takes a largest sample, and no adjacency */
+    int without_adjacency;
+    int saves;                  /* takes a largest sample and answers a count of bytes */
     int lists_patches;          /* the lists have an entry a patch, not a pixel */
     int on_tablet;
 };
@@ -67,7 +68,7 @@ extern uint64_t answer;
 
 #define NO_ADJACENCY 0          /* of the calls that take none */
 
-#define CONTROLLER_CALLS 10
+#define CONTROLLER_CALLS 12
 #define LABEL_SECTION 0         /* the number of the call that takes k */
 #define FILL_SMALL_PARTS 6      /* the number of the call that takes s */
 extern const struct call controller_calls[CONTROLLER_CALLS];

@@ -14,8 +14,9 @@
 #define CALL(name) controller_##name
 #endif
 
-#define PICTURE given.adjacency, given.width, given.height, given.pixels.at, given.pixels.length
+#define SIDES given.width, given.height
 #define LENT(memory) given.memory.at, given.memory.length
+#define PICTURE given.adjacency, SIDES, LENT(pixels)
 #define TREE LENT(bytes), LENT(lists[0]), LENT(lists[1]), LENT(lists[2])
 
 static void label_section(void)
@@ -66,11 +67,22 @@ static void list_patches(void)
 
 static void write_file(void)
 {
-    answer = CALL(write_file)(given.width, given.height, given.largest, LENT(pixels), LENT(bytes));
+    answer = CALL(write_file)(SIDES, given.largest, LENT(pixels), LENT(bytes));
+}
+
+static void store_rows(void)
+{
+    answer = CALL(store_rows)(SIDES, LENT(pixels), LENT(bytes));
+}
+
+static void restore_rows(void)
+{
+    answer = CALL(restore_rows)(SIDES, LENT(pixels), LENT(bytes));
 }
 
 #define ON_PICTURE .most_entries = LARGEST_N, .work_a_pixel = WORK_A_PIXEL
 #define WITH_TREE .bytes_a_pixel = 1, .lists = 3
+#define WITHOUT_WORK .bytes_a_pixel = 1, .without_adjacency = 1
 
 const struct call controller_calls[CONTROLLER_CALLS] = {
     { "label_section", label_section, ON_PICTURE, .lists = 1 },
@@ -83,7 +95,9 @@ const struct call controller_calls[CONTROLLER_CALLS] = {
     { "query_place", query_place, ON_PICTURE, .places = 1 },
     { "list_patches", list_patches, .work_a_pixel = WORK_A_PIXEL,
       .lists = FIGURES, .most_entries = MOST_PATCHES, .lists_patches = 1 },
-    { "write_file", write_file, .bytes_a_pixel = 1, .other_bytes = MOST_HEADER_BYTES, .saves = 1 },
+    { "write_file", write_file, WITHOUT_WORK, .other_bytes = MOST_HEADER_BYTES, .saves = 1 },
+    { "store_rows", store_rows, WITHOUT_WORK },
+    { "restore_rows", restore_rows, WITHOUT_WORK },
 };
 
 /* The work memory is written over again: the next call must not find it zero. */

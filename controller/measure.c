@@ -47,6 +47,7 @@ static uint32_t first_largest(void)
     return place;
 }
 
+/* Restoring takes the same bytes as all others: any are the stored form of a picture. */
 static void prepare(const struct call *call, unsigned picture, uint32_t adjacency)
 {
     lend(call, LARGEST_N, 0);
@@ -133,7 +134,7 @@ static void measure_fillings(unsigned picture, uint32_t adjacency)
 static void measure_adjacencies(unsigned number, unsigned picture)
 {
     const struct call *call = &controller_calls[number];
-    if (call->saves) {
+    if (call->without_adjacency) {
         measure_call(call, picture, NO_ADJACENCY);
         return;
     }

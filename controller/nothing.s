@@ -18,6 +18,8 @@
     empty controller_query_place
     empty controller_list_patches
     empty controller_write_file
+    empty controller_store_rows
+    empty controller_restore_rows
     empty board_read
     empty board_watershed
     empty board_place

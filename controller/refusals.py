@@ -29,7 +29,7 @@ Swept = namedtuple("Swept", "call change before number after")
 
 
 def lent_lengths(call):
-    """How many lengths of lent memory a call takes beside that of its picture or file."""
+    """How many lengths of lent memory a call takes beside that of its input."""
     _, parameters = headers.functions()[symbol(call)]
     return sum("size_t" in parameter for parameter in parameters) - 1
 

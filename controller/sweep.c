@@ -274,7 +274,7 @@ static void sweep_sides(const struct call *call, uint32_t adjacency)
 
 static void sweep_call(const struct call *call)
 {
-    if (call->saves)
+    if (call->without_adjacency)
         sweep_sides(call, NO_ADJACENCY);
     else
         for (unsigned i = 0; i < LENGTH_OF(adjacencies); i++)

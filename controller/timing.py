@@ -10,7 +10,7 @@ from results import runs, table
 MEGAHERTZ = 48
 WALL = "examples/wall.pgm"
 ADJACENCIES = ("4", "8")
-NO_ADJACENCY = "0"              # of board_read and write_file
+NO_ADJACENCY = "0"              # of the calls that take none
 
 
 def milliseconds(cycles):
