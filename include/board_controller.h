@@ -30,8 +30,9 @@
  * entries named at the function and the first 5 n of `work` have changed;
  * all others keep their content.
  *
- * Every function takes these; controller_write_file, controller_store_rows
- * and controller_restore_rows take neither adjacency nor work:
+ * Every function takes these. controller_write_file, controller_store_rows
+ * and controller_restore_rows take neither adjacency nor work, and the last of
+ * them takes a stored form in place of the pixels:
  *
  *   adjacency   4 or 8
  *   width       1 to 40
@@ -298,14 +299,14 @@ uint64_t controller_write_file(
     uint8_t *out, size_t out_len);
 
 /*
- * Puts the rows of a picture in the order of the store, each pixel by its
- * difference.
+ * Stores the rows of a picture: the even rows first, and each pixel as its
+ * difference from its left neighbour.
  *
  *   out  lent output of at least n bytes
  *
  * The value is 0. After success the first n bytes of `out` are the stored
- * form: rows 0, 2, 4 and so on, then rows 1, 3, 5 and so on, and of each row
- * the first pixel as it is, every other one less its left neighbour in the
+ * form: rows 0, 2, 4 and so on, then rows 1, 3, 5 and so on; of each row the
+ * first pixel as it is, then each pixel less its left neighbour in the
  * picture, modulo 256.
  *
  * Refusals, in this order: 3, 8, 9 (out_len below n).
@@ -322,7 +323,8 @@ uint64_t controller_store_rows(
  *   stored  the stored form, n bytes; read only, it may lie in flash
  *   out     lent output of at least n bytes
  *
- * The value is 0. After success the first n bytes of `out` are the pixels.
+ * The value is 0. After success the first n bytes of `out` are the pixels of
+ * that picture.
  *
  * Refusals, in this order: 3, 8 (stored_len is not n), 9 (out_len below n).
  */

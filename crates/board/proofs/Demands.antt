@@ -3,9 +3,9 @@ use mathlib.Core.Path.{_≡_, sym, ap, subst, _∙_}
 use mathlib.Core.Bool.{true}
 use mathlib.Core.List.{List}
 use Prim.Native.Nat.{ℕ}
-use lib.ListN.{length, take, drop}
-use lib.Seq.{take-at}
+use lib.ListN.{length, take}
 use Rattle.lists.specs.Lists.{over}
+use Rattle.lists.proofs.Cuts.{over-taken}
 use Rattle.picture.specs.Pictures.{Picture, places, withPixels, allBytes, isPicture}
 use Rattle.picture.specs.Watersheds.{watershed}
 use Rattle.picture.specs.Kept.{Kept, OthersFail}
@@ -26,7 +26,7 @@ module _ (p : Picture) (o o′ : List ℕ) (ok : isPicture p ≡ true) (front : 
       let size = accepted-is p ok .size in
       let w = watershed-watered p size .size ∙ size in
       ap (λ (xs : List ℕ). withPixels p (take (places p) xs)) front ∙
-      (ap (withPixels p) (take-at (watershed p .pixels) (drop (length (watershed p .pixels)) o) (places p) w) ∙
+      (ap (withPixels p) (over-taken (places p) (watershed p .pixels) w o) ∙
       sym (watershed-shape p size))
 
   -- every connected part at every height, the tree with its fathers, every pass between minima, and no other picture nowhere above

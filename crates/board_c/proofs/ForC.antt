@@ -6,10 +6,10 @@ use mathlib.Core.List.{List, _++_}
 use Prim.Native.Nat.{ℕ, zero, suc, _*_, _/_, _≤_, _<_}
 use native.Mathlib.Omega.{arith}
 use lib.Dec.{eqb, ltb, leb}
-use lib.ListN.{length, take, drop, replicate, length-replicate}
-use lib.Seq.{take-at}
+use lib.ListN.{length, take, replicate, length-replicate}
 use borrow.Author.Tests.{ltb-true, ltb-false, lt-ltb, le-ltb, lt-leb, leb-false}
 use Rattle.lists.specs.Lists.{pick, over}
+use Rattle.lists.proofs.Cuts.{over-taken}
 use Rattle.picture.specs.Pictures.{Picture, places, valueAt}
 use Rattle.faults.specs.PictureFault.{firstOf, when, pictureFaultOf}
 use Rattle.picture.specs.Watersheds.{watershed}
@@ -66,7 +66,7 @@ half-short work m =
 
 -- the front of what is cleared
 zeros-front : (m : ℕ) (l : List ℕ) → take m (over (replicate m 0) l) ≡ replicate m 0
-zeros-front m l = take-at (replicate m 0) (drop (length (replicate {A = ℕ} m 0)) l) m (length-replicate m 0)
+zeros-front m l = over-taken m (replicate m 0) (length-replicate m 0) l
 
 half-work : (p : Picture) (work : ℕ) → workFaultOf p (work / 2) ≡ workFaultForC p work
 unfolding workFault workFaultForC

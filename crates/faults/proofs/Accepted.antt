@@ -3,6 +3,7 @@ use mathlib.Core.Path.{_≡_, sym, _∙_}
 use mathlib.Core.Bool.{true, false, _&&_, _||_}
 use Prim.Native.Nat.{ℕ, _*_}
 use native.Mathlib.Omega.{arith}
+use borrow.Author.Tests.{eqb-true, eq-eqb}
 use lib.Dec.{eqb}
 use lib.ListN.{length}
 use Rattle.picture.specs.Pictures.{Picture, sideFits, allBytes, isPicture}
@@ -14,26 +15,26 @@ module _ (w h l : ℕ) where
   unfolding sidesFault
   sides-outside p = rw p
 
-  pub sides-uncounted : (sideFits w && sideFits h) ≡ true → eqb l (w * h) ≡ false → sidesFault w h l ≡ 8
+  pub sides-length : (sideFits w && sideFits h) ≡ true → eqb l (w * h) ≡ false → sidesFault w h l ≡ 8
   unfolding sidesFault
-  sides-uncounted p q = rw (p, q)
+  sides-length p q = rw (p, q)
 
   pub sides-none : (sideFits w && sideFits h) ≡ true → eqb l (w * h) ≡ true → sidesFault w h l ≡ 0
   unfolding sidesFault
   sides-none p q = rw (p, q)
 
--- no fault of sides and length: both tests pass
+-- no fault of sides and length: the sides fit, and the pixels are as many as the places
 pub record Sized (w h l : ℕ) : Type 0 where
   pub sides : (sideFits w && sideFits h) ≡ true
-  pub size : eqb l (w * h) ≡ true
+  pub size : l ≡ w * h
 
 pub no-sides-fault : (w h l : ℕ) → sidesFault w h l ≡ 0 → Sized w h l
 no-sides-fault w h l e =
     on-test (sideFits w && sideFits h)
     (λ p.
     on-test (eqb l (w * h))
-    (λ q. record { sides = p; size = q })
-    (λ q. let z = sides-uncounted w h l p q in absurd (omega arith)))
+    (λ q. record { sides = p; size = eqb-true l (w * h) q })
+    (λ q. let z = sides-length w h l p q in absurd (omega arith)))
     (λ p. let z = sides-outside w h l p in absurd (omega arith))
 
 module _ (a w h l : ℕ) where
@@ -64,4 +65,4 @@ accepted p e b =
     let t = s .sized in
     and-both (s .adjacency)
     (and-both (and-left (sideFits (p .width)) _ (t .sides))
-    (and-both (and-right (sideFits (p .width)) _ (t .sides)) (and-both (t .size) b)))
+    (and-both (and-right (sideFits (p .width)) _ (t .sides)) (and-both (eq-eqb _ _ (t .size)) b)))

@@ -6,7 +6,7 @@ use Prim.Native.Nat.{ℕ, zero, suc, _*_, _≤_, _<_}
 use native.Mathlib.Omega.{arith}
 use lib.Dec.{eqb, ltb, leb}
 use lib.ListN.{length, getD}
-use borrow.Author.Tests.{eqb-true, eqb-false, ltb-false, leb-false, le-ltb}
+use borrow.Author.Tests.{eqb-false, ltb-false, leb-false, le-ltb}
 use Rattle.picture.specs.Pictures.{Picture, isPicture}
 use Rattle.faults.specs.PictureFault.{firstOf, when, pictureFault, pictureFaultOf}
 use Rattle.lists.proofs.Tests.{or-fails}
@@ -63,7 +63,7 @@ module _ (f n : ℕ) (t : Bool) (g : ℕ) (is : firstOf f (when t (suc n)) ≡ g
 -- no fault of a picture's arguments: n is the number of pixels, at most 1,600
 module _ (a w h l : ℕ) where
   pub fault-size : pictureFault a w h l ≡ 0 → l ≡ w * h
-  fault-size e = eqb-true l (w * h) (no-fault a w h l e .sized .size)
+  fault-size e = no-fault a w h l e .sized .size
 
   pub fault-few : pictureFault a w h l ≡ 0 → w * h ≤ 1600
   fault-few e = sides-area w h (no-fault a w h l e .sized .sides)

@@ -25,6 +25,9 @@ module _ {A : Type 0} (n : ℕ) (new : List A) (long : length new ≡ n) where
   pub over-same : (old other : List A) → drop n old ≡ drop n other → over new old ≡ over new other
   over-same old other e = sym (over-cut old) ∙ (ap (λ (l : List A). new ++ l) e ∙ over-cut other)
 
+  pub over-taken : (old : List A) → take n (over new old) ≡ new
+  over-taken old = take-at new (drop (length new) old) n long
+
 -- the length, the entries of the front and those behind it
 pub over-length : {A : Type 0} (new old : List A) → length new ≤ length old → length (over new old) ≡ length old
 over-length new old h = omega (arith, length-append new (drop (length new) old), length-drop (length new) old)

@@ -287,15 +287,15 @@ select-append t [] m = refl
 select-append {A} t (x ∷ xs) m =
     ap (λ (r : List A). pick (t x) (x ∷ []) [] ++ r) (select-append t xs m) ∙ sym (append-assoc (pick (t x) (x ∷ []) []) (select t xs) (select t m))
 
-pub all-snoc : {A : Type 0} (t : A → Bool) (s : List A) (b : A) → all t s ≡ true → t b ≡ true → all t (s ++ b ∷ []) ≡ true
-all-snoc t [] b h e = and-both e refl
-all-snoc t (a ∷ s) b h e = and-both (and-left (t a) _ h) (all-snoc t s b (and-right (t a) _ h) e)
-
--- a test that every member of two lists passes, of the images of a list
-pub all-append : {A : Type 0} (t : A → Bool) (l m : List A) → all t l ≡ true → all t m ≡ true → all t (l ++ m) ≡ true
+-- a test that every member of two lists passes, every member of both together passes
+all-append : {A : Type 0} (t : A → Bool) (l m : List A) → all t l ≡ true → all t m ≡ true → all t (l ++ m) ≡ true
 all-append t [] m h k = k
 all-append t (x ∷ xs) m h k = and-both (and-left (t x) _ h) (all-append t xs m (and-right (t x) _ h) k)
 
+pub all-snoc : {A : Type 0} (t : A → Bool) (s : List A) (b : A) → all t s ≡ true → t b ≡ true → all t (s ++ b ∷ []) ≡ true
+all-snoc t s b h e = all-append t s (b ∷ []) h (and-both e refl)
+
+-- the same of the images of a list
 pub all-flatMap :
     {A B : Type 0} (t : B → Bool) (f : A → List B) (l : List A) → ((x : A) → List·Memᴰ x l → all t (f x) ≡ true) →
     all t (flatMap f l) ≡ true

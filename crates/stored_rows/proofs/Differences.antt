@@ -18,7 +18,7 @@ byte-first b s e = ltb-true b 256 (and-left (ltb b 256) _ e)
 bytes-rest : (b : ℕ) (s : List ℕ) → allBytes (b ∷ s) ≡ true → allBytes s ≡ true
 bytes-rest b s e = and-right (ltb b 256) _ e
 
--- one byte there and back
+-- each undoes the other on one byte
 after-difference : (l b : ℕ) → l < 256 → b < 256 → pixelAfter l (difference l b) ≡ b
 after-difference l b h g = omega arith
 
@@ -65,7 +65,18 @@ pub length-sums : (s : List ℕ) → length (sums s) ≡ length s
 length-sums [] = refl
 length-sums (b ∷ s) = ap suc (length-sums-from b s)
 
--- sums are bytes
+-- differences and sums are bytes
+difference-byte : (l b : ℕ) → difference l b < 256
+difference-byte l b = omega arith
+
+bytes-differences-from : (l : ℕ) (s : List ℕ) → allBytes (differencesFrom l s) ≡ true
+bytes-differences-from l [] = refl
+bytes-differences-from l (b ∷ s) = and-both (lt-ltb (difference l b) 256 (difference-byte l b)) (bytes-differences-from b s)
+
+pub bytes-differences : (s : List ℕ) → allBytes s ≡ true → allBytes (differences s) ≡ true
+bytes-differences [] e = refl
+bytes-differences (b ∷ s) e = and-both (and-left (ltb b 256) _ e) (bytes-differences-from b s)
+
 bytes-sums-from : (l : ℕ) (s : List ℕ) → allBytes (sumsFrom l s) ≡ true
 bytes-sums-from l [] = refl
 bytes-sums-from l (d ∷ s) = and-both (lt-ltb (pixelAfter l d) 256 (after-byte l d)) (bytes-sums-from (pixelAfter l d) s)

@@ -38,7 +38,7 @@ module _ (w : ℕ) (g : ℕ → List ℕ) where
       ∙ ap (take w) (drop-append-add (g x) (flatMap g xs) (i * w))
       ∙ flat-row xs (λ y m. f y (List·Memᴰ·tail m)) i (omega arith)
 
-  -- the same of rows 0 to h
+  -- the same of all h rows
   module _ (h : ℕ) (long : (i : ℕ) → i < h → length (g i) ≡ w) where
     member-long : (i : ℕ) → List·Memᴰ i (range 0 h) → length (g i) ≡ w
     member-long i m = let b = range-mem 0 h m in long i (omega arith)

@@ -18,18 +18,29 @@ unfolding rowOrder
 order-worked = (refl, refl, refl, refl)
 
 -- a picture of 3 by 3, row by row: 10 20 5, 255 0 1, 7 7 9
-abbrev picture3 : List ℕ
-picture3 = 10 ∷ 20 ∷ 5 ∷ 255 ∷ 0 ∷ 1 ∷ 7 ∷ 7 ∷ 9 ∷ []
+abbrev picture33 : List ℕ
+picture33 = 10 ∷ 20 ∷ 5 ∷ 255 ∷ 0 ∷ 1 ∷ 7 ∷ 7 ∷ 9 ∷ []
 
 -- its stored form: 10 10 241, 7 0 2, then 255 1 1
-abbrev stored3 : List ℕ
-stored3 = 10 ∷ 10 ∷ 241 ∷ 7 ∷ 0 ∷ 2 ∷ 255 ∷ 1 ∷ 1 ∷ []
+abbrev stored33 : List ℕ
+stored33 = 10 ∷ 10 ∷ 241 ∷ 7 ∷ 0 ∷ 2 ∷ 255 ∷ 1 ∷ 1 ∷ []
 
-pub rows-worked : (storedRows 3 3 picture3 ≡ stored3) × (restoredRows 3 3 stored3 ≡ picture3)
+pub rows-worked : (storedRows 3 3 picture33 ≡ stored33) × (restoredRows 3 3 stored33 ≡ picture33)
 unfolding flatMap rowOrder storedRows restoredRows
 rows-worked = (refl, refl)
 
--- rows of one pixel have no difference, and one row has no other
+-- 2 by 5, where the order is not its own inverse: 10 12, 1 0, 20 25, 255 3, 7 7 as 10 2, 20 5, 7 0, then 1 255, 255 4
+abbrev picture25 : List ℕ
+picture25 = 10 ∷ 12 ∷ 1 ∷ 0 ∷ 20 ∷ 25 ∷ 255 ∷ 3 ∷ 7 ∷ 7 ∷ []
+
+abbrev stored25 : List ℕ
+stored25 = 10 ∷ 2 ∷ 20 ∷ 5 ∷ 7 ∷ 0 ∷ 1 ∷ 255 ∷ 255 ∷ 4 ∷ []
+
+pub rows-five : (storedRows 2 5 picture25 ≡ stored25) × (restoredRows 2 5 stored25 ≡ picture25)
+unfolding flatMap rowOrder storedRows restoredRows
+rows-five = (refl, refl)
+
+-- rows of one pixel have no difference, and a single row stays in its place
 pub rows-narrow :
     (storedRows 1 4 (1 ∷ 2 ∷ 3 ∷ 4 ∷ []) ≡ 1 ∷ 3 ∷ 2 ∷ 4 ∷ []) ×
     (restoredRows 1 4 (1 ∷ 3 ∷ 2 ∷ 4 ∷ []) ≡ 1 ∷ 2 ∷ 3 ∷ 4 ∷ []) ×

@@ -1,6 +1,6 @@
 -- The order of the rows in the store: which row stands at a position, and at which position a row stands.
 use mathlib.Core.Path.{_≡_, refl, sym, ap, _∙_}
-use mathlib.Core.Bool.{Bool, true, false, not}
+use mathlib.Core.Bool.{true, false, not}
 use mathlib.Core.List.{_++_, map}
 use Prim.Native.Nat.{ℕ, zero, suc, _+_, _-_, _*_, _/_, _%_, _<_}
 use native.Mathlib.Nat.{zero-add}
@@ -14,12 +14,9 @@ use Rattle.lists.proofs.Tests.{on-test, test-false}
 use Rattle.lists.proofs.Lists.{length-select, tally-none, length-range, getD-map-range}
 use Rattle.lists.proofs.Positions.{tally-next-in, tally-next-out, select-index, index-first}
 use Rattle.lists.proofs.Indices.{mem-index, one-index}
-use Rattle.stored_rows.specs.Rows.{isEven, rowOrder}
+use Rattle.stored_rows.specs.Rows.{isEven, isOdd, rowOrder}
 use Rattle.stored_rows.specs.Steps.{evenRows, positionOf, rowAtPosition}
 use Rattle.stored_rows.specs.Restoring.{OrderKeepsRows}
-
-abbrev isOdd : ℕ → Bool
-isOdd r = not (isEven r)
 
 even-is : (r : ℕ) → isEven r ≡ true → r % 2 ≡ 0
 even-is r e = eqb-true (r % 2) 0 e
@@ -27,7 +24,7 @@ even-is r e = eqb-true (r % 2) 0 e
 odd-is : (r : ℕ) → isEven r ≡ false → r % 2 ≡ 1
 odd-is r e = let n = eqb-false (r % 2) 0 e in omega arith
 
--- how many rows of either kind there are below one
+-- how many even and how many odd rows there are below h
 tally-even : (h : ℕ) → tally isEven (range 0 h) ≡ evenRows h
 tally-even zero = refl
 tally-even (suc h) =
@@ -55,7 +52,7 @@ unfolding rowOrder
 order-length h =
     let a = length-select isEven (range 0 h) ∙ tally-even h in
     let b = length-select isOdd (range 0 h) ∙ tally-odd h in
-    length-append (select isEven (range 0 h)) (select isOdd (range 0 h)) ∙ omega arith
+    rw length-append (omega arith)
 
 -- a row stands at its position
 order-position : (h r : ℕ) → r < h → getD (rowOrder h) (positionOf h r) 0 ≡ r

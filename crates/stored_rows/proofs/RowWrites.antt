@@ -1,5 +1,5 @@
 -- Rows written one after the other: the bounds of a row, and what the loop over the rows keeps.
-use mathlib.Core.Path.{_≡_, ap, subst, _∙_}
+use mathlib.Core.Path.{_≡_, sym, ap, subst, _∙_}
 use mathlib.Core.List.{List, flatMap}
 use Prim.Native.Nat.{ℕ, suc, _+_, _-_, _*_, _≤_, _<_}
 use native.Mathlib.Nat.{mul-le-mul-right}
@@ -15,7 +15,6 @@ use Rattle.stored_rows.proofs.EqualRows.{row-length}
 
 -- a row lies within the places, of which there are at most 1,600
 pub record RowInside (w h r : ℕ) : Type 0 where
-  pub below : r < h
   pub within : r * w + w ≤ w * h
   pub few : w * h ≤ 1600
 
@@ -23,37 +22,42 @@ pub record RowInside (w h r : ℕ) : Type 0 where
 pub row-part : (w r : ℕ) (xs : List ℕ) → take (r * w + w - r * w) (drop (r * w) xs) ≡ rowAt w xs r
 row-part w r xs = let n : r * w + w - r * w ≡ w = omega arith in ap (λ (m : ℕ). take m (drop (r * w) xs)) n
 
-module _ {w h : ℕ} {xs o : List ℕ} (f : Fits w h xs o) where
+module _ {w h : ℕ} {bytes out : List ℕ} (f : Fits w h bytes out) where
   pub inside : (r : ℕ) → r < h → RowInside w h r
   inside r l =
       let m : suc r * w ≤ h * w = mul-le-mul-right w l in
-      record { below = l; within = omega arith; few = area-most w h (f .wide) (f .high) }
+      record { within = omega arith; few = area-most w h (f .wide) (f .high) }
 
   -- row i has room in the output
-  pub row-fits : (i : ℕ) → i < h → RowFits w (i * w) (length o)
+  pub row-fits : (i : ℕ) → i < h → RowFits w (i * w) (length out)
   row-fits i l = let r = inside i l in record { within = omega (arith, r .within, f .room); few = omega (arith, r .within, r .few) }
 
   -- the part of the bytes that is a row
-  pub part-length : (r : ℕ) → r < h → length (take (r * w + w - r * w) (drop (r * w) xs)) ≡ w
-  part-length r l = ap length (row-part w r xs) ∙ row-length w h xs (f .count) r l
+  pub part-length : (r : ℕ) → r < h → length (take (r * w + w - r * w) (drop (r * w) bytes)) ≡ w
+  part-length r l = ap length (row-part w r bytes) ∙ row-length w h bytes (f .count) r l
 
   -- the same with another output of that length
-  pub fits-after : {o′ : List ℕ} → length o′ ≡ length o → Fits w h xs o′
+  pub fits-after : {out′ : List ℕ} → length out′ ≡ length out → Fits w h bytes out′
   fits-after e = record { wide = f .wide; high = f .high; count = f .count; room = omega (arith, f .room) }
+
+-- a row has room where another of that length has
+pub fits-as-long : {n m at room : ℕ} → m ≡ n → RowFits n at room → RowFits m at room
+fits-as-long {at = at} {room} e f = subst (λ (k : ℕ). RowFits k at room) (sym e) f
 
 -- what was written of such a part, said of the row
 pub written-row :
-    {at w : ℕ} {part row o o′ : List ℕ} (f : List ℕ → List ℕ) → part ≡ row → length part ≡ w → Written at (f part) o (at + length part) o′ →
-    Written at (f row) o (at + w) o′
-written-row {at} {w} {part} {row} {o} {o′} f e l v =
-    subst (λ (n : ℕ). Written at (f row) o (at + n) o′) l (subst (λ (xs : List ℕ). Written at (f xs) o (at + length part) o′) e v)
+    {at w : ℕ} {part row out out′ : List ℕ} (f : List ℕ → List ℕ) → part ≡ row → length part ≡ w →
+    Written at (f part) out (at + length part) out′ → Written at (f row) out (at + w) out′
+written-row {at} {w} {part} {row} {out} {out′} f e l v =
+    subst (λ (n : ℕ). Written at (f row) out (at + n) out′) l
+    (subst (λ (xs : List ℕ). Written at (f xs) out (at + length part) out′) e v)
 
 -- the first i rows are written
 pub record RowsBegun (row : ℕ → List ℕ) (w h : ℕ) (entry : List ℕ) (i : ℕ) (out : List ℕ) : Type 0 where
   pub within : i ≤ h
   pub written : Written 0 (flatMap row (range 0 i)) entry (i * w) out
 
-module _ (row : ℕ → List ℕ) (w h : ℕ) (entry : List ℕ) where
+module _ {row : ℕ → List ℕ} {w h : ℕ} {entry : List ℕ} where
   pub rows-start : RowsBegun row w h entry 0 entry
   rows-start =
       record {

@@ -10,9 +10,13 @@ use Rattle.lists.specs.Lists.{select, range, indexFrom}
 abbrev pub isEven : ℕ → Bool
 isEven r = eqb (r % 2) 0
 
+-- a number is odd
+abbrev pub isOdd : ℕ → Bool
+isOdd r = not (isEven r)
+
 -- the order of the rows in the store: 0, 2, 4 and so on, then the odd rows
 unfoldable pub rowOrder : ℕ → List ℕ
-rowOrder h = select isEven (range 0 h) ++ select (λ r. not (isEven r)) (range 0 h)
+rowOrder h = select isEven (range 0 h) ++ select isOdd (range 0 h)
 
 -- the row r of entries in rows of w
 abbrev pub rowAt : ℕ → List ℕ → ℕ → List ℕ
@@ -26,12 +30,12 @@ difference l b = (b + 256 - l) % 256
 abbrev pub pixelAfter : ℕ → ℕ → ℕ
 pixelAfter l d = (l + d) % 256
 
--- pixels that follow a pixel l, each by its difference from its left neighbour, itself a pixel
+-- pixels that follow a pixel l, each by its difference from its left neighbour in the picture, not from what is stored for that
 abbrev pub differencesFrom : ℕ → List ℕ → List ℕ
 differencesFrom l [] = []
 differencesFrom l (b ∷ s) = difference l b ∷ differencesFrom b s
 
--- a row as it is stored: the first pixel as it is, the others by their differences (standard term: delta coding)
+-- a row as it is stored: the first pixel as it is, the others by their differences (standard term: delta encoding)
 abbrev pub differences : List ℕ → List ℕ
 differences [] = []
 differences (b ∷ s) = b ∷ differencesFrom b s
@@ -41,7 +45,7 @@ abbrev pub sumsFrom : ℕ → List ℕ → List ℕ
 sumsFrom l [] = []
 sumsFrom l (d ∷ s) = pixelAfter l d ∷ sumsFrom (pixelAfter l d) s
 
--- the pixels of a stored row
+-- the pixels of a stored row (standard term: prefix sums, here modulo 256)
 abbrev pub sums : List ℕ → List ℕ
 sums [] = []
 sums (b ∷ s) = b ∷ sumsFrom b s

@@ -12,10 +12,10 @@ refused-requires : tie.Need-refused-requires
 refused-requires c κs = search needs
 
 returns : tie.Need-returns
-returns c = rows-refused _ _ _ _ _ (c .before .before .rows-fault .ensures) (c .before .if1 .taken) (c .refused .ensures)
+returns c = rows-refused (c .before .before .rows-fault .ensures) (c .before .if1 .taken) (c .refused .ensures)
 
 put-rows-requires : tie.Need-put-rows-requires
-put-rows-requires c κs = fits _ _ _ _ (sym (c .before .before .rows-fault .ensures) ∙ c .before .if1 .left)
+put-rows-requires c κs = fits (sym (c .before .before .rows-fault .ensures) ∙ c .before .if1 .left)
 
 accepted-requires : tie.Need-accepted-requires
 accepted-requires c κs = search needs
@@ -27,7 +27,7 @@ returns-2 : tie.Need-returns-2
 returns-2 c =
     let t = c .before .before .before in
     let e = t .before .before in
-    rows-done _ _ _ _ _ (sym (e .before .rows-fault .ensures) ∙ e .if1 .left) (c .accepted .ensures) (t .put-rows .ensures)
+    rows-done (sym (e .before .rows-fault .ensures) ∙ e .if1 .left) (c .accepted .ensures) (t .put-rows .ensures)
 
 pub convert-rows-spec : {M : Type 1} → statement M
 convert-rows-spec =

@@ -14,7 +14,7 @@ short-after-requires c κs = search needs
 returns : tie.Need-returns
 returns c =
     let a = c .before .before .args in
-    rw (c .before .sides-fault .ensures) at (c .short-after .ensures) ∙ rows-counted (a .w) (a .h) (a .length) (a .out)
+    rw (c .before .sides-fault .ensures) at (c .short-after .ensures) ∙ rows-counted (a .w) (a .h) (a .count) (a .room)
 
 pub rows-fault-spec : {M : Type 1} → statement M
 rows-fault-spec = tie.close (tie.spec sides-fault-requires short-after-requires returns)

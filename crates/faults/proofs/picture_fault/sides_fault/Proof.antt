@@ -5,7 +5,7 @@ use borrow.Author.Needs.{needs}
 use borrow.Author.Tests.{eq-eqb, ne-eqb}
 use Rattle.lists.proofs.Tests.{was-true, was-false}
 use Rattle.picture.proofs.Sides.{sides-area}
-use Rattle.faults.proofs.Accepted.{sides-outside, sides-uncounted, sides-none}
+use Rattle.faults.proofs.Accepted.{sides-outside, sides-length, sides-none}
 use Rattle.faults.proofs.picture_fault.sides_fault.Statement.{statement}
 use Rattle.faults.proofs.picture_fault.sides_fault.Tie as tie
 
@@ -22,7 +22,7 @@ mul-if2 c =
 
 returns-2 : tie.Need-returns-2
 returns-2 c =
-    sym (sides-uncounted _ _ _ (was-true (c .before .before .sides-fit .ensures) (c .before .if1 .left)) (ne-eqb _ _ (c .if2 .taken)))
+    sym (sides-length _ _ _ (was-true (c .before .before .sides-fit .ensures) (c .before .if1 .left)) (ne-eqb _ _ (c .if2 .taken)))
 
 returns-3 : tie.Need-returns-3
 returns-3 c =

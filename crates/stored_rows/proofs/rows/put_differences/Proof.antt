@@ -1,14 +1,14 @@
--- `stored_rows::rows::put_differences` meets its contract.
-use mathlib.Core.Path.{_≡_, sym, ap, refl, _∙_}
+-- `stored_rows::rows::put_differences` meets its contract. The invariant is RowBegun: the first i entries are written, and `left` is the last pixel
+-- passed. The entries that are left fall.
+use mathlib.Core.Path.{_≡_, refl, sym, ap, _∙_}
 use Prim.Native.Nat.{ℕ, _-_}
 use native.Mathlib.Omega.{arith}
 use borrow.Author.Needs.{needs}
 use lib.ListN.{length, getD}
 use Rattle.topology.proofs.Accepted.{at-byte}
 use Rattle.stored_rows.specs.Rows.{difference, differencesFrom}
-use Rattle.stored_rows.specs.Steps.{RowFits}
 use Rattle.stored_rows.proofs.Differences.{length-differences-from, differences-zero, difference-at}
-use Rattle.stored_rows.proofs.RowLoops.{RowBegun, fits-as-long, row-start, row-room, row-turn, row-end}
+use Rattle.stored_rows.proofs.RowLoops.{RowBegun, row-start, row-room, row-turn, row-end}
 use Rattle.stored_rows.proofs.rows.put_differences.Statement.{statement}
 use Rattle.stored_rows.proofs.rows.put_differences.Tie as tie
 
@@ -22,21 +22,21 @@ abbrev μ-loop : tie.MeasureT-loop
 abbrev origin : tie.At-loop Inv-loop μ-loop → tie.Start Inv-loop μ-loop
 origin c = c .before .before .before
 
-long : (c : tie.Start Inv-loop μ-loop) → length (differencesFrom 0 (c .args .row .now)) ≡ length (c .args .row .now)
-long c = length-differences-from 0 (c .args .row .now)
-
-fits : (c : tie.Start Inv-loop μ-loop) → RowFits (length (differencesFrom 0 (c .args .row .now))) (c .args .at) (length (c .args .out .now))
-fits c = fits-as-long (long c) (c .pre)
-
 -- the loop, from its body
 abbrev turn : tie.After-difference-from Inv-loop μ-loop → tie.At-loop Inv-loop μ-loop
 turn c = c .before .before .before
+
+long : (c : tie.Start Inv-loop μ-loop) → length (differencesFrom 0 (c .args .row .now)) ≡ length (c .args .row .now)
+long c = length-differences-from 0 (c .args .row .now)
+
+room : (c : tie.At-loop Inv-loop μ-loop) → length (c .loop .out) ≡ length (origin c .args .out .now)
+room c = row-room (long (origin c)) (origin c .pre .within) (c .loop .inv)
 
 cast-w : tie.Need-cast-w Inv-loop μ-loop
 cast-w c = omega (arith, c .before .before .pre .few)
 
 loop-holds : tie.Need-loop-holds Inv-loop μ-loop
-loop-holds c = row-start _ _ _ _
+loop-holds c = row-start
 
 cast-pixel : tie.Need-cast-pixel Inv-loop μ-loop
 cast-pixel c = search needs
@@ -54,10 +54,7 @@ cast-out : tie.Need-cast-out Inv-loop μ-loop
 cast-out c = search needs
 
 slice-write-out : tie.Need-slice-write-out Inv-loop μ-loop
-slice-write-out c =
-    let l = turn c in
-    let s = origin l in
-    omega (arith, row-room _ _ _ _ (fits s) (l .loop .inv), s .pre .within)
+slice-write-out c = omega (arith, room (turn c), origin (turn c) .pre .within)
 
 add-i : tie.Need-add-i Inv-loop μ-loop
 add-i c = search needs
@@ -71,21 +68,21 @@ loop-again c =
     let s = origin l in
     let row = s .args .row .now in
     let below = c .before .before .loop-test .taken in
-    row-turn _ _ _ _ (fits s) (l .loop .inv) (omega (arith, long s))
-    (c .difference-from .ensures
-    ∙ ap (λ (b : ℕ). difference b (getD row (l .loop .i) 0)) (l .loop .inv .last)
-    ∙ sym (difference-at 0 row (l .loop .i) below))
-    refl
+    let next =
+    c .difference-from .ensures
+    ∙ ap (λ (left : ℕ). difference left (getD row (l .loop .i) 0)) (l .loop .inv .last)
+    ∙ sym (difference-at 0 row (l .loop .i) below) in
+    row-turn (long s) (s .pre .within) (l .loop .inv) below next refl
 
 same-length : tie.Need-same-length Inv-loop μ-loop
-same-length c = row-room _ _ _ _ (fits (origin (c .before))) (c .before .loop .inv)
+same-length c = room (c .before)
 
 returns : tie.Need-returns Inv-loop μ-loop
 returns c =
     let s = origin (c .before) in
     let row = s .args .row .now in
     let bytes = at-byte row (λ i. let q = c .before .before .before .shared-slice-known .given i in omega arith) in
-    rw (differences-zero row bytes) (rw (long s) at (row-end _ _ _ _ (fits s) (c .before .loop .inv) (omega (arith, long s))))
+    rw (differences-zero row bytes) (row-end (long s) (s .pre .within) (c .before .loop .inv) (c .loop-test .left))
 
 pub put-differences-spec : {M : Type 1} → statement M
 put-differences-spec =

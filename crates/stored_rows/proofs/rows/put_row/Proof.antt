@@ -6,8 +6,7 @@ use borrow.Author.Needs.{needs}
 use Rattle.stored_rows.specs.Rows.{rowAt}
 use Rattle.stored_rows.specs.Steps.{converted}
 use Rattle.stored_rows.proofs.Conversions.{source-below}
-use Rattle.stored_rows.proofs.RowLoops.{fits-as-long}
-use Rattle.stored_rows.proofs.RowWrites.{RowInside, inside, row-fits, row-part, part-length, written-row}
+use Rattle.stored_rows.proofs.RowWrites.{RowInside, inside, row-fits, row-part, part-length, fits-as-long, written-row}
 use Rattle.stored_rows.proofs.rows.put_row.Statement.{statement}
 use Rattle.stored_rows.proofs.rows.put_row.Tie as tie
 
@@ -21,13 +20,13 @@ chosen c = c .before .before
 below : (c : tie.After-source-row) → c .source-row .result < origin c .args .h
 below c =
     let a = origin c .args in
-    omega (arith, source-below (a .back) (a .h) (a .i) (origin c .pre .1), c .source-row .ensures)
+    omega (arith, source-below (a .back) (a .h) (a .i) (origin c .pre .below), c .source-row .ensures)
 
 source : (c : tie.After-source-row) → RowInside (origin c .args .w) (origin c .args .h) (c .source-row .result)
-source c = inside (origin c .pre .0) (c .source-row .result) (below c)
+source c = inside (origin c .pre .lent) (c .source-row .result) (below c)
 
 source-row-requires : tie.Need-source-row-requires
-source-row-requires c κs = search needs
+source-row-requires c κs = let s = c .before .before in record { high = s .pre .lent .high; below = s .pre .below }
 
 mul-from : tie.Need-mul-from
 mul-from c = omega (arith, source c .within, source c .few)
@@ -45,18 +44,18 @@ part-put-converted-start : tie.Need-part-put-converted-start
 part-put-converted-start c = search needs
 
 part-put-converted-end : tie.Need-part-put-converted-end
-part-put-converted-end c = omega (arith, source c .within, origin c .pre .0 .count)
+part-put-converted-end c = omega (arith, source c .within, origin c .pre .lent .count)
 
 mul-put-converted : tie.Need-mul-put-converted
 mul-put-converted c =
     let s = origin (chosen c) in
-    omega (arith, row-fits (s .pre .0) (s .args .i) (s .pre .1) .few)
+    omega (arith, row-fits (s .pre .lent) (s .args .i) (s .pre .below) .few)
 
 put-converted-requires : tie.Need-put-converted-requires
 put-converted-requires c κs =
     let t = chosen c in
     let s = origin t in
-    fits-as-long (part-length (s .pre .0) (t .source-row .result) (below t)) (row-fits (s .pre .0) (s .args .i) (s .pre .1))
+    fits-as-long (part-length (s .pre .lent) (t .source-row .result) (below t)) (row-fits (s .pre .lent) (s .args .i) (s .pre .below))
 
 same-length : tie.Need-same-length
 same-length c = search needs
@@ -68,7 +67,7 @@ returns c =
     let a = s .args in
     written-row (converted (a .back))
     (row-part (a .w) (t .source-row .result) (a .bytes .now) ∙ ap (rowAt (a .w) (a .bytes .now)) (t .source-row .ensures))
-    (part-length (s .pre .0) (t .source-row .result) (below t))
+    (part-length (s .pre .lent) (t .source-row .result) (below t))
     (c .before .before .put-converted .ensures)
 
 pub put-row-spec : {M : Type 1} → statement M

@@ -1,4 +1,4 @@
--- `stored_rows::rows::put_rows` meets its contract.
+-- `stored_rows::rows::put_rows` meets its contract. The invariant is RowsBegun: the first i rows are written. The rows that are left fall.
 use mathlib.Core.Path.{_≡_, ap, _∙_}
 use mathlib.Core.List.{List}
 use Prim.Native.Nat.{ℕ, _-_}
@@ -22,13 +22,15 @@ abbrev origin : tie.At-loop Inv-loop μ-loop → tie.Start Inv-loop μ-loop
 origin c = c .before .before .before
 
 room : (c : tie.At-loop Inv-loop μ-loop) → length (c .loop .out) ≡ length (origin c .args .out .now)
-room c = rows-room _ (origin c .args .w) (origin c .args .h) _ (origin c .pre .room) (c .loop .inv)
+room c = rows-room (origin c .pre .room) (c .loop .inv)
 
 loop-holds : tie.Need-loop-holds Inv-loop μ-loop
-loop-holds c = rows-start _ _ _ _
+loop-holds c = rows-start
 
 put-row-requires : tie.Need-put-row-requires Inv-loop μ-loop
-put-row-requires c κs = let l = c .before .before in (fits-after (origin l .pre) (room l), c .before .loop-test .taken)
+put-row-requires c κs =
+    let l = c .before .before in
+    record { lent = fits-after (origin l .pre) (room l); below = c .before .loop-test .taken }
 
 add-i : tie.Need-add-i Inv-loop μ-loop
 add-i c = search needs
@@ -39,7 +41,7 @@ loop-less c = search needs
 loop-again : tie.Need-loop-again Inv-loop μ-loop
 loop-again c =
     let t = c .before .before .before .before in
-    rows-turn _ _ _ _ (t .before .loop .inv) (t .loop-test .taken) (c .before .before .put-row .ensures)
+    rows-turn (t .before .loop .inv) (t .loop-test .taken) (c .before .before .put-row .ensures)
 
 same-length : tie.Need-same-length Inv-loop μ-loop
 same-length c = room (c .before)
@@ -47,7 +49,7 @@ same-length c = room (c .before)
 returns : tie.Need-returns Inv-loop μ-loop
 returns c =
     let a = origin (c .before) .args in
-    rows-end _ _ _ _ (c .before .loop .inv) (c .loop-test .left)
+    rows-end (c .before .loop .inv) (c .loop-test .left)
     ∙ ap (λ (l : List ℕ). over l (a .out .now)) (converted-rows (a .back) (a .w) (a .h) (a .bytes .now))
 
 pub put-rows-spec : {M : Type 1} → statement M
