@@ -30,9 +30,9 @@
  * entries named at the function and the first 5 n of `work` have changed;
  * all others keep their content.
  *
- * Every function takes these. controller_write_file, controller_store_rows
- * and controller_restore_rows take neither adjacency nor work, and the last of
- * them takes a stored form in place of the pixels:
+ * Every function takes these; controller_write_file, controller_store_rows
+ * and controller_restore_rows without adjacency and work, and the last of them
+ * with a stored form in place of the pixels:
  *
  *   adjacency   4 or 8
  *   width       1 to 40
@@ -299,8 +299,8 @@ uint64_t controller_write_file(
     uint8_t *out, size_t out_len);
 
 /*
- * Stores the rows of a picture: the even rows first, and each pixel as its
- * difference from its left neighbour.
+ * Stores the rows of a picture: the even rows first, and each pixel but the
+ * first of a row as its difference from its left neighbour.
  *
  *   out  lent output of at least n bytes
  *

@@ -7,7 +7,7 @@ use native.Mathlib.Nat.{min-eq-left}
 use native.Mathlib.Decide.{decLe}
 use native.Mathlib.Omega.{arith}
 use lib.ListN.{length, getD, take, drop, length-append, length-drop, drop-of-length-le, List·getD-append}
-use lib.Seq.{drop-drop, getD-drop, getD-append-add, take-all, take-add, take-at}
+use lib.Seq.{drop-drop, getD-drop, getD-append-add, take-all, take-add, take-at, drop-at}
 use Rattle.lists.specs.Lists.{over}
 
 -- lists that are equal from a on are so from b on
@@ -27,6 +27,9 @@ module _ {A : Type 0} (n : ℕ) (new : List A) (long : length new ≡ n) where
 
   pub over-taken : (old : List A) → take n (over new old) ≡ new
   over-taken old = take-at new (drop (length new) old) n long
+
+  pub over-dropped : (old : List A) → drop n (over new old) ≡ drop n old
+  over-dropped old = drop-at new (drop (length new) old) n long ∙ ap (λ (m : ℕ). drop m old) long
 
 -- the length, the entries of the front and those behind it
 pub over-length : {A : Type 0} (new old : List A) → length new ≤ length old → length (over new old) ≡ length old

@@ -6,7 +6,7 @@ use Rattle.picture.specs.Pictures.{sideFits, isPicture}
 use Rattle.lists.proofs.Tests.{and-left, and-right, and-both}
 use Rattle.topology.proofs.Accepted.{accepted-is}
 use Rattle.stored_rows.specs.Rows.{restoredRows}
-use Rattle.stored_rows.specs.Restoring.{AcceptedBytes, BytesAccepted, StoredBytes, Restored, StoredOnce}
+use Rattle.stored_rows.specs.Restoring.{AcceptedBytes, BytesAccepted, StoredBytes, Restored, PictureRestored, StoredOnce}
 use Rattle.stored_rows.proofs.Conversions.{rows-bytes, conversion-undone}
 
 pub accepted-bytes : AcceptedBytes
@@ -23,6 +23,9 @@ stored-bytes = rows-bytes false
 
 pub restored : Restored
 restored = conversion-undone false
+
+pub picture-restored : PictureRestored
+picture-restored p e = restored _ _ _ (accepted-bytes p e)
 
 pub stored-once : StoredOnce
 stored-once w h s b =

@@ -1,16 +1,16 @@
--- Laws of the fault of storing and restoring rows and of the calls' answers, and the theorems of two calls.
+-- Laws of the fault of storing and restoring rows and of the calls' answers, and the theorems of calls.
 use mathlib.Core.Path.{_≡_, refl, sym, ap, _∙_}
 use mathlib.Core.Bool.{Bool, true, false, not}
-use mathlib.Core.Logic.{_≢_}
+use mathlib.Core.Logic.{_≢_, ⊎-elim}
 use mathlib.Core.List.{List}
 use Prim.Native.Nat.{ℕ, _*_, _≤_}
-use borrow.Author.Tests.{eq-eqb, le-ltb, ltb-false}
-use lib.Dec.{ltb}
-use lib.ListN.{length, take}
+use borrow.Author.Tests.{eqb-true, eq-eqb, le-ltb, ltb-false}
+use lib.Dec.{eqb, ltb}
+use lib.ListN.{length, take, drop}
 use Rattle.lists.specs.Lists.{over}
 use Rattle.picture.specs.Pictures.{sideFits, allBytes}
-use Rattle.lists.proofs.Tests.{and-left, and-right, and-both}
-use Rattle.lists.proofs.Cuts.{over-taken}
+use Rattle.lists.proofs.Tests.{and-left, and-right, and-both, on-pick}
+use Rattle.lists.proofs.Cuts.{over-taken, over-dropped}
 use Rattle.picture.proofs.Sides.{side-most, is-within}
 use Rattle.topology.proofs.Accepted.{accepted-is}
 use Rattle.faults.specs.PictureFault.{firstOf, when, sidesFault}
@@ -21,7 +21,7 @@ use Rattle.answers.specs.Steps.{IsRefusal, IsValue}
 use Rattle.answers.proofs.Calls.{refused-answer, refused-left, accepted-answer, written-left}
 use Rattle.stored_rows.specs.Calls.{rowsFault, RowsSay}
 use Rattle.stored_rows.specs.Steps.{convertedRows, ConvertSays, Fits}
-use Rattle.stored_rows.specs.Restoring.{AcceptedUnrefused, CallRestores, CallStores}
+use Rattle.stored_rows.specs.Restoring.{AcceptedUnrefused, BehindKept, CallRestores, CallStores}
 use Rattle.stored_rows.proofs.Conversions.{converted-count, conversion-undone}
 
 module _ (w h count room : ℕ) where
@@ -61,7 +61,7 @@ fits {w} {h} {bytes} {out} z =
 -- the refusal of a call, and its end
 pub rows-refused : {f g : ℕ} {new out : List ℕ} {r : Answer} → g ≡ f → g ≢ 0 → IsRefusal g r → RowsSay f new out out r
 rows-refused {f} {g} {new} {out} {r} e d q =
-    record { answer = refused-answer f g e d 0 r q; output = refused-left f g e d (over new out) out }
+    record { answer = refused-answer f g e d 0 r q; output = refused-left f g e d _ out }
 
 pub rows-done : {f : ℕ} {new out out′ : List ℕ} {r : Answer} → f ≡ 0 → IsValue 0 r → out′ ≡ over new out → RowsSay f new out out′ r
 rows-done {f} {new} {out} {out′} {r} z q w =
@@ -83,6 +83,22 @@ module _
         let new = convertedRows back w h bytes in
         ap (take (w * h)) (says .output ∙ sym (written-left (rowsFault w h (length bytes) (length out)) (over new out) out no-fault))
         ∙ over-taken (w * h) new (converted-count back w h bytes (sized .size)) out
+
+-- what either call leaves behind the n bytes
+behind :
+    (back : Bool) (w h : ℕ) (bytes : List ℕ) {out out′ : List ℕ} {result : Answer} → ConvertSays back w h bytes out out′ result →
+    drop (w * h) out′ ≡ drop (w * h) out
+behind back w h bytes {out} says =
+    let fault = rowsFault w h (length bytes) (length out) in
+    ap (drop (w * h)) (says .output)
+    ∙ on-pick (λ (l : List ℕ). drop (w * h) l ≡ drop (w * h) out) (eqb fault 0)
+    (λ e.
+    let s = rows-enough w h (length bytes) (length out) (eqb-true fault 0 e) .0 in
+    over-dropped (w * h) (convertedRows back w h bytes) (converted-count back w h bytes (s .size)) out)
+    (λ e. refl)
+
+pub behind-kept : BehindKept
+behind-kept w h bytes out out′ result says = ⊎-elim (λ s. behind false w h bytes s) (λ s. behind true w h bytes s) says
 
 -- two calls, one way and then the other
 calls-undone :

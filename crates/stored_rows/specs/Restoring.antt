@@ -1,13 +1,14 @@
 -- What is shown of stored rows: the order loses and repeats no row, the way back restores every accepted picture, and every n bytes are the
 -- stored form of exactly one.
--- w h the sides, pixels those of a picture, stored a stored form; of two calls first and second are the answers, the second one's output is
--- again; a prime: after the call.
+-- w h the sides, pixels those of a picture, stored a stored form, bytes either, out the output, result the answer; of two calls first and
+-- second are the answers, the second one's output is again; a prime: after the call.
 use mathlib.Core.Path.{_≡_}
 use mathlib.Core.Bool.{true, _&&_, _||_}
+use mathlib.Core.Logic.{_⊎_}
 use mathlib.Core.List.{List}
 use Prim.Native.Nat.{ℕ, _*_, _≤_}
 use lib.Dec.{eqb, ltb}
-use lib.ListN.{length, take}
+use lib.ListN.{length, take, drop}
 use Rattle.lists.specs.Lists.{pick, tally}
 use Rattle.picture.specs.Pictures.{Picture, places, pictureOf, sideFits, allBytes, isPicture}
 use Rattle.answers.specs.declared.Answer.{Answer}
@@ -41,6 +42,12 @@ StoredBytes = (w h : ℕ) (pixels : List ℕ) → Bytes w h pixels → Bytes w h
 abbrev pub Restored : Type 0
 Restored = (w h : ℕ) (pixels : List ℕ) → Bytes w h pixels → restoredRows w h (storedRows w h pixels) ≡ pixels
 
+-- so it restores every accepted picture
+abbrev pub PictureRestored : Type 0
+PictureRestored =
+    (p : Picture) → isPicture p ≡ true →
+    restoredRows (p .width) (p .height) (storedRows (p .width) (p .height) (p .pixels)) ≡ p .pixels
+
 -- the bytes stored are the stored form of the pixels with sides w and h and of no others
 pub record StoresOnly (w h : ℕ) (stored pixels : List ℕ) : Type 0 where
   pub bytes : Bytes w h pixels
@@ -51,10 +58,16 @@ pub record StoresOnly (w h : ℕ) (stored pixels : List ℕ) : Type 0 where
 abbrev pub StoredOnce : Type 0
 StoredOnce = (w h : ℕ) (stored : List ℕ) → Bytes w h stored → StoresOnly w h stored (restoredRows w h stored)
 
--- an accepted picture is stored by a call with room for it, and its stored form restored
+-- a call with room for it does not refuse an accepted picture; nor its stored form, which has that length too
 abbrev pub AcceptedUnrefused : Type 0
 AcceptedUnrefused =
     (p : Picture) (room : ℕ) → isPicture p ≡ true → places p ≤ room → rowsFault (p .width) (p .height) (length (p .pixels)) room ≡ 0
+
+-- either call leaves what lies in the output behind the n bytes, refused or not
+abbrev pub BehindKept : Type 0
+BehindKept =
+    (w h : ℕ) (bytes out out′ : List ℕ) (result : Answer) →
+    StoreSays w h bytes out out′ result ⊎ RestoreSays w h bytes out out′ result → drop (w * h) out′ ≡ drop (w * h) out
 
 -- two calls: the second, with room, is not refused, and restores what the first has stored
 abbrev pub CallRestores : Type 0
