@@ -111,6 +111,18 @@ fn calls_of_worked_pictures() -> Vec<Call> {
     calls
 }
 
+/// The patches of the pictures worked by hand for depths, each also under the
+/// other adjacency and lowered.
+fn calls_of_depths() -> Vec<Call> {
+    let mut calls = Vec::new();
+    for (given, _) in worked::depths().into_iter().chain(worked::staircases()) {
+        for picture in [other_adjacency(&given), quick::watershed(&given), given] {
+            calls.extend(exact_calls(&picture, questions_of_patches(&picture)));
+        }
+    }
+    calls
+}
+
 /// Checks of the trees of the pictures worked by hand, with the count or one
 /// entry changed: each entry in turn, also those beyond the node count.
 fn checks_of_damaged_trees() -> Vec<Call> {
@@ -421,6 +433,7 @@ fn generated_call(random: &mut Random, kind: &str) -> Call {
 /// pictures.
 pub fn text(count: usize) -> String {
     let mut calls = calls_of_worked_pictures();
+    calls.extend(calls_of_depths());
     calls.extend(calls_for_the_order());
     calls.extend(calls_at_the_limits());
     calls.extend(checks_of_damaged_trees());

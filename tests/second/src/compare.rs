@@ -12,6 +12,7 @@ use crate::holds::Run;
 use crate::random::Random;
 use crate::wall;
 use crate::words;
+use crate::worked;
 use std::ffi::OsString;
 use std::io::Write;
 use std::os::unix::ffi::OsStringExt;
@@ -49,9 +50,23 @@ fn files(count: usize) -> Vec<(String, Vec<u8>)> {
     for (index, file) in comments::files().into_iter().enumerate() {
         files.push((format!("comments {}", index), file));
     }
+    for (index, file) in files_of_depths().into_iter().enumerate() {
+        files.push((format!("depths {}", index), file));
+    }
     let mut random = Random::new(20_001);
     files.extend((0..count).map(|index| generated_file(&mut random, index)));
     files
+}
+
+/// The pictures worked by hand for depths, with the largest sample 255.
+pub fn files_of_depths() -> Vec<Vec<u8>> {
+    let pictures = worked::depths().into_iter().chain(worked::staircases());
+    pictures
+        .map(|(picture, _)| {
+            let header = format!("P5\n{} {}\n255\n", picture.width, picture.height);
+            [header.as_bytes(), &picture.pixels].concat()
+        })
+        .collect()
 }
 
 /// Every third generated file is damaged.

@@ -152,7 +152,7 @@ mod tests {
                 }
             }
         }
-        assert_eq!(kinds.len(), 9);
+        assert_eq!(kinds.len(), generate::KIND_COUNT);
     }
 
     /// Asserts what is stated of a filled picture. At every height its

@@ -22,7 +22,10 @@ struct Frame {
 /// Makes values row by row; those above the largest sample are cut to it later.
 type Maker = fn(&mut Random, &Frame) -> Vec<usize>;
 
-const KINDS: [(&str, Maker); 9] = [
+/// How many kinds of pictures there are.
+pub const KIND_COUNT: usize = 11;
+
+const KINDS: [(&str, Maker); KIND_COUNT] = [
     ("noise", noise),
     ("few values", few_values),
     ("plateaus", plateaus),
@@ -32,6 +35,8 @@ const KINDS: [(&str, Maker); 9] = [
     ("checkerboard", checkerboard),
     ("slopes", slopes),
     ("flat", flat),
+    ("scratches", scratches),
+    ("cells", cells),
 ];
 
 /// Sides, most often small.
@@ -249,4 +254,53 @@ fn flat(random: &mut Random, frame: &Frame) -> Vec<usize> {
         values[place] = frame.any_value(random);
     }
     values
+}
+
+/// Rows of holds whose passes rise from hold to hold, or fall, with pale rows
+/// between. Some holds are deep; the others are scratches a little below the
+/// lower one of their passes.
+fn scratches(random: &mut Random, frame: &Frame) -> Vec<usize> {
+    let first = random.below(frame.largest / 4 + 1);
+    let longest = frame.width.max(frame.height);
+    let step = random.between(1, 1 + (frame.largest - first) / longest);
+    let holds_for_a_deep_one = random.between(2, 9);
+    let upright = random.below(2) == 0;
+    let falling = random.below(2) == 0;
+    frame.values(|row, column| {
+        let (along, across, length) = if upright {
+            (row, column, frame.height)
+        } else {
+            (column, row, frame.width)
+        };
+        let along = if falling { length - 1 - along } else { along };
+        let pass = first + step * along;
+        if across % 2 == 1 {
+            frame.largest
+        } else if along % 2 == 1 {
+            pass
+        } else if random.below(holds_for_a_deep_one) == 0 {
+            random.below(first + 1)
+        } else {
+            pass.saturating_sub(step + random.between(1, step))
+        }
+    })
+}
+
+/// Holds of one height, or nearly, with passes between them to every side. The
+/// passes take all heights above in turn: rising, falling or mixed.
+fn cells(random: &mut Random, frame: &Frame) -> Vec<usize> {
+    let dark = random.below(frame.largest / 2 + 1);
+    let grain = random.one_of(&[0, 0, 0, 1, 3]);
+    let mut passes: Vec<usize> = (dark + 1..=frame.largest).collect();
+    match random.below(4) {
+        0 => {}
+        1 => passes.reverse(),
+        _ => passes.sort_by_cached_key(|_| random.next()),
+    }
+    let mut in_turn = passes.into_iter().cycle();
+    frame.values(|row, column| match (row % 2, column % 2) {
+        (0, 0) => dark + random.below(grain + 1),
+        (1, 1) => frame.largest,
+        _ => in_turn.next().unwrap(),
+    })
 }

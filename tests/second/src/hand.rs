@@ -1,11 +1,14 @@
 //! The pictures worked by hand, and small pictures compared between the
 //! literal and the quick module.
 
+use crate::generate;
 use crate::holds;
 use crate::literal::{self, Adjacency, Component, Patch, Picture, PlaceAnswer, Tree, NO_FATHER};
+use crate::question::other_adjacency;
 use crate::quick;
 use crate::random::Random;
-use crate::worked::{four, table};
+use crate::worked::{depths, four, staircases, table};
+use std::collections::BTreeMap;
 
 #[test]
 fn watersheds_literal() {
@@ -96,17 +99,56 @@ fn patches_and_places_of_h3() {
     };
     let expected = vec![record(1, 1, 3, 1), record(2, 0, 4, 3)];
     assert_eq!(literal::patches(&given), expected);
+    assert_eq!(quick::patches(&given), expected);
     let answer = |value, patch| PlaceAnswer { value, patch };
     assert_eq!(literal::place_query(&given, 0), answer(3, None));
     assert_eq!(literal::place_query(&given, 1), answer(1, Some(1)));
     assert_eq!(literal::place_query(&given, 3), answer(0, Some(2)));
 }
 
+fn depths_of(patches: &[Patch]) -> Vec<i32> {
+    patches.iter().map(|patch| patch.depth).collect()
+}
+
+#[test]
+fn depths_worked_by_hand() {
+    for (given, expected) in depths() {
+        assert_eq!(depths_of(&literal::patches(&given)), expected, "{given:?}");
+        assert_eq!(depths_of(&quick::patches(&given)), expected, "{given:?}");
+    }
+}
+
 #[test]
 fn depth_of_a_lone_patch() {
-    let patches = literal::patches(&four("2 7 / 3 9"));
-    assert_eq!(patches.len(), 1);
-    assert_eq!(patches[0].depth, 7);
+    let given = four("2 7 / 3 9");
+    for patches in [literal::patches(&given), quick::patches(&given)] {
+        assert_eq!(patches.len(), 1);
+        assert_eq!(patches[0].depth, 7);
+    }
+}
+
+#[test]
+fn depths_of_the_longest_climbs() {
+    for (given, expected) in staircases() {
+        assert_eq!(depths_of(&quick::patches(&given)), expected);
+    }
+}
+
+/// The largest value is that of the picture whose patches are listed.
+#[test]
+fn depths_of_a_picture_and_of_its_watershed() {
+    for (given, expected, lowered) in [
+        ("5 0 3 1 9", vec![9, 2], vec![3, 2]),
+        ("0 5 2 / 3 3 3", vec![5, 1], vec![3, 1]),
+        ("2 7 / 3 9", vec![7], vec![0]),
+    ] {
+        let given = four(given);
+        assert_eq!(depths_of(&literal::patches(&given)), expected);
+        assert_eq!(depths_of(&quick::patches(&given)), expected);
+        let watershed = literal::watershed(&given);
+        assert_eq!(depths_of(&literal::patches(&watershed)), lowered);
+        assert_eq!(depths_of(&quick::patches(&watershed)), lowered);
+    }
 }
 
 #[test]
@@ -116,6 +158,17 @@ fn holds_of_h3() {
         text,
         "picture 5 1\npatches 2 line 1\n1 2 1 3 5 0\n2 2 0 4 35 0\n"
     );
+}
+
+/// The largest sample of the file does not matter.
+#[test]
+fn holds_of_the_row_of_the_request() {
+    let expected = "picture 5 1\npatches 3 line 2\n1 1 0 9 0 0\n2 1 1 1 20 0\n3 1 5 4 40 0\n";
+    for largest in ["9", "255"] {
+        let header = format!("P5\n5 1\n{}\n", largest).into_bytes();
+        let file = [&header[..], &[0, 2, 1, 9, 5]].concat();
+        assert_eq!(holds::text(&[], &file), expected);
+    }
 }
 
 #[test]
@@ -170,6 +223,107 @@ fn literal_and_quick_agree_on_small_pictures() {
         assert_agreement(&mut random, &given);
         assert_agreement(&mut random, &lowered);
     }
+}
+
+/// Asserts that both modules list the same patches under both adjacencies.
+fn assert_same_patches(given: Picture) {
+    for picture in [other_adjacency(&given), given] {
+        let patches = literal::patches(&picture);
+        assert_eq!(quick::patches(&picture), patches, "{:?}", picture);
+    }
+}
+
+#[test]
+fn literal_and_quick_list_the_same_patches_of_few_values() {
+    let mut random = Random::new(8);
+    for _ in 0..300 {
+        let sides = (random.between(1, 7), random.between(1, 6));
+        let largest = random.between(1, 3);
+        assert_same_patches(small_picture(&mut random, sides, 0, largest));
+    }
+}
+
+/// A generated picture, and the name of its kind.
+fn generated(random: &mut Random, sides: (usize, usize)) -> (&'static str, Picture) {
+    let generated = generate::picture(random, sides);
+    let picture = Picture {
+        width: generated.width,
+        height: generated.height,
+        pixels: generated.pixels,
+        adjacency: random.one_of(&[Adjacency::Four, Adjacency::Eight]),
+    };
+    (generated.kind, picture)
+}
+
+#[test]
+fn literal_and_quick_list_the_same_patches_of_every_kind() {
+    let mut random = Random::new(9);
+    let mut kinds: BTreeMap<&str, usize> = BTreeMap::new();
+    for _ in 0..300 {
+        let sides = (random.between(1, 9), random.between(1, 5));
+        let (kind, picture) = generated(&mut random, sides);
+        *kinds.entry(kind).or_insert(0) += 1;
+        assert_same_patches(picture);
+    }
+    assert_eq!(kinds.len(), generate::KIND_COUNT);
+    assert!(kinds.values().all(|count| *count >= 10), "{:?}", kinds);
+}
+
+/// The height and the first place of each leaf, by first place.
+fn leaves(tree: &Tree) -> Vec<(i32, usize)> {
+    let mut leaves: Vec<(i32, usize)> = (0..tree.heights.len())
+        .filter(|node| !tree.fathers.contains(node))
+        .map(|node| (tree.heights[node], tree.first_places[node]))
+        .collect();
+    leaves.sort_by_key(|(_, first)| *first);
+    leaves
+}
+
+/// The leaves in that part of the section at a height that has this leaf in it.
+fn leaves_met(
+    picture: &Picture,
+    leaves: &[(i32, usize)],
+    leaf: (i32, usize),
+    height: i32,
+) -> Vec<(i32, usize)> {
+    let labels = literal::labels(picture, height);
+    let of_part = |other: &(i32, usize)| labels[other.1] == labels[leaf.1];
+    leaves.iter().copied().filter(of_part).collect()
+}
+
+/// Asserts that a leaf's climb ends at the first height at which it meets a
+/// deeper one: one of less height, or equal with a smaller first place. Answers
+/// how many others it meets below.
+fn assert_climb(picture: &Picture, leaves: &[(i32, usize)], leaf: (i32, usize), end: i32) -> usize {
+    if leaves.iter().min() == Some(&leaf) {
+        assert_eq!(end, picture.largest_value(), "{:?}", picture);
+        return 0;
+    }
+    let at_end = leaves_met(picture, leaves, leaf, end);
+    assert!(at_end.iter().min() < Some(&leaf), "{:?}", picture);
+    let below = leaves_met(picture, leaves, leaf, end - 1);
+    assert_eq!(below.iter().min(), Some(&leaf), "{:?}", picture);
+    below.len() - 1
+}
+
+#[test]
+fn climbs_of_large_pictures() {
+    let mut random = Random::new(10);
+    let mut met = Vec::new();
+    for _ in 0..100 {
+        let (_, picture) = generated(&mut random, (40, 40));
+        let patches = quick::patches(&picture);
+        let leaves = leaves(&quick::tree(&picture));
+        assert_eq!(patches.len(), leaves.len());
+        for _ in 0..8 {
+            let index = random.below(leaves.len());
+            let end = leaves[index].0 + patches[index].depth;
+            met.push(assert_climb(&picture, &leaves, leaves[index], end));
+        }
+    }
+    let with_at_least = |least| met.iter().filter(|count| **count >= least).count();
+    assert!(with_at_least(1) >= 100, "{:?}", met);
+    assert!(with_at_least(10) >= 10, "{:?}", met);
 }
 
 /// The partner of a node: the only one of its height whose component

@@ -313,21 +313,34 @@ pub fn minima(picture: &Picture) -> Vec<Component> {
     leaves
 }
 
+/// Whether a patch is deeper than another: its height is less, or equal with a
+/// smaller patch number. The leaves stand by number.
+fn deeper(leaves: &[Component], one: usize, other: usize) -> bool {
+    let height = leaves[one].height;
+    let other_height = leaves[other].height;
+    height < other_height || (height == other_height && one < other)
+}
+
+/// The lowest pass to any deeper patch minus the patch's own height; for the
+/// deepest patch the largest value minus its own height.
+fn depth(picture: &Picture, leaves: &[Component], patch: usize) -> i32 {
+    let first = leaves[patch].first_place();
+    let lowest_pass = (0..leaves.len())
+        .filter(|other| deeper(leaves, *other, patch))
+        .map(|other| pass(picture, first, leaves[other].first_place()))
+        .min();
+    lowest_pass.unwrap_or(picture.largest_value()) - leaves[patch].height
+}
+
 pub fn patches(picture: &Picture) -> Vec<Patch> {
-    let nodes = nodes(picture);
+    let leaves = minima(picture);
     let mut patches = Vec::new();
-    for (index, leaf) in minima(picture).iter().enumerate() {
-        let father = father(&nodes, leaf);
-        let depth = if father == NO_FATHER {
-            picture.largest_value() - leaf.height
-        } else {
-            nodes[father].height - leaf.height
-        };
+    for (index, leaf) in leaves.iter().enumerate() {
         patches.push(Patch {
             number: index + 1,
             size: leaf.places.len(),
             height: leaf.height,
-            depth,
+            depth: depth(picture, &leaves, index),
             column_sum: leaf.places.iter().map(|place| place % picture.width).sum(),
             row_sum: leaf.places.iter().map(|place| place / picture.width).sum(),
         });

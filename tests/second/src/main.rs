@@ -10,6 +10,7 @@
 //!     second calls [count]          test cases for the calls on 16-bit memory,
 //!                                   for saving and for storing rows
 //!     second records                what `patch_report` prints for standard input
+//!     second records PATCH_REPORT   compares a `patch_report` program with this one
 //!     second files READ_REPORT FILE...
 //!                                   compares a `read_report` program with this one
 //!     second resave                 what `resave` prints for standard input
@@ -88,9 +89,9 @@ fn code(equal: bool) -> ExitCode {
 
 fn usage() -> ExitCode {
     eprintln!(
-        "usage: second holds [arguments] | edges | records | compare HOLDS [count] \
-         | cases [count] | calls [count] | files READ_REPORT FILE... | resave \
-         | saves RESAVE FILE... | wall | chalk"
+        "usage: second holds [arguments] | edges | records [PATCH_REPORT] \
+         | compare HOLDS [count] | cases [count] | calls [count] \
+         | files READ_REPORT FILE... | resave | saves RESAVE FILE... | wall | chalk"
     );
     ExitCode::from(2)
 }
@@ -115,6 +116,7 @@ fn run(arguments: &[Vec<u8>]) -> ExitCode {
         .collect();
     match words.as_slice() {
         ["records"] => answer(records::text),
+        ["records", program] => code(records::compare(program)),
         ["edges"] => print(edges::text().as_bytes()),
         ["compare", program, rest @ ..] => match count(rest, 600) {
             Some(count) => code(compare::compare(program, count)),

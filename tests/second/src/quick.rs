@@ -284,22 +284,66 @@ pub fn pass(picture: &Picture, one: usize, other: usize) -> i32 {
         .unwrap()
 }
 
+/// The steps between neighbours, lowest first: the height at which a section
+/// has both in it, and the two places.
+fn steps(picture: &Picture, neighbours: &[Vec<usize>]) -> Vec<(i32, usize, usize)> {
+    let mut steps = Vec::new();
+    for (place, others) in neighbours.iter().enumerate() {
+        for other in others {
+            let height = picture.value(place).max(picture.value(*other));
+            steps.push((height, place, *other));
+        }
+    }
+    steps.sort();
+    steps
+}
+
+/// The deepest place of the part that has this place in it. Each place knows a
+/// deeper one of its part, and the deepest knows itself.
+fn deepest(deeper: &mut [usize], place: usize) -> usize {
+    let mut found = place;
+    while deeper[found] != found {
+        deeper[found] = deeper[deeper[found]];
+        found = deeper[found];
+    }
+    found
+}
+
+/// For each place the height at which it stops being the deepest of its part;
+/// for the deepest of all, which never stops, the largest value.
+///
+/// At first every place is a part, and each step joins two parts or none. After
+/// the steps of a height the parts are the components of that height. Deeper is
+/// the place of smaller value, among equals the one that comes first, and
+/// patches are numbered by first place. So the deepest place of a component is
+/// the first place of its deepest patch.
+fn meetings(picture: &Picture, neighbours: &[Vec<usize>]) -> Vec<i32> {
+    let mut meetings = vec![picture.largest_value(); picture.count()];
+    let mut deeper: Vec<usize> = (0..picture.count()).collect();
+    for (height, one, other) in steps(picture, neighbours) {
+        let mut ends = [one, other].map(|place| deepest(&mut deeper, place));
+        ends.sort_by_key(|place| (picture.value(*place), *place));
+        let [kept, lost] = ends;
+        if kept != lost {
+            deeper[lost] = kept;
+            meetings[lost] = height;
+        }
+    }
+    meetings
+}
+
 pub fn patches(picture: &Picture) -> Vec<Patch> {
     let neighbours = all_neighbours(picture);
-    let sections = Sections::new(picture, &neighbours);
+    let meetings = meetings(picture, &neighbours);
     let mut patches = Vec::new();
     for (index, places) in minima(picture, &neighbours).iter().enumerate() {
         let first = places[0];
         let height = picture.value(first);
-        let depth = match sections.fork_above(first, height) {
-            Some(father_height) => father_height as i32 - height,
-            None => picture.largest_value() - height,
-        };
         patches.push(Patch {
             number: index + 1,
             size: places.len(),
             height,
-            depth,
+            depth: meetings[first] - height,
             column_sum: places.iter().map(|place| place % picture.width).sum(),
             row_sum: places.iter().map(|place| place / picture.width).sum(),
         });

@@ -2,13 +2,21 @@
 //! in the lent list and work: calls that list its patches, then calls that
 //! are refused.
 
+use crate::compare::{files_of_depths, printed};
+use crate::damage;
 use crate::file;
+use crate::generate;
+use crate::hexadecimal;
 use crate::literal::{Adjacency, Patch, Picture};
 use crate::question::patches_of;
+use crate::random::Random;
 
 /// The length of the list and of work, of which a call is lent the front.
 const LIST: usize = 801;
 const WORK: usize = 8001;
+
+/// How many files are generated.
+const GENERATED: usize = 300;
 
 /// `room` records and `entries` entries of work are lent.
 #[derive(Clone)]
@@ -185,4 +193,30 @@ pub fn text(input: &[u8]) -> String {
     .iter()
     .map(Call::text)
     .collect()
+}
+
+/// The pictures worked by hand for depths, and generated ones.
+fn files() -> Vec<Vec<u8>> {
+    let mut files = files_of_depths();
+    let mut random = Random::new(80_001);
+    for _ in 0..GENERATED {
+        let picture = generate::any_picture(&mut random);
+        files.push(damage::accepted_file(&mut random, &picture));
+    }
+    files
+}
+
+/// Runs the files through a given `patch_report` program and through this one;
+/// answers whether all were equal.
+pub fn compare(program: &str) -> bool {
+    let files = files();
+    for file in &files {
+        let given = printed(program, &[], file);
+        if given.as_deref() != Ok(text(file).as_bytes()) {
+            println!("records: differ on the file of bytes {}", hexadecimal(file));
+            return false;
+        }
+    }
+    println!("records: equal on {} made pictures", files.len());
+    true
 }

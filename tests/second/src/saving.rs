@@ -231,7 +231,7 @@ mod tests {
             assert_eq!(&file[offset..], picture.pixels);
             kinds.insert(picture.kind);
         }
-        assert_eq!(kinds.len(), 9);
+        assert_eq!(kinds.len(), generate::KIND_COUNT);
     }
 
     /// No accepted file of the picture is shorter than the saved one.

@@ -279,7 +279,7 @@ mod tests {
             assert_eq!(stored(width, &restored(width, &pixels)), pixels);
             kinds.insert(picture.kind);
         }
-        assert_eq!(kinds.len(), 9);
+        assert_eq!(kinds.len(), generate::KIND_COUNT);
     }
 
     /// The refusal's number or 0 of a call on this many bytes.

@@ -1,4 +1,4 @@
-//! The pictures H1 to H10, worked by hand.
+//! Pictures worked by hand: H1 to H10, and some for the depths of patches.
 
 use crate::literal::{Adjacency, Picture};
 
@@ -49,5 +49,81 @@ pub fn table() -> Vec<(&'static str, Picture, Picture)> {
         ("H8", four("0 3 3 3 1"), four("0 0 0 3 1")),
         ("H9", four("0 3 3 1"), four("0 0 3 1")),
         ("H10", four("0 5 2 / 3 3 3"), four("0 3 2 / 0 0 3")),
+    ]
+}
+
+/// Small pictures and the depths of their patches.
+pub fn depths() -> Vec<(Picture, Vec<i32>)> {
+    vec![
+        // The row of the request, and its holds in other orders.
+        (four("0 2 1 9 5"), vec![9, 1, 4]),
+        (four("5 9 1 2 0"), vec![4, 1, 9]),
+        (four("5 9 0 2 1"), vec![4, 9, 1]),
+        // Of equal ones the first is the deepest, and takes the largest value.
+        (four("3 0 5 0 4"), vec![5, 5]),
+        (four("9 0 5 0 4"), vec![9, 5]),
+        (four("4 0 5 0 9"), vec![9, 5]),
+        (four("9 0 9 / 0 5 9"), vec![9, 5]),
+        (four("2 5 2 7 2 9"), vec![7, 3, 5]),
+        (four("2 7 2 5 2 9"), vec![7, 5, 3]),
+        (four("0 2 0 5 0 3 0 9"), vec![9, 2, 5, 3]),
+        (four("1 2 1 5 0 3 0 9"), vec![4, 1, 9, 3]),
+        // The lowest pass is not one to a deeper patch, or leads to one that is
+        // neither the deepest nor the next.
+        (four("5 7 6 9 0"), vec![4, 1, 9]),
+        (four("0 9 5 7 1"), vec![9, 2, 8]),
+        (four("3 9 0 / 4 9 9 / 4 4 1"), vec![1, 9, 8]),
+        // The first patch has forks at 3 and 5 below the end of its climb.
+        (four("1 3 2 5 4 8 0 9"), vec![7, 1, 1, 9]),
+        // Three parts meet at one height.
+        (four("1 5 0 5 2 6"), vec![4, 6, 3]),
+        (four("0 9 1 / 9 5 9 / 2 9 3"), vec![9, 8, 4, 7, 6]),
+        (eight("0 9 1 / 9 5 9 / 2 9 3"), vec![9, 4, 3, 2]),
+        // The largest depths, and a lone patch.
+        (four("0 255 0"), vec![255, 255]),
+        (four("254 255 0"), vec![1, 255]),
+        (four("9 3 5"), vec![6]),
+        (eight("7 7 / 7 7"), vec![0]),
+    ]
+}
+
+/// Places of a corridor that winds through 40 by 40 pixels: the even rows, from
+/// left to right and back by turns, each with the place that leads to the next.
+fn corridor() -> Vec<usize> {
+    let mut places = Vec::new();
+    for turn in 0..20 {
+        let row = 80 * turn..80 * turn + 40;
+        if turn % 2 == 0 {
+            places.extend(row);
+            places.push(80 * turn + 79);
+        } else {
+            places.extend(row.rev());
+            places.push(80 * turn + 40);
+        }
+    }
+    places
+}
+
+/// The longest climb: 1 3 2 4 3 5 and so on up to 251 253 252 254 0 along the
+/// corridor, with walls of 255. The pass 254 leads from the first hold to the
+/// only deeper one, past 251 forks. Each hold between has a pass that is higher
+/// by 1 to the one before it. Then the same with all places in reverse.
+pub fn staircases() -> [(Picture, Vec<i32>); 2] {
+    let mut rising = vec![255; 1600];
+    let values = (1..=252).flat_map(|hold| [hold, hold + 2]).chain([0]);
+    for (place, value) in corridor().into_iter().zip(values) {
+        rising[place] = value;
+    }
+    let falling: Vec<u8> = rising.iter().rev().copied().collect();
+    let picture = |pixels| Picture {
+        width: 40,
+        height: 40,
+        pixels,
+        adjacency: Adjacency::Four,
+    };
+    let between = vec![1; 251];
+    [
+        (picture(rising), [&[253], &between[..], &[255]].concat()),
+        (picture(falling), [&[255], &between[..], &[253]].concat()),
     ]
 }
