@@ -124,14 +124,28 @@ fn print_bytes(total: u32)
     print_file(40, 40, 255, 1600, total as usize - LARGEST_FILE, ALONE, b"");
 }
 
+// The case of a file of some first bytes and so many pixels.
+fn print_headed(name: &[u8], header: &[u8], count: u32)
+    requires { ⌜ (length (now header) ≤ 64) × (count ≤ 6) ⌝ }
+{
+    io::write_all(1, name);
+    let mut input = [0u8; 4097];
+    let end = put_headed(&mut input, 0, header, count);
+    print_text(&input, end, ALONE, b"");
+}
+
 // The case of a header of 3 by 2, with its pixels.
 fn print_header(name: &[u8], header: &[u8])
     requires { ⌜ length (now header) ≤ 64 ⌝ }
 {
-    io::write_all(1, name);
-    let mut input = [0u8; 4097];
-    let end = put_headed(&mut input, 0, header, SMALL_AREA);
-    print_text(&input, end, ALONE, b"");
+    print_headed(name, header, SMALL_AREA);
+}
+
+// The case of a row of pixels, in a whole file.
+fn print_row(name: &[u8], file: &[u8])
+    requires { ⌜ length (now file) ≤ 64 ⌝ }
+{
+    print_headed(name, file, 0);
 }
 
 // The case of a length: a picture of 3 by 2, and before its width a comment of bytes #.
@@ -161,6 +175,18 @@ fn print_comments() {
     print_header(b"comment byte 32\n", b"P5\n# 3 2\n255\n");
     print_long_comment(4096);
     print_long_comment(4097);
+}
+
+// The cases of depths: the deepest hold first, the largest and the least depth of two, equal heights, the deepest hold last.
+fn print_rows() {
+    print_row(b"row 0 2 1 9 5\n", b"P5\n5 1\n255\n\x00\x02\x01\x09\x05");
+    print_row(b"row 0 255 0\n", b"P5\n3 1\n255\n\x00\xff\x00");
+    print_row(b"row 254 255 254\n", b"P5\n3 1\n255\n\xfe\xff\xfe");
+    print_row(b"row 2 7 2 5 2\n", b"P5\n5 1\n255\n\x02\x07\x02\x05\x02");
+    print_row(
+        b"row 1 3 2 5 4 8 0\n",
+        b"P5\n7 1\n255\n\x01\x03\x02\x05\x04\x08\x00",
+    );
 }
 
 // The case of a least size as the argument, with a picture of two sides.
@@ -219,5 +245,6 @@ fn main() {
     print_bytes(4096);
     print_bytes(4097);
     print_comments();
+    print_rows();
     print_arguments();
 }

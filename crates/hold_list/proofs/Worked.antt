@@ -4,9 +4,10 @@ use mathlib.Core.List.{List, [], _∷_}
 use Prim.Native.Nat.{ℕ}
 use Rattle.picture.specs.Pictures.{adjacent}
 use Rattle.picture.specs.Components.{componentAt, components}
-use Rattle.picture.specs.Trees.{isBranch, nodesAt, nodes, fatherOf, isLeaf}
+use Rattle.picture.specs.Trees.{isBranch, nodesAt, nodes, isLeaf}
 use Rattle.picture.specs.Watersheds.{lowerable, best, watershed}
-use Rattle.picture.specs.Patches.{patchNodes, depthOf, patchOf, patches, patchAt, lineCount}
+use Rattle.picture.specs.Passes.{pass}
+use Rattle.picture.specs.Patches.{patchNodes, deeper, climbOf, depthOf, patchOf, patches, patchAt, lineCount}
 use Rattle.picture.specs.Filling.{filledAt, filled}
 use Rattle.p5.specs.Headers.{gapEnd, digitsAt, numberAt, endAt, walk}
 use Rattle.p5.specs.Files.{onPixels, onHeader, readFile}
@@ -32,7 +33,7 @@ h3Text =
     50 ∷ 32 ∷ 50 ∷ 32 ∷ 48 ∷ 32 ∷ 52 ∷ 32 ∷ 51 ∷ 53 ∷ 32 ∷ 48 ∷ 10 ∷ []
 
 pub worked-text : programText 1 [] h3 ≡ h3Text
-unfolding adjacent componentAt components isBranch nodesAt nodes fatherOf lowerable best watershed isLeaf patchNodes depthOf patchOf patches patchAt lineCount gapEnd digitsAt numberAt endAt walk onPixels onHeader readFile decimal patchList holdList fileFault fileText programText
+unfolding adjacent componentAt components isBranch nodesAt nodes lowerable best watershed isLeaf patchNodes pass deeper climbOf depthOf patchOf patches patchAt lineCount gapEnd digitsAt numberAt endAt walk onPixels onHeader readFile decimal patchList holdList fileFault fileText programText
 worked-text = refl
 
 -- an empty file is refused with number 1
@@ -53,7 +54,7 @@ h3Filled =
     50 ∷ 32 ∷ 50 ∷ 32 ∷ 50 ∷ 32 ∷ 50 ∷ 32 ∷ 51 ∷ 53 ∷ 32 ∷ 48 ∷ 10 ∷ []
 
 pub worked-filled : programText 2 (50 ∷ []) h3 ≡ h3Filled
-unfolding adjacent componentAt components isBranch nodesAt nodes fatherOf lowerable best watershed isLeaf patchNodes depthOf patchOf patches patchAt lineCount gapEnd digitsAt numberAt endAt walk onPixels onHeader readFile decimal filledAt filled patchList holdList fileFault fileText filledList namedSize programText
+unfolding adjacent componentAt components isBranch nodesAt nodes lowerable best watershed isLeaf patchNodes pass deeper climbOf depthOf patchOf patches patchAt lineCount gapEnd digitsAt numberAt endAt walk onPixels onHeader readFile decimal filledAt filled patchList holdList fileFault fileText filledList namedSize programText
 worked-filled = refl
 
 -- no size is named by the letter x, by no bytes, by six digits, by two arguments

@@ -57,6 +57,10 @@ module _ {A : Type 0} (t : A → Bool) where
   pub tally-out : (x : A) (xs : List A) → t x ≡ false → tally t (x ∷ xs) ≡ tally t xs
   tally-out x xs e = ap (λ (b : Bool). pick b 1 0 + tally t xs) e ∙ omega arith
 
+  pub select-none : (l : List A) → ((x : A) → List·Memᴰ x l → t x ≡ false) → select t l ≡ []
+  select-none [] f = refl
+  select-none (x ∷ xs) f = select-out x xs (f x (List·Memᴰ·head refl)) ∙ select-none xs (λ y m. f y (List·Memᴰ·tail m))
+
   pub select-mem : {x : A} (l : List A) → List·Memᴰ x (select t l) → List·Memᴰ x l × (t x ≡ true)
   select-mem [] m = absurd (List·Memᴰ·not-nil m)
   select-mem {x} (y ∷ ys) m = step (λ r. select-mem ys r)

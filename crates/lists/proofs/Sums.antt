@@ -1,14 +1,16 @@
--- Sums over lists: of selected members, of a range, after a store, under a bound, by a number. The largest member.
+-- Sums over lists: of selected members, of a range, after a store, under a bound, by a number. The largest and the least member.
 use mathlib.Core.Path.{_≡_, refl, sym, ap, subst, _∙_}
 use mathlib.Core.Bool.{Bool}
-use mathlib.Core.List.{List, [], _∷_, _++_, map, map-append}
+use mathlib.Core.Logic.{⊎-elim}
+use mathlib.Core.List.{List, [], _∷_, _++_, map, map-append, List·Memᴰ, List·Memᴰ·head, List·Memᴰ·tail, List·Memᴰ·not-nil, List·Memᴰ·cases-cons}
 use Prim.Native.Nat.{ℕ, zero, suc, _+_, _-_, _*_, _≤_, _<_}
 use native.Mathlib.Nat.{mul-suc}
 use native.Mathlib.Omega.{arith}
 use lib.Dec.{eqb, leb}
 use lib.ListN.{length, getD, set, drop, length-map}
 use lib.Seq.{drop-cons}
-use Rattle.lists.specs.Lists.{pick, select, range, total, highest}
+use borrow.Author.Tests.{leb-true, leb-false}
+use Rattle.lists.specs.Lists.{pick, select, range, total, highest, lowest}
 use Rattle.lists.proofs.Tests.{on-test, on-pick}
 use Rattle.lists.proofs.Lists.{select-in, select-out, length-range, range-next, getD-map-range}
 
@@ -69,6 +71,14 @@ total-most f d y l h =
     (λ i b. let e = getD-map-range f 0 y l i (omega arith) in let q = h (y + i) (omega arith) in omega arith))
 
 -- the largest member under a bound
+pub highest-least : (l : List ℕ) (i : ℕ) → getD l i 0 ≤ highest l
+highest-least [] i = omega arith
+highest-least (x ∷ xs) zero =
+    on-pick (λ (v : ℕ). x ≤ v) (leb (highest xs) x) (λ e. omega arith) (λ e. let g = leb-false (highest xs) x e in omega arith)
+highest-least (x ∷ xs) (suc i) =
+    let r = highest-least xs i in
+    on-pick (λ (v : ℕ). getD xs i 0 ≤ v) (leb (highest xs) x) (λ e. let g = leb-true (highest xs) x e in omega arith) (λ e. r)
+
 pub highest-most : (d : ℕ) (l : List ℕ) → ((i : ℕ) → getD l i 0 ≤ d) → highest l ≤ d
 highest-most d [] f = omega arith
 highest-most d (x ∷ xs) f =
@@ -85,6 +95,42 @@ highest-next l i most r some h e q =
     q ∙
     (ap (λ (m : ℕ). pick (leb m v) v m) (e ∙ ap (λ (k : ℕ). highest (drop k l)) (sym up)) ∙
     sym (ap highest (drop-cons l (i - 1) 0 b)))
+
+-- the least member is a member, and at most each
+pub lowest-in : (d x : ℕ) (xs : List ℕ) → List·Memᴰ (lowest d (x ∷ xs)) (x ∷ xs)
+lowest-in d x [] = on-pick (λ (v : ℕ). List·Memᴰ v (x ∷ [])) (leb x x) (λ e. List·Memᴰ·head refl) (λ e. List·Memᴰ·head refl)
+lowest-in d x (y ∷ ys) =
+    on-pick (λ (v : ℕ). List·Memᴰ v (x ∷ (y ∷ ys))) (leb x (lowest x (y ∷ ys)))
+    (λ e. List·Memᴰ·head refl)
+    (λ e. List·Memᴰ·tail (lowest-in x y ys))
+
+pub lowest-least : {y : ℕ} (d : ℕ) (l : List ℕ) → List·Memᴰ y l → lowest d l ≤ y
+lowest-least d [] m = absurd (List·Memᴰ·not-nil m)
+lowest-least {y} d (x ∷ xs) m =
+    ⊎-elim
+    (λ q.
+    on-pick (λ (v : ℕ). v ≤ y) (leb x (lowest x xs))
+    (λ e. omega arith)
+    (λ e. let g = leb-false x (lowest x xs) e in omega arith))
+    (λ i.
+    let r = lowest-least x xs i in
+    on-pick (λ (v : ℕ). v ≤ y) (leb x (lowest x xs))
+    (λ e. let g = leb-true x (lowest x xs) e in omega arith)
+    (λ e. r))
+    (List·Memᴰ·cases-cons m)
+
+-- a member that is at most each is the least
+pub lowest-is : {v : ℕ} (d : ℕ) (l : List ℕ) → List·Memᴰ v l → ((u : ℕ) → List·Memᴰ u l → v ≤ u) → lowest d l ≡ v
+lowest-is d [] m f = absurd (List·Memᴰ·not-nil m)
+lowest-is {v} d (x ∷ xs) m f =
+    let a = lowest-least d (x ∷ xs) m in
+    let b = f (lowest d (x ∷ xs)) (lowest-in d x xs) in
+    omega arith
+
+-- what holds of every member, and for none of d, holds of the least
+pub on-lowest : (Q : ℕ → Type 0) (d : ℕ) (l : List ℕ) → Q d → ((u : ℕ) → List·Memᴰ u l → Q u) → Q (lowest d l)
+on-lowest Q d [] h f = h
+on-lowest Q d (x ∷ xs) h f = f (lowest d (x ∷ xs)) (lowest-in d x xs)
 
 -- the sum of g over the first m places with the number c
 unfoldable pub sumAt : (ℕ → ℕ) → List ℕ → ℕ → ℕ → ℕ

@@ -1,7 +1,7 @@
 -- The laws of all figures together, and of the places on the line.
 use mathlib.Core.Path.{_≡_, refl, sym, ap, _∙_}
 use mathlib.Core.Bool.{true}
-use mathlib.Core.Logic.{inr, _≢_}
+use mathlib.Core.Logic.{inl, inr, ⊎-elim, _≢_}
 use mathlib.Core.List.{List}
 use Prim.Native.Nat.{ℕ, _+_, _*_, _≤_, _<_}
 use native.Mathlib.Nat.{mul-le-mul-left}
@@ -12,21 +12,25 @@ use lib.ListN.{length, getD}
 use borrow.Author.Tests.{eq-eqb, ne-eqb}
 use Rattle.lists.specs.Lists.{range, highest, tally}
 use Rattle.picture.specs.Pictures.{Picture, places, isPicture}
+use Rattle.picture.specs.Trees.{nodes, nodeAt}
 use Rattle.picture.specs.Patches.{patches, patchAt, lineCount}
 use Rattle.tree.specs.Arrays.{TreeIn}
 use Rattle.tree.specs.Built.{Built}
 use Rattle.lists.proofs.Lists.{tally-same, range-mem}
 use Rattle.lists.proofs.Positions.{tally-next-in, tally-next-out, tally-bound}
-use Rattle.topology.proofs.Accepted.{Accepted, accepted-is}
-use Rattle.topology.proofs.Nodes.{nodes-few}
+use Rattle.topology.proofs.Accepted.{Accepted, accepted-is, places-bound}
+use Rattle.topology.proofs.Nodes.{nodes-few, node-is}
+use Rattle.topology.proofs.Fathers.{father-found}
+use Rattle.topology.proofs.Climb.{father, father-greater}
 use Rattle.topology.proofs.PatchFigures.{patches-count}
 use Rattle.topology.proofs.PatchSums.{count-few, patch-most, patch-size, patch-columns, patch-rows}
-use Rattle.lists.specs.Blocks.{UntouchedOutside}
+use Rattle.lists.specs.Blocks.{blockEntry, UntouchedOutside}
+use Rattle.climbs.specs.Climbs.{FathersRise, HeightsAndFathers, Climbs}
 use Rattle.patch_numbers.specs.Numbers.{FiveBlocks, Mapped, Leaves, patchIn}
 use Rattle.patch_sums.specs.Sums.{sizes, columns, rows, NumberedRows, Sums}
 use Rattle.patches.specs.Figures.{TreeInWork, noPatch, PatchesNumbered, Patched, Figures, PatchMap}
 use Rattle.patch_numbers.proofs.Numbering.{kept-row}
-use Rattle.patches.proofs.LeafNumbers.{map-in, leaves-patch}
+use Rattle.patches.proofs.LeafNumbers.{height-at, map-in, leaves-patch}
 
 -- the tree is not touched by changes from the fifth block on
 pub tree-kept : (p : Picture) (l m : List ℕ) → UntouchedOutside (4 * places p) (places p) l m → TreeIn p l → TreeIn p m
@@ -63,13 +67,64 @@ module _ (p : Picture) (count : ℕ) (work : List ℕ) (t : TreeInWork p count w
     pub numbered-patch : (x : ℕ) → x < places p → patchIn (places p) (p .pixels) a x ≡ patchAt p x
     numbered-patch = leaves-patch p ok work (t .tree) count r a (t .number) l
 
+    -- what the climbs ask
+    pub numbered-rise : FathersRise (places p) count a
+    numbered-rise =
+        let q = t .number in
+        let bound = places-bound p ok in
+        record {
+          rise =
+              λ i h b.
+              let ib : i < length (nodes p) = omega arith in
+              let e = numbered-tree .fathers i ib in
+              let f : father p i < length (nodes p) =
+              ⊎-elim (λ z. z) (λ z. let y = z .0 in absurd (omega arith)) (father-found p (nodeAt p i) (node-is p i ib)) in
+              let g = father-greater p ok i ib f in
+              (omega arith, omega arith);
+        }
+
+    numbered-heights : (most : ℕ) → most ≡ highest (p .pixels) → HeightsAndFathers p (places p) count most a
+    numbered-heights most e =
+        record {
+          accepted = t .accepted;
+          size = refl;
+          number = t .number;
+          heights = height-at p a numbered-tree;
+          fathers = numbered-tree .fathers;
+          largest = e;
+        }
+
+    -- what they leave
+    module _ (most : ℕ) (b : List ℕ) (k : Climbs (places p) count most a b) where
+      climbed-map : (x : ℕ) → x < places p → blockEntry b (2 * places p) x ≡ blockEntry a (2 * places p) x
+      climbed-map x h = k .kept .same (2 * places p + x) (inr (omega arith, omega arith))
+
+      pub climbed-mapped : Mapped (places p) b
+      climbed-mapped = record { map = λ x h. let e = climbed-map x h in let m = numbered-mapped .map x h in omega arith }
+
+      pub climbed-sizes : (cells : List ℕ) → FiveBlocks (places p) work cells → FiveBlocks (places p) b (p .pixels)
+      climbed-sizes cells z =
+          let s = numbered-sizes cells z in
+          record { few = s .few; blocks = k .kept .size ∙ s .blocks; beside = s .beside }
+
     module _ (cells : List ℕ) (long : length cells ≡ places p) (m : (x : ℕ) → x < places p → getD cells x 0 ≡ patchIn (places p) (p .pixels) a x) where
       mapped : PatchMap p cells
       mapped = record { size = long; patch = λ x h. m x h ∙ numbered-patch x h }
 
-      patches-numbered : (most : ℕ) → most ≡ highest (p .pixels) → PatchesNumbered p (places p) (p .pixels) cells most a
-      patches-numbered most e =
-          record { accepted = t .accepted; size = refl; same = refl; tree = numbered-tree; map = mapped; largest = e }
+      patches-numbered :
+          (most : ℕ) (b : List ℕ) → most ≡ highest (p .pixels) → Climbs (places p) count most a b →
+          PatchesNumbered p (places p) (p .pixels) cells b
+      patches-numbered most b e k =
+          let few = nodes-few p in
+          record {
+            accepted = t .accepted;
+            size = refl;
+            same = refl;
+            heights = λ i h. k .kept .same i (inl (omega arith)) ∙ height-at p a numbered-tree i h;
+            mapped = λ x h. climbed-map most b k x h ∙ numbered-tree .map x h;
+            climbs = k .climbs p (numbered-heights most e);
+            map = mapped;
+          }
 
       pub patched-frame : NumberedRows (p .width) (places p) cells
       patched-frame =
@@ -82,10 +137,10 @@ module _ (p : Picture) (count : ℕ) (work : List ℕ) (t : TreeInWork p count w
           }
 
       pub figures-all :
-          (most q : ℕ) (b c : List ℕ) → most ≡ highest (p .pixels) →
-          Patched (places p) (p .pixels) cells most (places p) a q b → Sums (p .width) (places p) (places p) cells b c → Figures p q c cells
-      figures-all most q b c e f s =
-          let g = f .begun p (patches-numbered most e) in
+          (most q : ℕ) (d b c : List ℕ) → most ≡ highest (p .pixels) → Climbs (places p) count most a d →
+          Patched (places p) (p .pixels) cells (places p) d q b → Sums (p .width) (places p) (places p) cells b c → Figures p q c cells
+      figures-all most q d b c e k f s =
+          let g = f .begun p (patches-numbered most d e k) in
           let n : q ≡ length (patches p) = g .count ∙ sym (patches-count p ok) in
           let few = count-few p ok in
           record {

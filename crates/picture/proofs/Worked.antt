@@ -12,7 +12,7 @@ use Rattle.picture.specs.Labels.{labels}
 use Rattle.picture.specs.Trees.{Tree, isBranch, nodesAt, nodes, fatherOf, mapOf, treeOf, isLeaf}
 use Rattle.picture.specs.Watersheds.{lowerable, best, watershed}
 use Rattle.picture.specs.Filling.{filledAt, filled}
-use Rattle.picture.specs.Patches.{patchNodes, depthOf, Patch, patchOf, patches, patchAt, lineCount, centre}
+use Rattle.picture.specs.Patches.{patchNodes, deeper, climbOf, depthOf, Patch, patchOf, patches, patchAt, lineCount, centre}
 use Rattle.picture.specs.Kept.{keepsAt, flat}
 
 -- two lists hold the same numbers
@@ -127,7 +127,7 @@ pub record PatchRow : Type 0 where
 abbrev patchRow : Picture → List ℕ → ℕ → List (List ℕ) → PatchRow
 patchRow p xs l fs = record { picture = p; places = xs; line = l; figures = fs }
 
--- the watersheds of H3, whose hold list is given, and of H10; a deep patch beside a shallow one; a picture of one patch
+-- the watersheds of H3, whose hold list is given, and of H10; a deep patch beside a shallow one; four patches, two of them as high; a picture of one patch
 abbrev pub patch-table : List PatchRow
 patch-table =
     patchRow (pictureOf 4 5 1 (1 ∷ 1 ∷ 4 ∷ 0 ∷ 0 ∷ [])) (1 ∷ 1 ∷ 0 ∷ 2 ∷ 2 ∷ []) 1
@@ -135,7 +135,9 @@ patch-table =
     patchRow (pictureOf 4 3 2 (0 ∷ 3 ∷ 2 ∷ 0 ∷ 0 ∷ 3 ∷ [])) (1 ∷ 0 ∷ 2 ∷ 1 ∷ 1 ∷ 0 ∷ []) 2
     ((1 ∷ 3 ∷ 0 ∷ 3 ∷ 3 ∷ 6 ∷ []) ∷ (2 ∷ 1 ∷ 2 ∷ 1 ∷ 20 ∷ 0 ∷ []) ∷ []) ∷
     patchRow (pictureOf 4 5 1 (0 ∷ 2 ∷ 1 ∷ 9 ∷ 5 ∷ [])) (1 ∷ 0 ∷ 2 ∷ 0 ∷ 3 ∷ []) 2
-    ((1 ∷ 1 ∷ 0 ∷ 2 ∷ 0 ∷ 0 ∷ []) ∷ (2 ∷ 1 ∷ 1 ∷ 1 ∷ 20 ∷ 0 ∷ []) ∷ (3 ∷ 1 ∷ 5 ∷ 4 ∷ 40 ∷ 0 ∷ []) ∷ []) ∷
+    ((1 ∷ 1 ∷ 0 ∷ 9 ∷ 0 ∷ 0 ∷ []) ∷ (2 ∷ 1 ∷ 1 ∷ 1 ∷ 20 ∷ 0 ∷ []) ∷ (3 ∷ 1 ∷ 5 ∷ 4 ∷ 40 ∷ 0 ∷ []) ∷ []) ∷
+    patchRow (pictureOf 4 8 1 (3 ∷ 4 ∷ 2 ∷ 7 ∷ 2 ∷ 5 ∷ 4 ∷ 9 ∷ [])) (1 ∷ 0 ∷ 2 ∷ 0 ∷ 3 ∷ 0 ∷ 4 ∷ 0 ∷ []) 4
+    ((1 ∷ 1 ∷ 3 ∷ 1 ∷ 0 ∷ 0 ∷ []) ∷ (2 ∷ 1 ∷ 2 ∷ 7 ∷ 20 ∷ 0 ∷ []) ∷ (3 ∷ 1 ∷ 2 ∷ 5 ∷ 40 ∷ 0 ∷ []) ∷ (4 ∷ 1 ∷ 4 ∷ 1 ∷ 60 ∷ 0 ∷ []) ∷ []) ∷
     patchRow (pictureOf 8 1 2 (0 ∷ 255 ∷ [])) (1 ∷ 0 ∷ []) 1 ((1 ∷ 1 ∷ 0 ∷ 255 ∷ 0 ∷ 0 ∷ []) ∷ []) ∷
     []
 
@@ -159,7 +161,7 @@ patchesHold r =
 
 -- each worked picture has the patches of its row
 pub worked-patches : all patchesHold patch-table ≡ true
-unfolding adjacent componentAt components isBranch nodesAt nodes fatherOf isLeaf patchNodes depthOf patchOf patches patchAt lineCount
+unfolding adjacent componentAt components isBranch nodesAt nodes isLeaf patchNodes pass deeper climbOf depthOf patchOf patches patchAt lineCount
 worked-patches = refl
 
 -- a picture filled with a least size, and the pixels then

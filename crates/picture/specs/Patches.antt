@@ -1,12 +1,14 @@
 -- Patches: the regional minima, their records, and the patch of a place.
-use mathlib.Core.Bool.{true, false}
-use mathlib.Core.List.{List, [], _∷_, map}
-use Prim.Native.Nat.{ℕ, suc, _-_, _*_, _/_}
+use mathlib.Core.Path.{_≡_}
+use mathlib.Core.Bool.{Bool, true, false, _&&_, _||_}
+use mathlib.Core.List.{List, [], _∷_, map, List·Memᴰ}
+use Prim.Native.Nat.{ℕ, suc, _-_, _*_, _/_, _≤_}
 use lib.Dec.{eqb, ltb}
 use lib.ListN.{length}
-use Rattle.lists.specs.Lists.{pick, tally, select, indexFrom, range, isIn, total, highest}
-use Rattle.picture.specs.Pictures.{Picture, places, column, row}
-use Rattle.picture.specs.Trees.{Node, nodes, nodeAt, componentOf, fatherOf, isLeaf}
+use Rattle.lists.specs.Lists.{tally, select, indexFrom, range, isIn, total, highest, lowest}
+use Rattle.picture.specs.Pictures.{Picture, places, column, row, isPicture}
+use Rattle.picture.specs.Passes.{pass}
+use Rattle.picture.specs.Trees.{Node, nodes, componentOf, isLeaf}
 
 -- a node put before the first of a list that has a greater first place
 abbrev pub insertByFirst : Node → List Node → List Node
@@ -34,11 +36,32 @@ patchAt p x = patchFrom 1 p x (patchNodes p)
 unfoldable pub lineCount : Picture → ℕ
 lineCount p = tally (λ x. eqb (patchAt p x) 0) (range 0 (places p))
 
--- a patch's depth: its father's height, or for the root the largest value, less its own height (this is not what the literature calls the dynamics of a minimum)
+-- a patch, by its leaf, is deeper than another: its height is less, or equal with a smaller patch number
+unfoldable pub deeper : Picture → Node → Node → Bool
+deeper p m n =
+    ltb (m .height) (n .height) || eqb (m .height) (n .height) && ltb (patchAt p (m .first)) (patchAt p (n .first))
+
+-- the passes from a patch to the deeper ones
+abbrev pub deeperPasses : Picture → Node → List ℕ
+deeperPasses p n = map (λ m. pass p (n .first) (m .first)) (select (λ m. deeper p m n) (patchNodes p))
+
+-- the climb from a patch: the lowest pass to any deeper patch; for the deepest patch the largest value
+unfoldable pub climbOf : Picture → Node → ℕ
+climbOf p n = lowest (highest (p .pixels)) (deeperPasses p n)
+
+-- a patch's depth (standard term: dynamics of a minimum): its climb less its own height
 unfoldable pub depthOf : Picture → Node → ℕ
-depthOf p n =
-    let f = fatherOf p n in
-    pick (eqb f 65535) (highest (p .pixels)) (nodeAt p f .height) - n .height
+depthOf p n = climbOf p n - n .height
+
+-- the pass between two patches is that between any places of theirs
+abbrev pub Passes-of-patches : Type 0
+Passes-of-patches =
+    (p : Picture) → isPicture p ≡ true → (m n : Node) → List·Memᴰ m (patchNodes p) → List·Memᴰ n (patchNodes p) →
+    (x y : ℕ) → isIn x (componentOf p m) ≡ true → isIn y (componentOf p n) ≡ true → pass p x y ≡ pass p (m .first) (n .first)
+
+-- no climb ends below its patch, so that climb and depth say the same
+abbrev pub Climbs-above : Type 0
+Climbs-above = (p : Picture) → isPicture p ≡ true → (n : Node) → List·Memᴰ n (patchNodes p) → n .height ≤ climbOf p n
 
 -- number from 1, size in pixels, height, depth, sum of columns, sum of rows
 pub record Patch : Type 0 where

@@ -25,6 +25,8 @@ pub mod PatchNumbers
 pub mod PatchFigures
 pub mod ComponentNumbers
 pub mod LeafNodes
+pub mod LeavesBelow
+pub mod Dynamics
 pub mod PatchSums
 pub mod PatchesKept
 pub mod FlatWall

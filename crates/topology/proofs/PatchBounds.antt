@@ -1,24 +1,21 @@
 -- Bounds on the patches of a picture: how many they are, each with a pixel, heights and depths that are bytes, and the line.
 use mathlib.Core.Path.{sym, ap, subst}
-use mathlib.Core.Logic.{by-cases}
 use Prim.Native.Nat.{ℕ, _≤_, _<_}
-use native.Mathlib.Decide.{decLt}
 use native.Mathlib.Omega.{arith}
 use lib.Dec.{eqb}
-use lib.ListN.{length, getD, List·getD-eq-default}
-use Rattle.lists.specs.Lists.{pick, highest}
+use lib.ListN.{length, getD}
 use Rattle.picture.specs.Pictures.{Picture, places, valueAt}
-use Rattle.picture.specs.Trees.{Node, nodes, nodeAt, fatherOf, mapOf}
-use Rattle.picture.specs.Patches.{Patch, patchOf, patches, patchAt, lineCount, depthOf}
-use Rattle.lists.proofs.Tests.{on-pick}
+use Rattle.picture.specs.Trees.{mapOf}
+use Rattle.picture.specs.Patches.{Patch, patchOf, patches, patchAt, lineCount}
 use Rattle.lists.proofs.Indices.{mem-index}
 use Rattle.lists.proofs.Positions.{tally-bound}
-use Rattle.lists.proofs.Sums.{highest-most}
 use Rattle.topology.proofs.Connected.{start}
 use Rattle.topology.proofs.Adjacency.{at-own}
 use Rattle.topology.proofs.Accepted.{Accepted, places-bound, value-byte}
 use Rattle.topology.proofs.Reached.{joined-mem}
-use Rattle.topology.proofs.Nodes.{node, node-is}
+use Rattle.topology.proofs.Descent.{map-found}
+use Rattle.topology.proofs.LeafNodes.{bottom-leaf}
+use Rattle.topology.proofs.Dynamics.{depth-byte}
 use Rattle.topology.proofs.PatchFigures.{patch-record}
 use Rattle.topology.proofs.PatchSums.{patch-begins, count-few, patch-height, patch-depth}
 
@@ -27,26 +24,7 @@ pub line-few : (p : Picture) → lineCount p ≤ places p
 unfolding lineCount
 line-few p = tally-bound (λ x. eqb (patchAt p x) 0) (places p)
 
-node-byte : (p : Picture) (i : ℕ) → nodeAt p i .height ≤ 255
-node-byte p i =
-    by-cases (decLt i (length (nodes p)))
-    (λ l. node-is p i l .low)
-    (λ l.
-    let b : length (nodes p) ≤ i = omega arith in
-    let e = ap (λ (n : Node). n .height) (List·getD-eq-default (nodes p) (node 0 0) {n = i} b) in
-    omega arith)
-
 module _ (p : Picture) (ok : Accepted p) where
-  depth-byte : (n : Node) → depthOf p n ≤ 255
-  unfolding depthOf
-  depth-byte n =
-      let most : pick (eqb (fatherOf p n) 65535) (highest (p .pixels)) (nodeAt p (fatherOf p n) .height) ≤ 255 =
-      on-pick (λ (v : ℕ). v ≤ 255) (eqb (fatherOf p n) 65535)
-      (λ e. highest-most 255 (p .pixels) (value-byte p ok))
-      (λ e. node-byte p (fatherOf p n))
-      in
-      omega arith
-
   pub patches-few : length (patches p) ≤ 1600
   patches-few = let a = count-few p ok in let b = places-bound p ok in omega arith
 
@@ -62,7 +40,7 @@ module _ (p : Picture) (ok : Accepted p) where
     depth-fits =
         let (z, c, t, e) = patch-begins p ok i b in
         subst (λ (j : ℕ). getD (patches p) j d .depth ≤ 255) e
-        (subst (λ (v : ℕ). v ≤ 255) (sym (patch-depth p ok z d c t)) (depth-byte (nodeAt p (mapOf p z))))
+        (subst (λ (v : ℕ). v ≤ 255) (sym (patch-depth p ok z d c t)) (depth-byte p ok (mapOf p z) (map-found p ok z c) (bottom-leaf p ok z c t)))
 
     pub size-some : 1 ≤ getD (patches p) i d .size
     unfolding patchOf

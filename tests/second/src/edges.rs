@@ -74,6 +74,25 @@ fn cases_of_comments() -> Vec<(String, Vec<u8>)> {
     cases
 }
 
+/// The rows of the edge cases of depths.
+const ROWS: [&[u8]; 5] = [
+    &[0, 2, 1, 9, 5],
+    &[0, 255, 0],
+    &[254, 255, 254],
+    &[2, 7, 2, 5, 2],
+    &[1, 3, 2, 5, 4, 8, 0],
+];
+
+/// The name and the file of a row.
+fn case_of_row(row: &[u8]) -> (String, Vec<u8>) {
+    let name = row.iter().fold("row".to_string(), |name, value| {
+        format!("{} {}", name, value)
+    });
+    let mut file = format!("P5\n{} 1\n255\n", row.len()).into_bytes();
+    file.extend(row);
+    (name, file)
+}
+
 /// The names and files of the edge cases without an argument, in order.
 fn cases_of_files() -> Vec<(String, Vec<u8>)> {
     let mut cases = Vec::new();
@@ -95,6 +114,7 @@ fn cases_of_files() -> Vec<(String, Vec<u8>)> {
         cases.push((format!("bytes {}", length), file_of_bytes(length)));
     }
     cases.extend(cases_of_comments());
+    cases.extend(ROWS.iter().map(|row| case_of_row(row)));
     cases
 }
 

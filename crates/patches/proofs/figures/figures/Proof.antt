@@ -1,8 +1,8 @@
--- `patches::figures::figures` meets its contract: the numbers, the patch of each place, the depths and heights, the sums.
+-- `patches::figures::figures` meets its contract: the numbers, the patch of each place, the climbs, the depths and heights, the sums.
 use mathlib.Core.Path.{refl, _∙_}
-use borrow.Author.Needs.{needs}
 use Rattle.picture.specs.Pictures.{Picture, pictureOf}
-use Rattle.patches.proofs.FigureLaws.{tree-mapped, tree-few, numbered-mapped, numbered-sizes, patched-frame, figures-all}
+use Rattle.patches.proofs.FigureLaws.{tree-mapped, tree-few, numbered-mapped, numbered-sizes, numbered-rise, climbed-mapped, climbed-sizes, patched-frame, figures-all}
+use borrow.Author.Needs.{needs}
 use Rattle.patches.proofs.figures.figures.Statement.{statement}
 use Rattle.patches.proofs.figures.figures.Tie as tie
 
@@ -33,24 +33,37 @@ largest-requires c κs = search needs
 cell-of-requires : tie.Need-cell-of-requires
 cell-of-requires c κs = search needs
 
+put-climbs-requires : tie.Need-put-climbs-requires
+put-climbs-requires c κs =
+    let l = c .before .before .before .before .before .before .before .before .before .before .before .before in
+    let s = l .before .before .before .before .before .before in (
+      s .pre .1 .few,
+      numbered-sizes (pictured s) _ _ (s .pre .0) _ _ (l .number .ensures) _ (s .pre .1) .blocks,
+      tree-few (pictured s) _ _ (s .pre .0),
+      numbered-rise (pictured s) _ _ (s .pre .0) _ _ (l .number .ensures),
+    )
+
 put-patches-requires : tie.Need-put-patches-requires
 put-patches-requires c κs =
-    let l = c .before .before .before .before .before .before .before .before .before .before .before .before .before in
+    let k = c .before .before .before .before in
+    let l = k .before .before .before .before .before .before .before .before .before .before .before .before .before in
     let s = l .before .before .before .before .before .before in (
-      numbered-sizes (pictured s) _ _ (s .pre .0) _ _ (l .number .ensures) _ (s .pre .1),
+      climbed-sizes (pictured s) _ _ (s .pre .0) _ _ (l .number .ensures) _ _ (k .put-climbs .ensures) _ (s .pre .1),
       let z = s .pre .1 .beside in search needs,
-      numbered-mapped (pictured s) _ _ (s .pre .0) _ _ (l .number .ensures),
+      climbed-mapped (pictured s) _ _ (s .pre .0) _ _ (l .number .ensures) _ _ (k .put-climbs .ensures),
     )
 
 put-sums-requires : tie.Need-put-sums-requires
 put-sums-requires c κs =
     let q = c .before .before .before .before in
-    let m = q .before .before .before .before .before .before .before in
+    let k = q .before .before .before .before .before in
+    let m = k .before .before .before .before .before .before in
     let l = m .before .before .before .before .before .before .before in
     let s = l .before .before .before .before .before .before in (
       patched-frame (pictured s) _ _ (s .pre .0) _ _ (l .number .ensures) _ (let z = s .pre .1 .beside in search needs) (m .map-patches .ensures),
       refl,
-      q .put-patches .ensures .kept .size ∙ numbered-sizes (pictured s) _ _ (s .pre .0) _ _ (l .number .ensures) _ (s .pre .1) .blocks,
+      q .put-patches .ensures .kept .size ∙
+          climbed-sizes (pictured s) _ _ (s .pre .0) _ _ (l .number .ensures) _ _ (k .put-climbs .ensures) _ (s .pre .1) .blocks,
     )
 
 same-length : tie.Need-same-length
@@ -62,11 +75,14 @@ same-length-2 c = search needs
 returns : tie.Need-returns
 returns c =
     let q = c .before .before .before .before .before .before .before in
-    let m = q .before .before .before .before .before .before .before in
+    let k = q .before .before .before .before .before in
+    let m = k .before .before .before .before .before .before in
     let l = m .before .before .before .before .before .before .before in
     let s = l .before .before .before .before .before .before in
-    figures-all (pictured s) _ _ (s .pre .0) _ _ (l .number .ensures) _ (let z = s .pre .1 .beside in search needs) (m .map-patches .ensures) _ _ _ _
-    (q .before .before .before .cell-of .ensures ∙ q .before .before .before .before .largest .ensures)
+    let long = m .map-patches .kept .1 .1 .1 .0 ∙ (l .number .kept .1 .1 .1 .0 ∙ s .pre .1 .beside) in
+    figures-all (pictured s) _ _ (s .pre .0) _ _ (l .number .ensures) _ long (m .map-patches .ensures) _ _ _ _ _
+    (k .before .before .cell-of .ensures ∙ k .before .before .before .largest .ensures)
+    (k .put-climbs .ensures)
     (q .put-patches .ensures)
     (c .before .before .put-sums .ensures)
 
@@ -79,6 +95,7 @@ figures-spec =
     map-patches-requires
     largest-requires
     cell-of-requires
+    put-climbs-requires
     put-patches-requires
     put-sums-requires
     same-length

@@ -1,0 +1,313 @@
+-- The laws of the climbs: none put, one more, all; and each leaf's climb where it ceases to be the least.
+use mathlib.Core.Path.{_≡_, refl, sym, ap, ap₂, subst, _∙_}
+use mathlib.Core.Bool.{Bool, true}
+use mathlib.Core.Logic.{inl, ⊎-elim, _≢_, by-cases}
+use mathlib.Core.List.{List}
+use Prim.Native.Nat.{ℕ, _+_, _*_, _≤_, _<_, min}
+use native.Mathlib.Decide.{ℕ-discrete, decLt}
+use native.Mathlib.Omega.{arith}
+use lib.ListN.{length, getD, set, length-set}
+use lib.Seq.{getD-set-same, getD-set-other}
+use borrow.Author.Tests.{lt-ltb, le-ltb}
+use Rattle.lists.specs.Lists.{pick}
+use Rattle.lists.specs.Blocks.{blockEntry}
+use Rattle.picture.specs.Pictures.{Picture}
+use Rattle.picture.specs.Trees.{nodes, nodeAt}
+use Rattle.picture.specs.Patches.{climbOf}
+use Rattle.topology.proofs.Accepted.{Accepted, accepted-is, places-bound}
+use Rattle.topology.proofs.Nodes.{node-is}
+use Rattle.topology.proofs.Fathers.{father-found}
+use Rattle.topology.proofs.Climb.{Up, father, father-greater}
+use Rattle.topology.proofs.LeafNodes.{leafNode}
+use Rattle.topology.proofs.LeavesBelow.{LeastBelow, Least, ChainEnd, up-same, up-less, least-one, least-last, chain-end, leaf-least}
+use Rattle.topology.proofs.Dynamics.{climb-father, climb-root}
+use Rattle.least_labels.specs.LeastLabels.{Handed, top, lowered, LeastOf, LeastThrough}
+use Rattle.least_labels.proofs.Labels.{labels-start, labels-final, labels-top, labels-more}
+use Rattle.climbs.specs.Climbs.{OwnNumbers, Numbered, FathersRise, heightOr, ClimbPut, ClimbsBefore, HeightsAndFathers, Climbs}
+
+-- the height of a node, or the largest value
+module _ (n most : ℕ) (work : List ℕ) (f : ℕ) where
+  pub height-in : f < n → heightOr n most work f ≡ getD work f 0
+  unfolding heightOr
+  height-in h = ap (λ (b : Bool). pick b (getD work f 0) most) (lt-ltb f n h)
+
+  pub height-out : n ≤ f → heightOr n most work f ≡ most
+  unfolding heightOr
+  height-out h = ap (λ (b : Bool). pick b (getD work f 0) most) (le-ltb f n h)
+
+-- the same in memory with the same heights
+height-same : (n most f : ℕ) (work l : List ℕ) → ((j : ℕ) → j < n → getD l j 0 ≡ getD work j 0) → heightOr n most l f ≡ heightOr n most work f
+height-same n most f work l e =
+    by-cases (decLt f n)
+    (λ h. height-in n most l f h ∙ (e f h ∙ sym (height-in n most work f h)))
+    (λ h. let g : n ≤ f = omega arith in height-out n most l f g ∙ sym (height-out n most work f g))
+
+-- the least node among nodes labelled with their numbers
+numbered-least : {P : ℕ → ℕ} {m a v : ℕ} → LeastOf (Up P m a) (λ j. j) v → LeastBelow P m a v
+numbered-least {P} {m} {a} l = record { below = subst (Up P m a) (l .is) (l .within); least = l .least }
+
+fathers-rise :
+    (n count : ℕ) (work : List ℕ) → count ≤ n → FathersRise n count work →
+    (i : ℕ) → i < count → blockEntry work n i < count → i < blockEntry work n i
+fathers-rise n count work few up i h f = up .rise i h (omega arith) .0
+
+module _ (n count most : ℕ) (work : List ℕ) (few : count ≤ n) (long : length work ≡ 5 * n) (up : FathersRise n count work) where
+  abbrev P : ℕ → ℕ
+  P = blockEntry work n
+
+  rises : (i : ℕ) → i < count → P i < count → i < P i
+  rises = fathers-rise n count work few up
+
+  pub climbs-start : Numbered n count work → ClimbsBefore n count most 0 work work
+  climbs-start o =
+      record {
+        kept = record { size = refl; same = λ j h. refl };
+        ahead = λ s a b. refl;
+        labels = labels-start (o .own);
+        climbs = λ s j h. absurd (omega arith);
+      }
+
+  -- one node more: m after its label is handed up
+  module _ (i : ℕ) (l m : List ℕ) (h : i < count) (c : ClimbsBefore n count most i work l) (g : Handed n i l m) where
+    abbrev leaf : ℕ
+    leaf = blockEntry l (4 * n) i
+
+    least-here : LeastBelow P count i leaf
+    least-here = numbered-least (labels-final rises (c .labels) i h (omega arith))
+
+    leaf-few : leaf ≤ i
+    leaf-few = up-less rises (least-here .below)
+
+    same-father : blockEntry l n i ≡ P i
+    same-father = c .ahead i (omega arith) (omega arith)
+
+    -- what handing up leaves
+    record Up-handed (after : List ℕ) : Type 0 where
+      size : length after ≡ length work
+      before : (j : ℕ) → j < 4 * n → getD after j 0 ≡ getD l j 0
+      own : blockEntry after (4 * n) i ≡ leaf
+      labels : LeastThrough P count (i + 1) (λ j. j) (blockEntry after (4 * n))
+
+    handed : Handed n i l m → Up-handed m
+    handed (top a e) =
+        let f = same-father in
+        subst Up-handed (sym e)
+        (record {
+          size = c .kept .size;
+          before = λ j b. refl;
+          own = refl;
+          labels = labels-top rises h (c .labels) (omega arith) (λ a b. refl);
+        })
+    handed (lowered a e) =
+        let f = same-father in
+        let r = up .rise i h (omega arith) in
+        let later = r .0 in
+        let within = r .1 in
+        let size = c .kept .size in
+        let e′ : m ≡ set l (4 * n + P i) (min (blockEntry l (4 * n) (P i)) leaf) =
+        e ∙ ap (λ (z : ℕ). set l (4 * n + z) (min (blockEntry l (4 * n) z) leaf)) f in
+        subst Up-handed (sym e′)
+        (record {
+          size = length-set l (4 * n + P i) (min (blockEntry l (4 * n) (P i)) leaf) ∙ size;
+          before =
+              λ j b.
+              let d : j ≢ 4 * n + P i = λ q. absurd (omega arith) in
+              getD-set-other l (4 * n + P i) j (min (blockEntry l (4 * n) (P i)) leaf) 0 d;
+          own =
+              let d : 4 * n + i ≢ 4 * n + P i = λ q. absurd (omega arith) in
+              getD-set-other l (4 * n + P i) (4 * n + i) (min (blockEntry l (4 * n) (P i)) leaf) 0 d;
+          labels =
+              labels-more rises h (c .labels) within
+              (getD-set-same l (4 * n + P i) (min (blockEntry l (4 * n) (P i)) leaf) 0 (omega arith))
+              (λ a b q.
+              let d : 4 * n + a ≢ 4 * n + P i = λ z. q (omega arith) in
+              getD-set-other l (4 * n + P i) (4 * n + a) (min (blockEntry l (4 * n) (P i)) leaf) 0 d);
+        })
+
+    abbrev k : Up-handed m
+    k = handed g
+
+    pub handed-size : length m ≡ 5 * n
+    handed-size = k .size ∙ long
+
+    pub handed-leaf : blockEntry m (4 * n) i < n
+    handed-leaf = let e = k .own in let b = leaf-few in omega arith
+
+    pub climbs-more :
+        (o : List ℕ) → ClimbPut n i most m o → ClimbsBefore n count most (i + 1) work o
+    climbs-more o e =
+        let b = leaf-few in
+        let size = k .size in
+        let at : blockEntry m n i ≡ P i = k .before (n + i) (omega arith) ∙ same-father in
+        let v : heightOr n most m (blockEntry m n i) ≡ x =
+        ap (heightOr n most m) at ∙
+        height-same n most (P i) work m (λ j h. k .before j (omega arith) ∙ c .kept .same j (inl h)) in
+        subst (ClimbsBefore n count most (i + 1) work) (sym (e ∙ ap₂ (λ (z y : ℕ). set m (n + z) y) (k .own) v))
+        (record {
+          kept =
+              record {
+                size = length-set m (n + leaf) x ∙ size;
+                same =
+                    λ j w.
+                    let d : j ≢ n + leaf = λ q. absurd (⊎-elim (λ z. omega arith) (λ z. let y = z .0 in omega arith) w) in
+                    let low : j < 4 * n = ⊎-elim (λ z. omega arith) (λ z. z .1) w in
+                    other j d ∙ (k .before j low ∙ c .kept .same j w);
+              };
+          ahead =
+              λ s u w.
+              let d : n + s ≢ n + leaf = λ q. absurd (omega arith) in
+              other (n + s) d ∙ (k .before (n + s) (omega arith) ∙ c .ahead s (omega arith) w);
+          labels =
+              λ a u.
+              let d : 4 * n + a ≢ n + leaf = λ q. absurd (omega arith) in
+              subst (LeastOf _ (λ j. j)) (sym (other (4 * n + a) d)) (k .labels a u);
+          climbs =
+              λ s j u a f.
+              by-cases (ℕ-discrete j leaf)
+              (λ q.
+              let here =
+              least-last rises least-here (subst (LeastBelow P count s) q a) (omega arith)
+              (λ z. let r = f (subst (LeastBelow P count (P s)) (sym q) z) in omega arith)
+              in
+              ap (λ (z : ℕ). getD (set m (n + leaf) x) (n + z) 0) q ∙
+              (getD-set-same m (n + leaf) x 0 (omega arith) ∙ ap (λ (z : ℕ). heightOr n most work (P z)) (sym here)))
+              (λ q.
+              let z : s ≢ i = λ y. q (least-one (subst (λ (w : ℕ). LeastBelow P count w j) y a) least-here) in
+              let d : n + j ≢ n + leaf = λ y. q (omega arith) in
+              let jb = up-less rises (a .below) in
+              other (n + j) d ∙
+              (k .before (n + j) (omega arith) ∙ c .climbs s j (omega arith) a (λ y. let r = f y in omega arith)));
+        })
+      where
+        x : ℕ
+        x = heightOr n most work (P i)
+
+        other : (j : ℕ) → j ≢ n + leaf → getD (set m (n + leaf) x) j 0 ≡ getD m j 0
+        other j d = getD-set-other m (n + leaf) j x 0 d
+
+pub climbs-end :
+    {n count most i : ℕ} {work l : List ℕ} → i ≤ count → count ≤ i → ClimbsBefore n count most i work l → ClimbsBefore n count most count work l
+climbs-end {n} {count} {most} {i} {work} {l} a b c =
+    let e : i ≡ count = omega arith in subst (λ (z : ℕ). ClimbsBefore n count most z work l) e c
+
+-- labels written: the fathers stand
+module _ (n count : ℕ) (work labelled : List ℕ) (few : count ≤ n) (o : OwnNumbers n count work labelled) where
+  before : (j : ℕ) → j < 4 * n → getD labelled j 0 ≡ getD work j 0
+  before j h = o .kept .outside j (inl h)
+
+  pub labelled-numbers : Numbered n count labelled
+  labelled-numbers = record { own = o .inside }
+
+  pub labelled-rise : FathersRise n count work → FathersRise n count labelled
+  labelled-rise up =
+      record {
+        rise =
+            λ i h f.
+            let e : blockEntry labelled n i ≡ blockEntry work n i = before (n + i) (omega arith) in
+            let r = up .rise i h (omega arith) in
+            let a = r .0 in
+            let b = r .1 in
+            (omega arith, omega arith);
+      }
+
+  labelled-tree : (p : Picture) (most : ℕ) → HeightsAndFathers p n count most work → HeightsAndFathers p n count most labelled
+  labelled-tree p most t =
+      let e = t .number in
+      record {
+        accepted = t .accepted;
+        size = t .size;
+        number = t .number;
+        heights = λ i h. before i (omega arith) ∙ t .heights i h;
+        fathers = λ i h. before (n + i) (omega arith) ∙ t .fathers i h;
+        largest = t .largest;
+      }
+
+-- the climbs of a picture's leaves, from as many nodes as it has
+module _ (p : Picture) (n most : ℕ) (work after : List ℕ) where
+  abbrev m : ℕ
+  m = length (nodes p)
+
+  module _ (t : HeightsAndFathers p n m most work) (few : m ≤ n) (up : FathersRise n m work) (c : ClimbsBefore n m most m work after) where
+    ok : Accepted p
+    ok = accepted-is p (t .accepted)
+
+    -- the fathers in memory are those of the nodes
+    abbrev Q : ℕ → ℕ
+    Q = blockEntry work n
+
+    there : {a j : ℕ} → LeastBelow Q (m) a j → Least p a j
+    there l =
+        record {
+          below = up-same (t .fathers) (l .below);
+          least = λ k u. l .least k (up-same (λ i h. sym (t .fathers i h)) u);
+        }
+
+    back : {a j : ℕ} → Least p a j → LeastBelow Q (m) a j
+    back l =
+        record {
+          below = up-same (λ i h. sym (t .fathers i h)) (l .below);
+          least = λ k u. l .least k (up-same (t .fathers) u);
+        }
+
+    least-of : (a : ℕ) → a < m → (w : ℕ) × Least p a w
+    least-of a h = (
+      blockEntry after (4 * n) a,
+      there (numbered-least (labels-final (fathers-rise n (m) work few up) (c .labels) a h (omega arith))),
+    )
+
+    climbed-leaf : (j : ℕ) → j < m → leafNode p j ≡ true → blockEntry after n j ≡ climbOf p (nodeAt p j)
+    climbed-leaf j b l = c .climbs s j (e .within) (back (e .least)) ends ∙ height
+      where
+        e : ChainEnd (father-greater p ok) j
+        e = chain-end (father-greater p ok) least-of j j b (leaf-least p ok j l)
+
+        s : ℕ
+        s = e .last
+
+        same : Q s ≡ father p s
+        same = t .fathers s (e .within)
+
+        ends : LeastBelow Q (m) (Q s) j → m ≤ Q s
+        ends d = let q = same in let a = e .ends (subst (λ (z : ℕ). Least p z j) same (there d)) in omega arith
+
+        height : heightOr n most work (Q s) ≡ climbOf p (nodeAt p j)
+        height =
+            ap (heightOr n most work) same ∙
+            ⊎-elim
+            (λ f.
+            let (w, k) = least-of (father p s) f in
+            let d : w ≢ j = λ q. let a = e .ends (subst (Least p (father p s)) q k) in absurd (omega arith) in
+            height-in n most work (father p s) (omega arith) ∙
+            (t .heights (father p s) f ∙ sym (climb-father p ok s j (e .within) (e .least) f w k d)))
+            (λ f.
+            let a = t .size in
+            let most-places = places-bound p ok in
+            let q = f .0 in
+            height-out n most work (father p s) (omega arith) ∙
+            (t .largest ∙ sym (climb-root p ok s j (e .within) (e .least) q)))
+            (father-found p (nodeAt p s) (node-is p s (e .within)))
+
+-- labels and climbs together
+pub climbs-all :
+    (n count most : ℕ) (work labelled after : List ℕ) → count ≤ n → FathersRise n count work → OwnNumbers n count work labelled →
+    ClimbsBefore n count most count labelled after → Climbs n count most work after
+climbs-all n count most work labelled after few up o c =
+    record {
+      kept =
+          record {
+            size = c .kept .size ∙ o .kept .size;
+            same =
+                λ j h.
+                let low : j < 4 * n = ⊎-elim (λ z. omega arith) (λ z. z .1) h in
+                c .kept .same j h ∙ before n count work labelled few o j low;
+          };
+      climbs =
+          λ p t j b l.
+          let e = t .number in
+          climbed-leaf p n most labelled after
+          (subst (λ (z : ℕ). HeightsAndFathers p n z most labelled) e (labelled-tree n count work labelled few o p most t))
+          (omega arith)
+          (subst (λ (z : ℕ). FathersRise n z labelled) e (labelled-rise n count work labelled few o up))
+          (subst (λ (z : ℕ). ClimbsBefore n z most z labelled after) e c)
+          j b l;
+    }

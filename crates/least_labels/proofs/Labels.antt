@@ -1,0 +1,130 @@
+-- The laws of the least labels: none handed up, one more, those that are final.
+use mathlib.Core.Path.{_≡_, refl, sym, ap, ap₂, subst, _∙_}
+use mathlib.Core.Logic.{_⊎_, inl, inr, ⊎-elim, _≢_, by-cases}
+use mathlib.Core.List.{List}
+use Prim.Native.Nat.{ℕ, _+_, _*_, _≤_, _<_, min}
+use native.Mathlib.Decide.{ℕ-discrete, decLt}
+use native.Mathlib.Omega.{arith}
+use lib.ListN.{set}
+use Rattle.lists.specs.Blocks.{blockEntry}
+use Rattle.topology.proofs.Climb.{Up, stay, rise}
+use Rattle.least_labels.specs.LeastLabels.{Handed, top, lowered, LeastOf, Through, own, by, LeastThrough}
+
+-- the two cases of a node, its father f
+pub handed-top : (n i f : ℕ) (work : List ℕ) → f ≡ blockEntry work n i → n ≤ f → Handed n i work work
+handed-top n i f work e h = top (omega arith) refl
+
+pub handed-lowered :
+    (n i f v : ℕ) (work : List ℕ) → f ≡ blockEntry work n i → f < n → v ≡ min (blockEntry work (4 * n) f) (blockEntry work (4 * n) i) →
+    Handed n i work (set work (4 * n + f) v)
+handed-lowered n i f v work e h q =
+    lowered (omega arith)
+    (ap₂ (λ (z y : ℕ). set work (4 * n + z) y) e (q ∙ ap (λ (z : ℕ). min (blockEntry work (4 * n) z) (blockEntry work (4 * n) i)) e))
+
+-- the least label of a set with the same nodes, and of two sets together
+least-same :
+    {S T : ℕ → Type 0} {label : ℕ → ℕ} {v w : ℕ} → ((j : ℕ) → S j → T j) → ((j : ℕ) → T j → S j) → w ≡ v → LeastOf S label v → LeastOf T label w
+least-same there back e l =
+    record {
+      node = l .node;
+      within = there (l .node) (l .within);
+      is = l .is ∙ sym e;
+      least = λ j t. let b = l .least j (back j t) in omega arith;
+    }
+
+least-both :
+    {S T : ℕ → Type 0} {label : ℕ → ℕ} {v w : ℕ} → LeastOf S label v → LeastOf T label w → LeastOf (λ j. S j ⊎ T j) label (min v w)
+least-both {v = v} {w} l r =
+    by-cases (decLt v w)
+    (λ h.
+    let e : v ≡ min v w = omega arith in
+    record {
+      node = l .node;
+      within = inl (l .within);
+      is = l .is ∙ e;
+      least = λ j s. ⊎-elim (λ i. let b = l .least j i in omega arith) (λ i. let b = r .least j i in omega arith) s;
+    })
+    (λ h.
+    let e : w ≡ min v w = omega arith in
+    record {
+      node = r .node;
+      within = inr (r .within);
+      is = r .is ∙ e;
+      least = λ j s. ⊎-elim (λ i. let b = l .least j i in omega arith) (λ i. let b = r .least j i in omega arith) s;
+    })
+
+-- the last step of a way up
+up-last : {P : ℕ → ℕ} {m a j : ℕ} → Up P m a j → (j ≡ a) ⊎ ((s : ℕ) × (s < m) × (P s < m) × (P s ≡ a) × Up P m s j)
+up-last stay = inl refl
+up-last (rise {a = i} h f u) =
+    ⊎-elim
+    (λ e. inr (i, h, f, e, stay))
+    (λ w. let (s, b, c, e, v) = w in inr (s, b, c, e, rise h f v))
+    (up-last u)
+
+up-more : {P : ℕ → ℕ} {m a j s : ℕ} → s < m → P s < m → P s ≡ a → Up P m s j → Up P m a j
+up-more {P} {m} {s = s} b c e stay = subst (λ (z : ℕ). Up P m z s) e (rise b c stay)
+up-more b c e (rise h f u) = rise h f (up-more b c e u)
+
+module _ {P : ℕ → ℕ} {m : ℕ} where
+  through-up : (i : ℕ) {a j : ℕ} → a < m → Through P m i a j → Up P m a j
+  through-up i {a} b (own e) = subst (λ (z : ℕ). Up P m a z) (sym e) stay
+  through-up i b (by s h c e u) = up-more c (omega arith) e u
+
+  -- nothing new below a node that is not the father of i
+  earlier : {i a j : ℕ} → P i ≢ a → Through P m (i + 1) a j → Through P m i a j
+  earlier d (own e) = own e
+  earlier {i} d (by s b c e u) =
+      by-cases (ℕ-discrete s i) (λ q. absurd (d (ap P (sym q) ∙ e))) (λ q. by s (omega arith) c e u)
+
+  later : {i a j : ℕ} → Through P m i a j → Through P m (i + 1) a j
+  later (own e) = own e
+  later (by s b c e u) = by s (omega arith) c e u
+
+  pub labels-start : {label labels : ℕ → ℕ} → ((a : ℕ) → a < m → labels a ≡ label a) → LeastThrough P m 0 label labels
+  labels-start {label} {labels} e a h = record { node = a; within = own refl; is = sym (e a h); least = λ j t. least j t }
+    where
+      least : (j : ℕ) → Through P m 0 a j → labels a ≤ label j
+      least j (own q) = let x = e a h in let y = ap label q in omega arith
+      least j (by s b c q u) = absurd (omega arith)
+
+-- fathers with greater numbers
+module _ {P : ℕ → ℕ} {m : ℕ} (rises : (i : ℕ) → i < m → P i < m → i < P i) where
+  -- once its sons have handed their labels up, a node's label is that of all below it
+  up-through : {i a j : ℕ} → a ≤ i → Up P m a j → Through P m i a j
+  up-through b u =
+      ⊎-elim
+      (λ e. own e)
+      (λ w. let (s, c, f, e, v) = w in let r = rises s c f in by s (omega arith) c e v)
+      (up-last u)
+
+  pub labels-final : {i : ℕ} {label labels : ℕ → ℕ} → LeastThrough P m i label labels → (a : ℕ) → a < m → a ≤ i → LeastOf (Up P m a) label (labels a)
+  labels-final {i} k a b h = least-same (λ j t. through-up i b t) (λ j t. up-through h t) refl (k a b)
+
+  -- one label more handed up
+  module _ {i : ℕ} {label labels after : ℕ → ℕ} (h : i < m) (k : LeastThrough P m i label labels) where
+    pub labels-top : m ≤ P i → ((a : ℕ) → a < m → after a ≡ labels a) → LeastThrough P m (i + 1) label after
+    labels-top f e a b =
+        let d : P i ≢ a = λ q. absurd (omega arith) in
+        least-same (λ j t. later t) (λ j t. earlier d t) (e a b) (k a b)
+
+    pub labels-more :
+        P i < m → after (P i) ≡ min (labels (P i)) (labels i) → ((a : ℕ) → a < m → a ≢ P i → after a ≡ labels a) →
+        LeastThrough P m (i + 1) label after
+    labels-more f q e a b =
+        by-cases (ℕ-discrete a (P i))
+        (λ z.
+        subst (λ (c : ℕ). LeastOf (Through P m (i + 1) c) label (after c)) (sym z)
+        (least-same (λ j t. join j t) (λ j t. part j t) q (least-both (k (P i) f) (k i h))))
+        (λ z. least-same (λ j t. later t) (λ j t. earlier (λ y. z (sym y)) t) (e a b z) (k a b))
+      where
+        join : (j : ℕ) → Through P m i (P i) j ⊎ Through P m i i j → Through P m (i + 1) (P i) j
+        join j (inl t) = later t
+        join j (inr t) = by i (omega arith) h refl (through-up i h t)
+
+        part : (j : ℕ) → Through P m (i + 1) (P i) j → Through P m i (P i) j ⊎ Through P m i i j
+        part j (own e) = inl (own e)
+        part j (by s b c e u) =
+            by-cases (ℕ-discrete s i)
+            (λ z. inr (up-through (omega arith) (subst (λ (y : ℕ). Up P m y j) z u)))
+            (λ z. inl (by s (omega arith) c e u))

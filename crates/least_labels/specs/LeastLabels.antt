@@ -1,0 +1,31 @@
+-- The least label below each node of a tree, by the fathers of its nodes.
+use mathlib.Core.Path.{_≡_}
+use mathlib.Core.List.{List}
+use Prim.Native.Nat.{ℕ, _+_, _*_, _≤_, _<_, min}
+use lib.ListN.{set}
+use Rattle.lists.specs.Blocks.{blockEntry}
+use Rattle.topology.proofs.Climb.{Up}
+
+-- the father of the node i, if it has one, gets the lesser of both labels; fathers are the second block, labels the fifth
+pub data Handed (n i : ℕ) (work after : List ℕ) : Type 0 where
+  top : n ≤ blockEntry work n i → after ≡ work → Handed n i work after
+  lowered :
+      blockEntry work n i < n →
+      after ≡ set work (4 * n + blockEntry work n i) (min (blockEntry work (4 * n) (blockEntry work n i)) (blockEntry work (4 * n) i)) →
+      Handed n i work after
+
+-- v is the label of a node of S, and the least of these labels
+pub record LeastOf (S : ℕ → Type 0) (label : ℕ → ℕ) (v : ℕ) : Type 0 where
+  pub node : ℕ
+  pub within : S node
+  pub is : label node ≡ v
+  pub least : (j : ℕ) → S j → v ≤ label j
+
+-- j is the node a, or lies below a son of a with a number below i; P are the fathers of m nodes
+pub data Through (P : ℕ → ℕ) (m i a j : ℕ) : Type 0 where
+  own : j ≡ a → Through P m i a j
+  by : (s : ℕ) → s < i → s < m → P s ≡ a → Up P m s j → Through P m i a j
+
+-- each of m nodes has the least label of itself and of what lies below its sons with numbers below i
+abbrev pub LeastThrough : (ℕ → ℕ) → ℕ → ℕ → (ℕ → ℕ) → (ℕ → ℕ) → Type 0
+LeastThrough P m i label labels = (a : ℕ) → a < m → LeastOf (Through P m i a) label (labels a)
