@@ -21,7 +21,7 @@ use Rattle.topology.proofs.Climb.{Up, father, father-greater}
 use Rattle.topology.proofs.LeafNodes.{leafNode}
 use Rattle.topology.proofs.LeavesBelow.{LeastBelow, Least, ChainEnd, up-same, up-less, least-one, least-last, chain-end, leaf-least}
 use Rattle.topology.proofs.Dynamics.{climb-father, climb-root}
-use Rattle.least_labels.specs.LeastLabels.{Handed, top, lowered, LeastOf, LeastThrough}
+use Rattle.least_labels.specs.LeastLabels.{Handed, top, lowered, stayed, LeastOf, LeastThrough}
 use Rattle.least_labels.proofs.Labels.{labels-start, labels-final, labels-top, labels-more}
 use Rattle.climbs.specs.Climbs.{OwnNumbers, Numbered, FathersRise, heightOr, ClimbPut, ClimbsBefore, HeightsAndFathers, Climbs}
 
@@ -98,30 +98,40 @@ module _ (n count most : ℕ) (work : List ℕ) (few : count ≤ n) (long : leng
           own = refl;
           labels = labels-top rises h (c .labels) (omega arith) (λ a b. refl);
         })
-    handed (lowered a e) =
+    handed (stayed a b e) =
+        let f = same-father in
+        let q = ap (blockEntry l (4 * n)) f in
+        subst Up-handed (sym e)
+        (record {
+          size = c .kept .size;
+          before = λ j b. refl;
+          own = refl;
+          labels = labels-more rises h (c .labels) (up .rise i h (omega arith) .1) (omega arith) (λ a b d. refl);
+        })
+    handed (lowered a b e) =
         let f = same-father in
         let r = up .rise i h (omega arith) in
         let later = r .0 in
         let within = r .1 in
         let size = c .kept .size in
-        let e′ : m ≡ set l (4 * n + P i) (min (blockEntry l (4 * n) (P i)) leaf) =
-        e ∙ ap (λ (z : ℕ). set l (4 * n + z) (min (blockEntry l (4 * n) z) leaf)) f in
-        subst Up-handed (sym e′)
+        let q = ap (blockEntry l (4 * n)) f in
+        subst Up-handed (sym (e ∙ ap (λ (z : ℕ). set l (4 * n + z) leaf) f))
         (record {
-          size = length-set l (4 * n + P i) (min (blockEntry l (4 * n) (P i)) leaf) ∙ size;
+          size = length-set l (4 * n + P i) leaf ∙ size;
           before =
               λ j b.
               let d : j ≢ 4 * n + P i = λ q. absurd (omega arith) in
-              getD-set-other l (4 * n + P i) j (min (blockEntry l (4 * n) (P i)) leaf) 0 d;
+              getD-set-other l (4 * n + P i) j leaf 0 d;
           own =
               let d : 4 * n + i ≢ 4 * n + P i = λ q. absurd (omega arith) in
-              getD-set-other l (4 * n + P i) (4 * n + i) (min (blockEntry l (4 * n) (P i)) leaf) 0 d;
+              getD-set-other l (4 * n + P i) (4 * n + i) leaf 0 d;
           labels =
+              let lesser : leaf ≡ min (blockEntry l (4 * n) (P i)) leaf = omega arith in
               labels-more rises h (c .labels) within
-              (getD-set-same l (4 * n + P i) (min (blockEntry l (4 * n) (P i)) leaf) 0 (omega arith))
+              (getD-set-same l (4 * n + P i) leaf 0 (omega arith) ∙ lesser)
               (λ a b q.
               let d : 4 * n + a ≢ 4 * n + P i = λ z. q (omega arith) in
-              getD-set-other l (4 * n + P i) (4 * n + a) (min (blockEntry l (4 * n) (P i)) leaf) 0 d);
+              getD-set-other l (4 * n + P i) (4 * n + a) leaf 0 d);
         })
 
     abbrev k : Up-handed m

@@ -1,5 +1,5 @@
 -- The laws of the least labels: none handed up, one more, those that are final.
-use mathlib.Core.Path.{_≡_, refl, sym, ap, ap₂, subst, _∙_}
+use mathlib.Core.Path.{_≡_, refl, sym, ap, subst, _∙_}
 use mathlib.Core.Logic.{_⊎_, inl, inr, ⊎-elim, _≢_, by-cases}
 use mathlib.Core.List.{List}
 use Prim.Native.Nat.{ℕ, _+_, _*_, _≤_, _<_, min}
@@ -8,18 +8,21 @@ use native.Mathlib.Omega.{arith}
 use lib.ListN.{set}
 use Rattle.lists.specs.Blocks.{blockEntry}
 use Rattle.topology.proofs.Climb.{Up, stay, rise}
-use Rattle.least_labels.specs.LeastLabels.{Handed, top, lowered, LeastOf, Through, own, by, LeastThrough}
+use Rattle.least_labels.specs.LeastLabels.{Handed, top, lowered, stayed, LeastOf, Through, own, by, LeastThrough}
 
--- the two cases of a node, its father f
-pub handed-top : (n i f : ℕ) (work : List ℕ) → f ≡ blockEntry work n i → n ≤ f → Handed n i work work
-handed-top n i f work e h = top (omega arith) refl
+-- the three cases of a node, its father f
+module _ (n i f : ℕ) (work : List ℕ) (e : f ≡ blockEntry work n i) where
+  pub handed-top : n ≤ f → Handed n i work work
+  handed-top h = top (omega arith) refl
 
-pub handed-lowered :
-    (n i f v : ℕ) (work : List ℕ) → f ≡ blockEntry work n i → f < n → v ≡ min (blockEntry work (4 * n) f) (blockEntry work (4 * n) i) →
-    Handed n i work (set work (4 * n + f) v)
-handed-lowered n i f v work e h q =
-    lowered (omega arith)
-    (ap₂ (λ (z y : ℕ). set work (4 * n + z) y) e (q ∙ ap (λ (z : ℕ). min (blockEntry work (4 * n) z) (blockEntry work (4 * n) i)) e))
+  pub handed-lowered :
+      f < n → blockEntry work (4 * n) i < blockEntry work (4 * n) f → Handed n i work (set work (4 * n + f) (blockEntry work (4 * n) i))
+  handed-lowered h l =
+      let q = ap (blockEntry work (4 * n)) e in
+      lowered (omega arith) (omega arith) (ap (λ (z : ℕ). set work (4 * n + z) (blockEntry work (4 * n) i)) e)
+
+  pub handed-stayed : f < n → blockEntry work (4 * n) f ≤ blockEntry work (4 * n) i → Handed n i work work
+  handed-stayed h l = let q = ap (blockEntry work (4 * n)) e in stayed (omega arith) (omega arith) refl
 
 -- the least label of a set with the same nodes, and of two sets together
 least-same :

@@ -1,17 +1,19 @@
 -- The least label below each node of a tree, by the fathers of its nodes.
 use mathlib.Core.Path.{_≡_}
 use mathlib.Core.List.{List}
-use Prim.Native.Nat.{ℕ, _+_, _*_, _≤_, _<_, min}
+use Prim.Native.Nat.{ℕ, _+_, _*_, _≤_, _<_}
 use lib.ListN.{set}
 use Rattle.lists.specs.Blocks.{blockEntry}
 use Rattle.topology.proofs.Climb.{Up}
 
--- the father of the node i, if it has one, gets the lesser of both labels; fathers are the second block, labels the fifth
+-- the father of the node i, if it has one with a greater label, gets that of i; fathers are the second block, labels the fifth
 pub data Handed (n i : ℕ) (work after : List ℕ) : Type 0 where
   top : n ≤ blockEntry work n i → after ≡ work → Handed n i work after
   lowered :
-      blockEntry work n i < n →
-      after ≡ set work (4 * n + blockEntry work n i) (min (blockEntry work (4 * n) (blockEntry work n i)) (blockEntry work (4 * n) i)) →
+      blockEntry work n i < n → blockEntry work (4 * n) i < blockEntry work (4 * n) (blockEntry work n i) →
+      after ≡ set work (4 * n + blockEntry work n i) (blockEntry work (4 * n) i) → Handed n i work after
+  stayed :
+      blockEntry work n i < n → blockEntry work (4 * n) (blockEntry work n i) ≤ blockEntry work (4 * n) i → after ≡ work →
       Handed n i work after
 
 -- v is the label of a node of S, and the least of these labels

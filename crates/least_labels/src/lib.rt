@@ -1,19 +1,9 @@
 // The least label below each node of a tree in cells, one step: a node hands its label to its father.
 use cells::wide;
 ghost use mathlib.Core.Path.{_≡_};
-ghost use Prim.Native.Nat.{_*_, _≤_, _<_, min};
+ghost use Prim.Native.Nat.{_*_, _≤_, _<_};
 ghost use lib.ListN.{length};
 ghost use Rattle.least_labels.specs.LeastLabels.{Handed};
-
-// The lesser of two labels.
-fn lesser(a: u16, b: u16) -> u16
-    ensures { λ r. ⌜ r ≡ min a b ⌝ }
-{
-    if a < b {
-        return a;
-    }
-    b
-}
 
 // Lowers the label of the father of the node i to that of i; the root has no father.
 pub fn hand_up(n: usize, i: usize, work: &mut [u16])
@@ -21,7 +11,10 @@ pub fn hand_up(n: usize, i: usize, work: &mut [u16])
     ensures { λ _. ⌜ Handed n i (now (work .entry)) (now (work .exit)) ⌝ }
 {
     let f = wide(work[n + i]);
-    if f < n {
-        work[4 * n + f] = lesser(work[4 * n + f], work[4 * n + i]);
+    if n <= f {
+        return;
+    }
+    if work[4 * n + i] < work[4 * n + f] {
+        work[4 * n + f] = work[4 * n + i];
     }
 }

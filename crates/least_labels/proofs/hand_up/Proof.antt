@@ -1,5 +1,5 @@
 -- `least_labels::hand_up` meets its contract: each return is one case of Handed.
-use Rattle.least_labels.proofs.Labels.{handed-top, handed-lowered}
+use Rattle.least_labels.proofs.Labels.{handed-top, handed-lowered, handed-stayed}
 use borrow.Author.Needs.{needs}
 use Rattle.least_labels.proofs.hand_up.Statement.{statement}
 use Rattle.least_labels.proofs.hand_up.Tie as tie
@@ -16,32 +16,32 @@ slice-read-wide c = search needs
 wide-requires : tie.Need-wide-requires
 wide-requires c κs = search needs
 
-mul-lesser : tie.Need-mul-lesser
-mul-lesser c = search needs
+returns : tie.Need-returns
+returns c = handed-top _ _ _ _ (c .before .wide .ensures) (c .if1 .taken)
 
-add-lesser : tie.Need-add-lesser
-add-lesser c = search needs
+mul-if2 : tie.Need-mul-if2
+mul-if2 c = search needs
 
-mul-lesser-2 : tie.Need-mul-lesser-2
-mul-lesser-2 c = search needs
+add-if2 : tie.Need-add-if2
+add-if2 c = search needs
 
-slice-read-lesser : tie.Need-slice-read-lesser
-slice-read-lesser c = search needs
+mul-if2-2 : tie.Need-mul-if2-2
+mul-if2-2 c = search needs
 
-mul-lesser-3 : tie.Need-mul-lesser-3
-mul-lesser-3 c = search needs
+slice-read-if2 : tie.Need-slice-read-if2
+slice-read-if2 c = search needs
 
-add-lesser-2 : tie.Need-add-lesser-2
-add-lesser-2 c = search needs
+mul-if2-3 : tie.Need-mul-if2-3
+mul-if2-3 c = search needs
 
-mul-lesser-4 : tie.Need-mul-lesser-4
-mul-lesser-4 c = search needs
+add-if2-2 : tie.Need-add-if2-2
+add-if2-2 c = search needs
 
-slice-read-lesser-2 : tie.Need-slice-read-lesser-2
-slice-read-lesser-2 c = search needs
+mul-if2-4 : tie.Need-mul-if2-4
+mul-if2-4 c = search needs
 
-lesser-requires : tie.Need-lesser-requires
-lesser-requires c κs = search needs
+slice-read-if2-2 : tie.Need-slice-read-if2-2
+slice-read-if2-2 c = search needs
 
 mul-work : tie.Need-mul-work
 mul-work c = search needs
@@ -52,17 +52,33 @@ add-work c = search needs
 mul-work-2 : tie.Need-mul-work-2
 mul-work-2 c = search needs
 
+slice-read-work : tie.Need-slice-read-work
+slice-read-work c = search needs
+
+mul-work-3 : tie.Need-mul-work-3
+mul-work-3 c = search needs
+
+add-work-2 : tie.Need-add-work-2
+add-work-2 c = search needs
+
+mul-work-4 : tie.Need-mul-work-4
+mul-work-4 c = search needs
+
 slice-write-work : tie.Need-slice-write-work
 slice-write-work c = search needs
 
 same-length : tie.Need-same-length
 same-length c = search needs
 
-returns : tie.Need-returns
-returns c = handed-lowered _ _ _ _ _ (c .before .before .before .before .wide .ensures) (c .before .before .before .if1 .taken) (c .lesser .ensures)
-
 returns-2 : tie.Need-returns-2
-returns-2 c = handed-top _ _ _ _ (c .before .wide .ensures) (c .if1 .left)
+returns-2 c =
+    let b = c .before .before .before .before in
+    handed-lowered _ _ _ _ (b .before .wide .ensures) (b .if1 .left) (c .before .if2 .taken)
+
+returns-3 : tie.Need-returns-3
+returns-3 c =
+    let b = c .before .before .before in
+    handed-stayed _ _ _ _ (b .before .wide .ensures) (b .if1 .left) (c .if2 .left)
 
 pub hand-up-spec : {M : Type 1} → statement M
 hand-up-spec =
@@ -72,19 +88,23 @@ hand-up-spec =
     mul-wide
     slice-read-wide
     wide-requires
-    mul-lesser
-    add-lesser
-    mul-lesser-2
-    slice-read-lesser
-    mul-lesser-3
-    add-lesser-2
-    mul-lesser-4
-    slice-read-lesser-2
-    lesser-requires
+    returns
+    mul-if2
+    add-if2
+    mul-if2-2
+    slice-read-if2
+    mul-if2-3
+    add-if2-2
+    mul-if2-4
+    slice-read-if2-2
     mul-work
     add-work
     mul-work-2
+    slice-read-work
+    mul-work-3
+    add-work-2
+    mul-work-4
     slice-write-work
     same-length
-    returns
-    returns-2)
+    returns-2
+    returns-3)
