@@ -261,7 +261,9 @@ uint64_t controller_query_place(
  *
  * The value is the number of patches. After success as many entries of each
  * list are the patches' sizes in pixels, heights, depths, sums of columns
- * and sums of rows.
+ * and sums of rows. A depth is the lowest pass to any deeper patch less the
+ * height; deeper is a lesser height, or the same with a smaller number. The
+ * deepest patch has the largest pixel less its height.
  *
  * Refusals, in this order: 7, 3, 8, 9 (work_len below 5 n, or a list with
  * fewer entries than there are patches).
