@@ -17,13 +17,13 @@ use Rattle.picture.specs.Patches.{climbOf}
 use Rattle.topology.proofs.Accepted.{Accepted, accepted-is, places-bound}
 use Rattle.topology.proofs.Nodes.{node-is}
 use Rattle.topology.proofs.Fathers.{father-found}
-use Rattle.topology.proofs.Climb.{Up, father, father-greater}
+use Rattle.topology.proofs.Climb.{Up, up-rises, father, father-greater}
 use Rattle.topology.proofs.LeafNodes.{leafNode}
-use Rattle.topology.proofs.LeavesBelow.{LeastBelow, Least, ChainEnd, up-same, up-less, least-one, least-last, chain-end, leaf-least}
+use Rattle.topology.proofs.LeavesBelow.{LeastBelow, Least, ChainEnd, least-same, least-one, least-last, chain-end, leaf-least}
 use Rattle.topology.proofs.Dynamics.{climb-father, climb-root}
 use Rattle.least_labels.specs.LeastLabels.{Handed, top, lowered, stayed, LeastOf, LeastThrough}
 use Rattle.least_labels.proofs.Labels.{labels-start, labels-final, labels-top, labels-more}
-use Rattle.climbs.specs.Climbs.{OwnNumbers, Numbered, FathersRise, heightOr, ClimbPut, ClimbsBefore, HeightsAndFathers, Climbs}
+use Rattle.climbs.specs.Climbs.{NodesLabelled, OwnLabels, FathersRise, heightOr, ClimbPut, ClimbsBefore, HeightsAndFathers, Climbs}
 
 -- the height of a node, or the largest value
 module _ (n most : ℕ) (work : List ℕ) (f : ℕ) where
@@ -58,7 +58,7 @@ module _ (n count most : ℕ) (work : List ℕ) (few : count ≤ n) (long : leng
   rises : (i : ℕ) → i < count → P i < count → i < P i
   rises = fathers-rise n count work few up
 
-  pub climbs-start : Numbered n count work → ClimbsBefore n count most 0 work work
+  pub climbs-start : OwnLabels n count work → ClimbsBefore n count most 0 work work
   climbs-start o =
       record {
         kept = record { size = refl; same = λ j h. refl };
@@ -76,38 +76,30 @@ module _ (n count most : ℕ) (work : List ℕ) (few : count ≤ n) (long : leng
     least-here = numbered-least (labels-final rises (c .labels) i h (omega arith))
 
     leaf-few : leaf ≤ i
-    leaf-few = up-less rises (least-here .below)
+    leaf-few = up-rises rises (least-here .below)
 
     same-father : blockEntry l n i ≡ P i
     same-father = c .ahead i (omega arith) (omega arith)
 
     -- what handing up leaves
-    record Up-handed (after : List ℕ) : Type 0 where
+    record AfterHanding (after : List ℕ) : Type 0 where
       size : length after ≡ length work
       before : (j : ℕ) → j < 4 * n → getD after j 0 ≡ getD l j 0
       own : blockEntry after (4 * n) i ≡ leaf
       labels : LeastThrough P count (i + 1) (λ j. j) (blockEntry after (4 * n))
 
-    handed : Handed n i l m → Up-handed m
+    unchanged : LeastThrough P count (i + 1) (λ j. j) (blockEntry l (4 * n)) → AfterHanding l
+    unchanged k = record { size = c .kept .size; before = λ j b. refl; own = refl; labels = k }
+
+    handed : Handed n i l m → AfterHanding m
     handed (top a e) =
         let f = same-father in
-        subst Up-handed (sym e)
-        (record {
-          size = c .kept .size;
-          before = λ j b. refl;
-          own = refl;
-          labels = labels-top rises h (c .labels) (omega arith) (λ a b. refl);
-        })
+        subst AfterHanding (sym e) (unchanged (labels-top rises h (c .labels) (omega arith) (λ a b. refl)))
     handed (stayed a b e) =
         let f = same-father in
         let q = ap (blockEntry l (4 * n)) f in
-        subst Up-handed (sym e)
-        (record {
-          size = c .kept .size;
-          before = λ j b. refl;
-          own = refl;
-          labels = labels-more rises h (c .labels) (up .rise i h (omega arith) .1) (omega arith) (λ a b d. refl);
-        })
+        subst AfterHanding (sym e)
+        (unchanged (labels-more rises h (c .labels) (up .rise i h (omega arith) .1) (omega arith) (λ a b d. refl)))
     handed (lowered a b e) =
         let f = same-father in
         let r = up .rise i h (omega arith) in
@@ -115,7 +107,7 @@ module _ (n count most : ℕ) (work : List ℕ) (few : count ≤ n) (long : leng
         let within = r .1 in
         let size = c .kept .size in
         let q = ap (blockEntry l (4 * n)) f in
-        subst Up-handed (sym (e ∙ ap (λ (z : ℕ). set l (4 * n + z) leaf) f))
+        subst AfterHanding (sym (e ∙ ap (λ (z : ℕ). set l (4 * n + z) leaf) f))
         (record {
           size = length-set l (4 * n + P i) leaf ∙ size;
           before =
@@ -134,7 +126,7 @@ module _ (n count most : ℕ) (work : List ℕ) (few : count ≤ n) (long : leng
               getD-set-other l (4 * n + P i) (4 * n + a) leaf 0 d);
         })
 
-    abbrev k : Up-handed m
+    abbrev k : AfterHanding m
     k = handed g
 
     pub handed-size : length m ≡ 5 * n
@@ -184,7 +176,7 @@ module _ (n count most : ℕ) (work : List ℕ) (few : count ≤ n) (long : leng
               (λ q.
               let z : s ≢ i = λ y. q (least-one (subst (λ (w : ℕ). LeastBelow P count w j) y a) least-here) in
               let d : n + j ≢ n + leaf = λ y. q (omega arith) in
-              let jb = up-less rises (a .below) in
+              let jb = up-rises rises (a .below) in
               other (n + j) d ∙
               (k .before (n + j) (omega arith) ∙ c .climbs s j (omega arith) a (λ y. let r = f y in omega arith)));
         })
@@ -201,12 +193,12 @@ climbs-end {n} {count} {most} {i} {work} {l} a b c =
     let e : i ≡ count = omega arith in subst (λ (z : ℕ). ClimbsBefore n count most z work l) e c
 
 -- labels written: the fathers stand
-module _ (n count : ℕ) (work labelled : List ℕ) (few : count ≤ n) (o : OwnNumbers n count work labelled) where
+module _ (n count : ℕ) (work labelled : List ℕ) (few : count ≤ n) (o : NodesLabelled n count work labelled) where
   before : (j : ℕ) → j < 4 * n → getD labelled j 0 ≡ getD work j 0
   before j h = o .kept .outside j (inl h)
 
-  pub labelled-numbers : Numbered n count labelled
-  labelled-numbers = record { own = o .inside }
+  pub labelled-own : OwnLabels n count labelled
+  labelled-own = record { own = o .inside }
 
   pub labelled-rise : FathersRise n count work → FathersRise n count labelled
   labelled-rise up =
@@ -245,31 +237,17 @@ module _ (p : Picture) (n most : ℕ) (work after : List ℕ) where
     abbrev Q : ℕ → ℕ
     Q = blockEntry work n
 
-    there : {a j : ℕ} → LeastBelow Q (m) a j → Least p a j
-    there l =
-        record {
-          below = up-same (t .fathers) (l .below);
-          least = λ k u. l .least k (up-same (λ i h. sym (t .fathers i h)) u);
-        }
-
-    back : {a j : ℕ} → Least p a j → LeastBelow Q (m) a j
-    back l =
-        record {
-          below = up-same (λ i h. sym (t .fathers i h)) (l .below);
-          least = λ k u. l .least k (up-same (t .fathers) u);
-        }
-
     least-of : (a : ℕ) → a < m → (w : ℕ) × Least p a w
     least-of a h = (
       blockEntry after (4 * n) a,
-      there (numbered-least (labels-final (fathers-rise n (m) work few up) (c .labels) a h (omega arith))),
+      least-same (t .fathers) (numbered-least (labels-final (fathers-rise n (m) work few up) (c .labels) a h (omega arith))),
     )
 
     climbed-leaf : (j : ℕ) → j < m → leafNode p j ≡ true → blockEntry after n j ≡ climbOf p (nodeAt p j)
-    climbed-leaf j b l = c .climbs s j (e .within) (back (e .least)) ends ∙ height
+    climbed-leaf j b l = c .climbs s j (e .within) (least-same (λ i h. sym (t .fathers i h)) (e .least)) ends ∙ height
       where
         e : ChainEnd (father-greater p ok) j
-        e = chain-end (father-greater p ok) least-of j j b (leaf-least p ok j l)
+        e = chain-end (father-greater p ok) least-of j b (leaf-least p ok j l)
 
         s : ℕ
         s = e .last
@@ -278,7 +256,7 @@ module _ (p : Picture) (n most : ℕ) (work after : List ℕ) where
         same = t .fathers s (e .within)
 
         ends : LeastBelow Q (m) (Q s) j → m ≤ Q s
-        ends d = let q = same in let a = e .ends (subst (λ (z : ℕ). Least p z j) same (there d)) in omega arith
+        ends d = let q = same in let a = e .ends (subst (λ (z : ℕ). Least p z j) same (least-same (t .fathers) d)) in omega arith
 
         height : heightOr n most work (Q s) ≡ climbOf p (nodeAt p j)
         height =
@@ -299,7 +277,7 @@ module _ (p : Picture) (n most : ℕ) (work after : List ℕ) where
 
 -- labels and climbs together
 pub climbs-all :
-    (n count most : ℕ) (work labelled after : List ℕ) → count ≤ n → FathersRise n count work → OwnNumbers n count work labelled →
+    (n count most : ℕ) (work labelled after : List ℕ) → count ≤ n → FathersRise n count work → NodesLabelled n count work labelled →
     ClimbsBefore n count most count labelled after → Climbs n count most work after
 climbs-all n count most work labelled after few up o c =
     record {

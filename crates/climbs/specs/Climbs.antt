@@ -16,11 +16,11 @@ use Rattle.topology.proofs.LeavesBelow.{LeastBelow}
 use Rattle.least_labels.specs.LeastLabels.{LeastThrough}
 
 -- each of count nodes gets its own number as label
-abbrev pub OwnNumbers : ℕ → ℕ → List ℕ → List ℕ → Type 0
-OwnNumbers n count work after = Overwritten (λ m. m) (4 * n) count work after
+abbrev pub NodesLabelled : ℕ → ℕ → List ℕ → List ℕ → Type 0
+NodesLabelled n count work after = Overwritten (λ m. m) (4 * n) count work after
 
 -- each of count nodes has its own number as label
-pub record Numbered (n count : ℕ) (work : List ℕ) : Type 0 where
+pub record OwnLabels (n count : ℕ) (work : List ℕ) : Type 0 where
   pub own : (m : ℕ) → m < count → blockEntry work (4 * n) m ≡ m
 
 -- the father of each of count nodes has a greater number, or is no node

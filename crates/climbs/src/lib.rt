@@ -5,12 +5,12 @@ ghost use mathlib.Core.Path.{_≡_};
 ghost use Prim.Native.Nat.{_*_, _≤_, _<_};
 ghost use lib.ListN.{length};
 ghost use Rattle.lists.specs.Blocks.{blockEntry};
-ghost use Rattle.climbs.specs.Climbs.{OwnNumbers, Numbered, FathersRise, heightOr, ClimbPut, ClimbsBefore, Climbs};
+ghost use Rattle.climbs.specs.Climbs.{NodesLabelled, OwnLabels, FathersRise, heightOr, ClimbPut, ClimbsBefore, Climbs};
 
 // Labels each of count nodes with its own number.
 fn label_nodes(n: usize, count: usize, work: &mut [u16])
     requires { ⌜ (n ≤ 1600) × (length (now work) ≡ 5 * n) × (count ≤ n) ⌝ }
-    ensures { λ _. ⌜ OwnNumbers n count (now (work .entry)) (now (work .exit)) ⌝ }
+    ensures { λ _. ⌜ NodesLabelled n count (now (work .entry)) (now (work .exit)) ⌝ }
 {
     let mut m = 0;
     while m < count {
@@ -30,7 +30,7 @@ fn height_or(n: usize, f: usize, most: u16, work: &[u16]) -> u16
     most
 }
 
-// Puts the height of the father of the node i as the climb of the least leaf below i, over that of the nodes between them.
+// Puts the height of the father of the node i as the climb of the least leaf below i; it replaces what the nodes below i put.
 fn put_climb(n: usize, i: usize, most: u16, work: &mut [u16])
     requires { ⌜ (n ≤ 1600) × (length (now work) ≡ 5 * n) × (i < n) × (blockEntry (now work) (4 * n) i < n) ⌝ }
     ensures { λ _. ⌜ ClimbPut n i most (now (work .entry)) (now (work .exit)) ⌝ }
@@ -40,9 +40,9 @@ fn put_climb(n: usize, i: usize, most: u16, work: &mut [u16])
     work[n + leaf] = height_or(n, f, most, work);
 }
 
-// One rising pass over the fathers of count nodes: each hands its least leaf up, and puts its climb.
-fn put_each(n: usize, count: usize, most: u16, work: &mut [u16])
-    requires { ⌜ (n ≤ 1600) × (length (now work) ≡ 5 * n) × (count ≤ n) × FathersRise n count (now work) × Numbered n count (now work) ⌝ }
+// Node by node, by rising number: each hands its least leaf to its father, and puts its climb.
+fn put_all(n: usize, count: usize, most: u16, work: &mut [u16])
+    requires { ⌜ (n ≤ 1600) × (length (now work) ≡ 5 * n) × (count ≤ n) × FathersRise n count (now work) × OwnLabels n count (now work) ⌝ }
     ensures { λ _. ⌜ ClimbsBefore n count most count (now (work .entry)) (now (work .exit)) ⌝ }
 {
     let mut i = 0;
@@ -53,11 +53,11 @@ fn put_each(n: usize, count: usize, most: u16, work: &mut [u16])
     }
 }
 
-// Puts the climb of each leaf of count nodes in the place of its father; the fifth block is used up.
+// Puts the climb of each leaf of count nodes in the place of its father; the fifth block is overwritten.
 pub fn put_climbs(n: usize, count: usize, most: u16, work: &mut [u16])
     requires { ⌜ (n ≤ 1600) × (length (now work) ≡ 5 * n) × (count ≤ n) × FathersRise n count (now work) ⌝ }
     ensures { λ _. ⌜ Climbs n count most (now (work .entry)) (now (work .exit)) ⌝ }
 {
     label_nodes(n, count, work);
-    put_each(n, count, most, work);
+    put_all(n, count, most, work);
 }

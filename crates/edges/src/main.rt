@@ -124,7 +124,7 @@ fn print_bytes(total: u32)
     print_file(40, 40, 255, 1600, total as usize - LARGEST_FILE, ALONE, b"");
 }
 
-// The case of a file of some first bytes and so many pixels.
+// The case of a file: its first bytes, then so many pixels.
 fn print_headed(name: &[u8], header: &[u8], count: u32)
     requires { ⌜ (length (now header) ≤ 64) × (count ≤ 6) ⌝ }
 {

@@ -7,7 +7,7 @@ use native.Mathlib.Decide.{ℕ-discrete, decLt}
 use native.Mathlib.Omega.{arith}
 use lib.ListN.{set}
 use Rattle.lists.specs.Blocks.{blockEntry}
-use Rattle.topology.proofs.Climb.{Up, stay, rise}
+use Rattle.topology.proofs.Climb.{Up, stay, rise, up-trans}
 use Rattle.least_labels.specs.LeastLabels.{Handed, top, lowered, stayed, LeastOf, Through, own, by, LeastThrough}
 
 -- the three cases of a node, its father f
@@ -65,14 +65,10 @@ up-last (rise {a = i} h f u) =
     (λ w. let (s, b, c, e, v) = w in inr (s, b, c, e, rise h f v))
     (up-last u)
 
-up-more : {P : ℕ → ℕ} {m a j s : ℕ} → s < m → P s < m → P s ≡ a → Up P m s j → Up P m a j
-up-more {P} {m} {s = s} b c e stay = subst (λ (z : ℕ). Up P m z s) e (rise b c stay)
-up-more b c e (rise h f u) = rise h f (up-more b c e u)
-
 module _ {P : ℕ → ℕ} {m : ℕ} where
   through-up : (i : ℕ) {a j : ℕ} → a < m → Through P m i a j → Up P m a j
   through-up i {a} b (own e) = subst (λ (z : ℕ). Up P m a z) (sym e) stay
-  through-up i b (by s h c e u) = up-more c (omega arith) e u
+  through-up i {a} b (by s h c e u) = up-trans (subst (λ (z : ℕ). Up P m z s) e (rise c (omega arith) stay)) u
 
   -- nothing new below a node that is not the father of i
   earlier : {i a j : ℕ} → P i ≢ a → Through P m (i + 1) a j → Through P m i a j

@@ -5,7 +5,7 @@ ghost use Prim.Native.Nat.{_*_, _≤_, _<_};
 ghost use lib.ListN.{length};
 ghost use Rattle.least_labels.specs.LeastLabels.{Handed};
 
-// Lowers the label of the father of the node i to that of i; the root has no father.
+// Lowers the label of the father of the node i to that of i, where that is less; the root has no father.
 pub fn hand_up(n: usize, i: usize, work: &mut [u16])
     requires { ⌜ (n ≤ 1600) × (length (now work) ≡ 5 * n) × (i < n) ⌝ }
     ensures { λ _. ⌜ Handed n i (now (work .entry)) (now (work .exit)) ⌝ }

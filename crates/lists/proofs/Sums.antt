@@ -70,7 +70,7 @@ total-most f d y l h =
     (total-bounded d (map f (range y l))
     (λ i b. let e = getD-map-range f 0 y l i (omega arith) in let q = h (y + i) (omega arith) in omega arith))
 
--- the largest member under a bound
+-- no member is above the largest
 pub highest-least : (l : List ℕ) (i : ℕ) → getD l i 0 ≤ highest l
 highest-least [] i = omega arith
 highest-least (x ∷ xs) zero =
@@ -79,6 +79,7 @@ highest-least (x ∷ xs) (suc i) =
     let r = highest-least xs i in
     on-pick (λ (v : ℕ). getD xs i 0 ≤ v) (leb (highest xs) x) (λ e. let g = leb-true (highest xs) x e in omega arith) (λ e. r)
 
+-- the largest member under a bound
 pub highest-most : (d : ℕ) (l : List ℕ) → ((i : ℕ) → getD l i 0 ≤ d) → highest l ≤ d
 highest-most d [] f = omega arith
 highest-most d (x ∷ xs) f =
@@ -96,14 +97,7 @@ highest-next l i most r some h e q =
     (ap (λ (m : ℕ). pick (leb m v) v m) (e ∙ ap (λ (k : ℕ). highest (drop k l)) (sym up)) ∙
     sym (ap highest (drop-cons l (i - 1) 0 b)))
 
--- the least member is a member, and at most each
-pub lowest-in : (d x : ℕ) (xs : List ℕ) → List·Memᴰ (lowest d (x ∷ xs)) (x ∷ xs)
-lowest-in d x [] = on-pick (λ (v : ℕ). List·Memᴰ v (x ∷ [])) (leb x x) (λ e. List·Memᴰ·head refl) (λ e. List·Memᴰ·head refl)
-lowest-in d x (y ∷ ys) =
-    on-pick (λ (v : ℕ). List·Memᴰ v (x ∷ (y ∷ ys))) (leb x (lowest x (y ∷ ys)))
-    (λ e. List·Memᴰ·head refl)
-    (λ e. List·Memᴰ·tail (lowest-in x y ys))
-
+-- the least member is at most each, and a member
 pub lowest-least : {y : ℕ} (d : ℕ) (l : List ℕ) → List·Memᴰ y l → lowest d l ≤ y
 lowest-least d [] m = absurd (List·Memᴰ·not-nil m)
 lowest-least {y} d (x ∷ xs) m =
@@ -118,6 +112,13 @@ lowest-least {y} d (x ∷ xs) m =
     (λ e. let g = leb-true x (lowest x xs) e in omega arith)
     (λ e. r))
     (List·Memᴰ·cases-cons m)
+
+lowest-in : (d x : ℕ) (xs : List ℕ) → List·Memᴰ (lowest d (x ∷ xs)) (x ∷ xs)
+lowest-in d x [] = on-pick (λ (v : ℕ). List·Memᴰ v (x ∷ [])) (leb x x) (λ e. List·Memᴰ·head refl) (λ e. List·Memᴰ·head refl)
+lowest-in d x (y ∷ ys) =
+    on-pick (λ (v : ℕ). List·Memᴰ v (x ∷ (y ∷ ys))) (leb x (lowest x (y ∷ ys)))
+    (λ e. List·Memᴰ·head refl)
+    (λ e. List·Memᴰ·tail (lowest-in x y ys))
 
 -- a member that is at most each is the least
 pub lowest-is : {v : ℕ} (d : ℕ) (l : List ℕ) → List·Memᴰ v l → ((u : ℕ) → List·Memᴰ u l → v ≤ u) → lowest d l ≡ v

@@ -1,6 +1,7 @@
--- Patches: the regional minima, their records, and the patch of a place.
+-- Patches: the regional minima, which of them is deeper, their depths and records, and the patch of a place.
 use mathlib.Core.Path.{_≡_}
 use mathlib.Core.Bool.{Bool, true, false, _&&_, _||_}
+use mathlib.Core.Logic.{_≢_}
 use mathlib.Core.List.{List, [], _∷_, map, List·Memᴰ}
 use Prim.Native.Nat.{ℕ, suc, _-_, _*_, _/_, _≤_}
 use lib.Dec.{eqb, ltb}
@@ -59,9 +60,19 @@ Passes-of-patches =
     (p : Picture) → isPicture p ≡ true → (m n : Node) → List·Memᴰ m (patchNodes p) → List·Memᴰ n (patchNodes p) →
     (x y : ℕ) → isIn x (componentOf p m) ≡ true → isIn y (componentOf p n) ≡ true → pass p x y ≡ pass p (m .first) (n .first)
 
--- no climb ends below its patch, so that climb and depth say the same
+-- no climb ends below its patch, so the difference cuts nothing off
 abbrev pub Climbs-above : Type 0
 Climbs-above = (p : Picture) → isPicture p ≡ true → (n : Node) → List·Memᴰ n (patchNodes p) → n .height ≤ climbOf p n
+
+-- n is the deepest patch: none is deeper, and it is deeper than every other
+pub record Deepest (p : Picture) (n : Node) : Type 0 where
+  pub patch : List·Memᴰ n (patchNodes p)
+  pub none : (m : Node) → List·Memᴰ m (patchNodes p) → deeper p m n ≡ false
+  pub others : (m : Node) → List·Memᴰ m (patchNodes p) → m ≢ n → deeper p n m ≡ true
+
+-- there is a deepest patch; by what it says there is no other
+abbrev pub Deepest-one : Type 0
+Deepest-one = (p : Picture) → isPicture p ≡ true → (n : Node) × Deepest p n
 
 -- number from 1, size in pixels, height, depth, sum of columns, sum of rows
 pub record Patch : Type 0 where

@@ -1,6 +1,6 @@
 -- The climb from two nodes to their nearest common ancestor, whose height decides at which heights two places are joined.
 use mathlib.Core.Path.{_≡_, sym, ap, subst, _∙_}
-use mathlib.Core.Logic.{⊎-elim, by-cases, _↔_}
+use mathlib.Core.Logic.{_⊎_, inl, inr, ⊎-elim, by-cases, _↔_}
 use Prim.Native.Nat.{ℕ, zero, suc, _+_, _-_, _≤_, _<_}
 use native.Mathlib.Decide.{decLe, decLt}
 use native.Mathlib.Omega.{arith}
@@ -23,6 +23,33 @@ use Rattle.topology.proofs.Grid.{picture-joined}
 pub data Up (P : ℕ → ℕ) (m c : ℕ) : ℕ → Type 0 where
   stay : Up P m c c
   rise : {a : ℕ} → a < m → P a < m → Up P m c (P a) → Up P m c a
+
+module _ {P : ℕ → ℕ} {m : ℕ} where
+  pub up-trans : {a b c : ℕ} → Up P m c b → Up P m b a → Up P m c a
+  up-trans u stay = u
+  up-trans u (rise h f v) = rise h f (up-trans u v)
+
+  -- two ancestors of one node
+  pub up-chain : {a c d : ℕ} → Up P m c a → Up P m d a → Up P m c d ⊎ Up P m d c
+  up-chain stay v = inr v
+  up-chain (rise h f u) stay = inl (rise h f u)
+  up-chain (rise h f u) (rise g e v) = up-chain u v
+
+  -- what has an ancestor among the nodes is a node
+  pub up-from : {a j : ℕ} → a < m → Up P m a j → j < m
+  up-from h stay = h
+  up-from h (rise g f u) = g
+
+  pub up-same : {Q : ℕ → ℕ} → ((i : ℕ) → i < m → P i ≡ Q i) → {a j : ℕ} → Up P m a j → Up Q m a j
+  up-same e stay = stay
+  up-same {Q} e {a} (rise {a = j} h f u) =
+      let q = e j h in
+      rise h (omega arith) (subst (λ (z : ℕ). Up Q m a z) q (up-same e u))
+
+  -- numbers rise on the way up
+  pub up-rises : ((i : ℕ) → i < m → P i < m → i < P i) → {a j : ℕ} → Up P m a j → j ≤ a
+  up-rises r stay = omega arith
+  up-rises r (rise {a = j} h f u) = let q = r j h f in let w = up-rises r u in omega arith
 
 -- the climb: the smaller of two numbers goes to its father until they meet
 pub data Meet (P : ℕ → ℕ) : ℕ → ℕ → ℕ → Type 0 where
@@ -154,11 +181,11 @@ module _ (p : Picture) (ok : Accepted p) where
       (under-up p k x (omega arith) s)
 
   -- an ancestor of a place's node is its node at some height
-  record Reach (x r : ℕ) : Type 0 where
-    height : ℕ
-    low : height ≤ 255
-    place : At p height x
-    is : under p height x ≡ r
+  pub record Reach (x r : ℕ) : Type 0 where
+    pub height : ℕ
+    pub low : height ≤ 255
+    pub place : At p height x
+    pub is : under p height x ≡ r
 
   -- one step up
   reach-father : (x a : ℕ) → Reach x a → father p a < length (nodes p) → Reach x (father p a)
@@ -183,9 +210,23 @@ module _ (p : Picture) (ok : Accepted p) where
             is = under-fork p h x (ap (isBranch p h) same ∙ e) ∙ (ap (numberOf p h) same ∙ sym g);
           })
 
-  up-reach : (x : ℕ) {r a : ℕ} → Reach x a → Up (father p) (length (nodes p)) r a → Reach x r
+  pub up-reach : (x : ℕ) {r a : ℕ} → Reach x a → Up (father p) (length (nodes p)) r a → Reach x r
   up-reach x h stay = h
   up-reach x h (rise {a} b c u) = up-reach x (reach-father x a h c) u
+
+  -- a place is joined to an ancestor of its node from the ancestor's height on
+  pub reach-joined : (z r : ℕ) → Reach z r → (k : ℕ) → k ≤ 255 → nodeAt p r .height ≤ k → At p k z → Joined p k z (nodeAt p r .first)
+  reach-joined z r h k b l s =
+      by-cases (decLe (h .height) k)
+      (λ w. joined-mono p w (subst (λ (i : ℕ). Joined p (h .height) z (nodeAt p i .first)) (h .is) (under-is p (h .height) z (h .low) (h .place) .joined)))
+      (λ w.
+      let q =
+      under-down p (h .height) k z (h .low) (h .place)
+      (subst (λ (i : ℕ). nodeAt p i .height ≤ k) (sym (h .is)) l)
+      (omega arith)
+      s
+      in
+      subst (λ (i : ℕ). Joined p k z (nodeAt p i .first)) (q ∙ h .is) (under-is p k z b s .joined))
 
   -- what two places have in common
   module _ (x y : ℕ) (bx : x < places p) (by : y < places p) where
@@ -206,32 +247,13 @@ module _ (p : Picture) (ok : Accepted p) where
     meet-up {a} {b} h g (right l n) =
         let f = father-of b (omega arith) in let u = meet-up h f n in (u .0, rise g f (u .1))
 
-    -- numbers rise on the way up
-    up-rises : {c a : ℕ} → Up (father p) (length (nodes p)) c a → a ≤ c
-    up-rises stay = omega arith
-    up-rises (rise {a} h f u) = let g = father-greater a h f in let w = up-rises u in omega arith
-
     -- no common ancestor has a smaller number than the node where the climbs meet
     meet-least : {a b r c : ℕ} → Meet (father p) a b r → Up (father p) (length (nodes p)) c a → Up (father p) (length (nodes p)) c b → r ≤ c
-    meet-least same u v = up-rises u
-    meet-least (left l n) stay v = absurd (let w = up-rises v in omega arith)
+    meet-least same u v = up-rises father-greater u
+    meet-least (left l n) stay v = absurd (let w = up-rises father-greater v in omega arith)
     meet-least (left l n) (rise h f u) v = meet-least n u v
-    meet-least (right l n) u stay = absurd (let w = up-rises u in omega arith)
+    meet-least (right l n) u stay = absurd (let w = up-rises father-greater u in omega arith)
     meet-least (right l n) u (rise h f v) = meet-least n u v
-
-    -- a place is joined to an ancestor of its node from the ancestor's height on
-    reach-joined : (z r : ℕ) → Reach z r → (k : ℕ) → k ≤ 255 → nodeAt p r .height ≤ k → At p k z → Joined p k z (nodeAt p r .first)
-    reach-joined z r h k b l s =
-        by-cases (decLe (h .height) k)
-        (λ w. joined-mono p w (subst (λ (i : ℕ). Joined p (h .height) z (nodeAt p i .first)) (h .is) (under-is p (h .height) z (h .low) (h .place) .joined)))
-        (λ w.
-        let q =
-        under-down p (h .height) k z (h .low) (h .place)
-        (subst (λ (i : ℕ). nodeAt p i .height ≤ k) (sym (h .is)) l)
-        (omega arith)
-        s
-        in
-        subst (λ (i : ℕ). Joined p k z (nodeAt p i .first)) (q ∙ h .is) (under-is p k z b s .joined))
 
     -- two places are joined at a height exactly if their nodes' nearest common ancestor is no higher
     pub meet-joined : {r : ℕ} → Meet (father p) (mapOf p x) (mapOf p y) r → (k : ℕ) → k ≤ 255 → At p k x → At p k y → Joined p k x y ↔ (nodeAt p r .height ≤ k)

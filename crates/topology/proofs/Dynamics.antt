@@ -1,9 +1,9 @@
 -- The climb from a patch to a deeper one, by the tree: a patch is deeper if its leaf has a smaller number, and its climb ends at the first ancestor with a smaller leaf below it.
 use mathlib.Core.Path.{_≡_, sym, ap, ap₂, subst, _∙_}
-use mathlib.Core.Bool.{true, _&&_}
+use mathlib.Core.Bool.{true, false, _&&_}
 use mathlib.Core.Logic.{_⊎_, inl, inr, ⊎-elim, _≢_, by-cases}
 use mathlib.Core.List.{List, map, List·Memᴰ, Memᴰ·map, Memᴰ·of-map}
-use Prim.Native.Nat.{ℕ, _≤_, _<_}
+use Prim.Native.Nat.{ℕ, _-_, _≤_, _<_}
 use native.Mathlib.Decide.{ℕ-discrete, decLe, decLt}
 use native.Mathlib.Omega.{arith}
 use lib.Dec.{eqb, ltb}
@@ -13,24 +13,23 @@ use Rattle.lists.specs.Lists.{select, isIn, highest, lowest}
 use Rattle.picture.specs.Pictures.{Picture, places, valueAt}
 use Rattle.picture.specs.Passes.{pass}
 use Rattle.picture.specs.Trees.{Node, nodes, nodeAt, componentOf}
-use Rattle.picture.specs.Patches.{patchNodes, patchAt, deeper, deeperPasses, climbOf, depthOf, Passes-of-patches, Climbs-above}
+use Rattle.picture.specs.Patches.{patchNodes, patchAt, deeper, deeperPasses, climbOf, depthOf, Passes-of-patches, Climbs-above, Deepest, Deepest-one}
 use Rattle.lists.proofs.Tests.{and-left, and-right, and-both, or-cases, or-left, or-right, test-false}
 use Rattle.lists.proofs.Lists.{select-mem, mem-select, select-none}
 use Rattle.lists.proofs.Positions.{tally-rises}
 use Rattle.lists.proofs.Sums.{lowest-is, on-lowest, highest-least, highest-most}
 use Rattle.topology.proofs.Connected.{start, conn-source, conn-target, conn-trans}
 use Rattle.topology.proofs.Adjacency.{Joined, joined-sym, joined-mono}
-use Rattle.topology.proofs.Accepted.{Accepted, accepted-is, value-byte}
+use Rattle.topology.proofs.Accepted.{Accepted, accepted-is, places-some, value-byte}
 use Rattle.topology.proofs.Reached.{in-joined}
-use Rattle.topology.proofs.Nodes.{node-is}
-use Rattle.topology.proofs.Descent.{under-is}
-use Rattle.topology.proofs.Climb.{stay, rise, father}
-use Rattle.topology.proofs.Tree.{one-root}
+use Rattle.topology.proofs.Nodes.{node-is, node-order}
+use Rattle.topology.proofs.Descent.{under-is, map-found}
+use Rattle.topology.proofs.Climb.{stay, rise, up-trans, up-chain, up-from, father, last-root}
 use Rattle.topology.proofs.Passes.{pass-most, pass-byte, pass-joined}
 use Rattle.topology.proofs.Leaves.{bottom, leaf-sound}
 use Rattle.topology.proofs.PatchFigures.{bottom-number}
 use Rattle.topology.proofs.LeafNodes.{leafNode, leaf-bottom}
-use Rattle.topology.proofs.LeavesBelow.{Below, Least, up-trans, up-chain, up-from, up-height, up-joined, joined-up, leaf-value, least-leaf, root-above, node-order, patch-leaf-node, leaf-node-patch}
+use Rattle.topology.proofs.LeavesBelow.{Below, Least, up-height, up-joined, joined-up, leaf-value, least-leaf, root-above, patch-leaf-node, leaf-node-patch}
 
 -- what deeper says
 module _ (p : Picture) (m n : Node) where
@@ -73,12 +72,12 @@ module _ (p : Picture) (ok : Accepted p) where
 
   -- a patch is deeper exactly if its leaf has a smaller number
   module _ (i j : ℕ) (a : i < length (nodes p)) (b : j < length (nodes p)) (l : leafNode p i ≡ true) (k : leafNode p j ≡ true) where
-    pub less-deeper : i < j → deeper p (nodeAt p i) (nodeAt p j) ≡ true
+    less-deeper : i < j → deeper p (nodeAt p i) (nodeAt p j) ≡ true
     less-deeper h =
         is-deeper p (nodeAt p i) (nodeAt p j)
         (⊎-elim (λ g. inl g) (λ g. inr (g .0, numbers-rise i j a b l k (g .1))) (node-order p i j h b))
 
-    pub deeper-less : deeper p (nodeAt p i) (nodeAt p j) ≡ true → i < j
+    deeper-less : deeper p (nodeAt p i) (nodeAt p j) ≡ true → i < j
     deeper-less h =
         by-cases (decLt i j)
         (λ g. g)
@@ -194,7 +193,7 @@ module _ (p : Picture) (ok : Accepted p) where
         less = let q = k .least j under in by-cases (decLt w j) (λ g. g) (λ g. absurd (d (omega arith)))
 
         joined : Joined p (nodeAt p f .height) y (nodeAt p w .first)
-        joined = conn-trans (up-joined p ok jb under) (joined-sym p (nodeAt p f .height) (up-joined p ok wb (k .below)))
+        joined = conn-trans (up-joined p ok fb jb under) (joined-sym p (nodeAt p f .height) (up-joined p ok fb wb (k .below)))
 
         ends : pass p y (nodeAt p w .first) ≡ nodeAt p f .height
         ends =
@@ -213,7 +212,7 @@ module _ (p : Picture) (ok : Accepted p) where
         (λ h.
         let (k, kb, kl, g) = patch-leaf-node p m in
         let less = deeper-less k j kb jb kl jl (subst (λ (n : Node). deeper p n (nodeAt p j) ≡ true) (sym g) h) in
-        let q = l .least k (root-above p ok k s kb (one-root p ok s sb .0 e)) in
+        let q = l .least k (root-above p ok k s kb sb e) in
         omega arith)))
 
   -- a climb ends no lower than its patch, at a byte
@@ -284,3 +283,37 @@ passes-of-patches p h m n a b x y i j =
     (subst (λ (o : Node). isIn x (componentOf p o) ≡ true) (sym e) i)
     (subst (λ (o : Node). isIn y (componentOf p o) ≡ true) (sym q) j) ∙
     ap₂ (λ (u v : Node). pass p (u .first) (v .first)) e q
+
+-- the deepest patch is the leaf of number 0
+pub deepest-one : Deepest-one
+deepest-one p h = (nodeAt p 0, record { patch = leaf-node-patch p 0 b l; none = none; others = others })
+  where
+    ok : Accepted p
+    ok = accepted-is p h
+
+    root : ℕ
+    root = length (nodes p) - 1
+
+    some : 1 ≤ length (nodes p)
+    some = let m = map-found p ok 0 (places-some p ok) in omega arith
+
+    b : 0 < length (nodes p)
+    b = some
+
+    l : leafNode p 0 ≡ true
+    l =
+        let c : root < length (nodes p) = omega (arith, some) in
+        least-leaf p ok root 0 c
+        (record { below = root-above p ok 0 root b c (last-root p ok root (omega (arith, some))); least = λ k u. omega arith })
+
+    none : (m : Node) → List·Memᴰ m (patchNodes p) → deeper p m (nodeAt p 0) ≡ false
+    none m i =
+        let (k, kb, kl, e) = patch-leaf-node p i in
+        test-false (deeper p m (nodeAt p 0))
+        (λ d. let q = deeper-less p ok k 0 kb b kl l (subst (λ (n : Node). deeper p n (nodeAt p 0) ≡ true) (sym e) d) in omega arith)
+
+    others : (m : Node) → List·Memᴰ m (patchNodes p) → m ≢ nodeAt p 0 → deeper p (nodeAt p 0) m ≡ true
+    others m i d =
+        let (k, kb, kl, e) = patch-leaf-node p i in
+        let z : k ≢ 0 = λ q. d (sym e ∙ ap (nodeAt p) q) in
+        subst (λ (n : Node). deeper p (nodeAt p 0) n ≡ true) e (less-deeper p ok 0 k b kb l kl (omega (arith, z)))

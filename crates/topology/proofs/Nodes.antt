@@ -1,9 +1,10 @@
 -- The nodes of the tree: which components they are, each found by its number, no more of them than places.
 use mathlib.Core.Path.{_≡_, refl, sym, ap, ap₂, subst, _∙_}
 use mathlib.Core.Bool.{Bool, false, _&&_, not}
-use mathlib.Core.Logic.{_⊎_, inl, inr, ⊎-elim}
+use mathlib.Core.Logic.{_⊎_, inl, inr, ⊎-elim, by-cases}
 use mathlib.Core.List.{List, [], _∷_, _++_, map, map-map, List·Memᴰ, List·Memᴰ·not-nil, List·Memᴰ·append-cases, Memᴰ·append-left, Memᴰ·append-right, Memᴰ·map, Memᴰ·of-map}
 use Prim.Native.Nat.{ℕ, zero, suc, _+_, _≤_, _<_}
+use native.Mathlib.Decide.{decLt}
 use native.Mathlib.Omega.{arith}
 use lib.Dec.{eqb}
 use lib.ListN.{length, getD}
@@ -149,13 +150,14 @@ sorted-later {k} {y} (next {n = n} {ns} g s) (suc i) h =
     ⊎-elim (λ b. inl (omega arith)) (λ b. let c = b .0 in let d = b .1 in inr (omega arith, omega arith)) g)
     (sorted-later s i (omega arith))
 
-sorted-heights : {k y : ℕ} {ns : List Node} → Sorted k y ns → (i j : ℕ) → i ≤ j → j < length ns → getD ns i (node 0 0) .height ≤ getD ns j (node 0 0) .height
-sorted-heights end i j a b = absurd (omega arith)
-sorted-heights (next g s) zero zero a b = omega arith
-sorted-heights (next g s) zero (suc j) a b =
-    ⊎-elim (λ c. omega arith) (λ c. let d = c .0 in omega arith) (sorted-later s j (omega arith))
-sorted-heights (next g s) (suc i) zero a b = absurd (omega arith)
-sorted-heights (next g s) (suc i) (suc j) a b = sorted-heights s i j (omega arith) (omega arith)
+sorted-order :
+    {k y : ℕ} {ns : List Node} → Sorted k y ns → (i j : ℕ) → i < j → j < length ns →
+    (getD ns i (node 0 0) .height < getD ns j (node 0 0) .height) ⊎
+    ((getD ns i (node 0 0) .height ≡ getD ns j (node 0 0) .height) × (getD ns i (node 0 0) .first < getD ns j (node 0 0) .first))
+sorted-order end i j a b = absurd (omega arith)
+sorted-order (next g s) i zero a b = absurd (omega arith)
+sorted-order (next g s) zero (suc j) a b = sorted-later s j (omega arith)
+sorted-order (next g s) (suc i) (suc j) a b = sorted-order s i j (omega arith) (omega arith)
 
 -- the number of a node is its index
 number-index : {k y : ℕ} {ns : List Node} → Sorted k y ns → (b i : ℕ) → i < length ns → numberFrom b (getD ns i (node 0 0) .height) (getD ns i (node 0 0) .first) ns ≡ b + i
@@ -180,9 +182,17 @@ module _ (p : Picture) where
   pub number-at : (i : ℕ) → i < length (nodes p) → numberFrom 0 (nodeAt p i .height) (nodeAt p i .first) (nodes p) ≡ i
   number-at i h = number-index (nodes-sorted p) 0 i h ∙ omega arith
 
-  -- heights rise with the numbers
+  -- a node of a smaller number is lower, or as high with a smaller first place
+  pub node-order :
+      (i j : ℕ) → i < j → j < length (nodes p) →
+      (nodeAt p i .height < nodeAt p j .height) ⊎ ((nodeAt p i .height ≡ nodeAt p j .height) × (nodeAt p i .first < nodeAt p j .first))
+  node-order i j a b = sorted-order (nodes-sorted p) i j a b
+
   pub heights-rise : (i j : ℕ) → i ≤ j → j < length (nodes p) → nodeAt p i .height ≤ nodeAt p j .height
-  heights-rise i j a b = sorted-heights (nodes-sorted p) i j a b
+  heights-rise i j a b =
+      by-cases (decLt i j)
+      (λ h. ⊎-elim (λ g. omega arith) (λ g. let e = g .0 in omega arith) (node-order i j h b))
+      (λ h. let e : i ≡ j = omega arith in let q = ap (λ (k : ℕ). nodeAt p k .height) e in omega arith)
 
   pub node-equal : (i j : ℕ) → i < length (nodes p) → j < length (nodes p) → nodeAt p i ≡ nodeAt p j → i ≡ j
   node-equal i j a b e =

@@ -11,7 +11,7 @@ use Rattle.picture.specs.Pictures.{Picture, places}
 use Rattle.picture.specs.Trees.{Node, nodesAt, nodesFrom, nodes, nodeAt}
 use Rattle.lists.specs.Lists.{select, range}
 use Rattle.lists.proofs.Lists.{getD-map}
-use Rattle.topology.proofs.Nodes.{node, isNode, nodes-at, nodes-few, Sorted, end, next, sorted-later, nodes-sorted}
+use Rattle.topology.proofs.Nodes.{node, isNode, nodes-at, nodes-few, node-order}
 
 -- the number of nodes below height k
 unfoldable pub soFar : Picture → ℕ → ℕ
@@ -129,14 +129,6 @@ module _ (p : Picture) where
       (λ g. g)
       (λ g. absurd (let a = so-mono k (nodeAt p i .height) (omega arith) in omega arith))
 
-sorted-pair :
-    {k y : ℕ} {ns : List Node} → Sorted k y ns → (i j : ℕ) → i < j → j < length ns →
-    (getD ns i (node 0 0) .height < getD ns j (node 0 0) .height) ⊎ ((getD ns i (node 0 0) .height ≡ getD ns j (node 0 0) .height) × (getD ns i (node 0 0) .first < getD ns j (node 0 0) .first))
-sorted-pair end i j h b = absurd (omega arith)
-sorted-pair (next g s) i zero h b = absurd (omega arith)
-sorted-pair (next g s) zero (suc j) h b = sorted-later s j (omega arith)
-sorted-pair (next g s) (suc i) (suc j) h b = sorted-pair s i j (omega arith) (omega arith)
-
 -- first places rise within a height
 pub firsts-rise : (p : Picture) (i j : ℕ) → i < j → j < length (nodes p) → nodeAt p i .height ≡ nodeAt p j .height → nodeAt p i .first < nodeAt p j .first
-firsts-rise p i j h b e = ⊎-elim (λ g. absurd (omega arith)) (λ g. g .1) (sorted-pair (nodes-sorted p) i j h b)
+firsts-rise p i j h b e = ⊎-elim (λ g. absurd (omega arith)) (λ g. g .1) (node-order p i j h b)

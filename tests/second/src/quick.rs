@@ -284,18 +284,18 @@ pub fn pass(picture: &Picture, one: usize, other: usize) -> i32 {
         .unwrap()
 }
 
-/// The steps between neighbours, lowest first: the height at which a section
-/// has both in it, and the two places.
-fn steps(picture: &Picture, neighbours: &[Vec<usize>]) -> Vec<(i32, usize, usize)> {
-    let mut steps = Vec::new();
+/// The pairs of neighbours, lowest first: the height at which a section has
+/// both in it, and the two places.
+fn neighbour_pairs(picture: &Picture, neighbours: &[Vec<usize>]) -> Vec<(i32, usize, usize)> {
+    let mut pairs = Vec::new();
     for (place, others) in neighbours.iter().enumerate() {
         for other in others {
             let height = picture.value(place).max(picture.value(*other));
-            steps.push((height, place, *other));
+            pairs.push((height, place, *other));
         }
     }
-    steps.sort();
-    steps
+    pairs.sort();
+    pairs
 }
 
 /// The deepest place of the part that has this place in it. Each place knows a
@@ -313,14 +313,14 @@ fn deepest(deeper: &mut [usize], place: usize) -> usize {
 /// for the deepest of all, which never stops, the largest value.
 ///
 /// At first every place is a part, and each step joins two parts or none. After
-/// the steps of a height the parts are the components of that height. Deeper is
+/// the pairs of a height the parts are the components of that height. Deeper is
 /// the place of smaller value, among equals the one that comes first, and
 /// patches are numbered by first place. So the deepest place of a component is
 /// the first place of its deepest patch.
 fn meetings(picture: &Picture, neighbours: &[Vec<usize>]) -> Vec<i32> {
     let mut meetings = vec![picture.largest_value(); picture.count()];
     let mut deeper: Vec<usize> = (0..picture.count()).collect();
-    for (height, one, other) in steps(picture, neighbours) {
+    for (height, one, other) in neighbour_pairs(picture, neighbours) {
         let mut ends = [one, other].map(|place| deepest(&mut deeper, place));
         ends.sort_by_key(|place| (picture.value(*place), *place));
         let [kept, lost] = ends;

@@ -87,18 +87,23 @@ pub fn depths() -> Vec<(Picture, Vec<i32>)> {
     ]
 }
 
-/// Places of a corridor that winds through 40 by 40 pixels: the even rows, from
-/// left to right and back by turns, each with the place that leads to the next.
+/// The largest side of a picture.
+const SIDE: usize = 40;
+
+/// Places of a corridor that winds through the largest picture: the even rows,
+/// from left to right and back by turns, each with the place that leads to the
+/// next.
 fn corridor() -> Vec<usize> {
     let mut places = Vec::new();
-    for turn in 0..20 {
-        let row = 80 * turn..80 * turn + 40;
-        if turn % 2 == 0 {
-            places.extend(row);
-            places.push(80 * turn + 79);
+    for row in (0..SIDE).step_by(2) {
+        let next = (row + 1) * SIDE;
+        let along = row * SIDE..next;
+        if row % 4 == 0 {
+            places.extend(along);
+            places.push(next + SIDE - 1);
         } else {
-            places.extend(row.rev());
-            places.push(80 * turn + 40);
+            places.extend(along.rev());
+            places.push(next);
         }
     }
     places
@@ -109,15 +114,15 @@ fn corridor() -> Vec<usize> {
 /// only deeper one, past 251 forks. Each hold between has a pass that is higher
 /// by 1 to the one before it. Then the same with all places in reverse.
 pub fn staircases() -> [(Picture, Vec<i32>); 2] {
-    let mut rising = vec![255; 1600];
+    let mut rising = vec![255; SIDE * SIDE];
     let values = (1..=252).flat_map(|hold| [hold, hold + 2]).chain([0]);
     for (place, value) in corridor().into_iter().zip(values) {
         rising[place] = value;
     }
     let falling: Vec<u8> = rising.iter().rev().copied().collect();
     let picture = |pixels| Picture {
-        width: 40,
-        height: 40,
+        width: SIDE,
+        height: SIDE,
         pixels,
         adjacency: Adjacency::Four,
     };

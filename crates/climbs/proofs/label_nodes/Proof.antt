@@ -3,13 +3,13 @@ use mathlib.Core.Path.{refl}
 use Prim.Native.Nat.{_-_, _≤_}
 use native.Mathlib.Omega.{arith}
 use Rattle.lists.proofs.Blocks.{overwritten-start, overwritten-more, overwritten-end}
-use Rattle.climbs.specs.Climbs.{OwnNumbers}
+use Rattle.climbs.specs.Climbs.{NodesLabelled}
 use borrow.Author.Needs.{needs}
 use Rattle.climbs.proofs.label_nodes.Statement.{statement}
 use Rattle.climbs.proofs.label_nodes.Tie as tie
 
 abbrev Inv-loop : tie.InvT-loop
-Inv-loop n count work₀ m₀ work m = (m ≤ count) × OwnNumbers n m work₀ work
+Inv-loop n count work₀ m₀ work m = (m ≤ count) × NodesLabelled n m work₀ work
 
 abbrev μ-loop : tie.MeasureT-loop
 μ-loop n count work₀ m₀ work m = count - m

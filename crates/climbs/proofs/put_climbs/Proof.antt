@@ -1,6 +1,6 @@
--- `climbs::put_climbs` meets its contract: the labels, and the pass over the fathers.
+-- `climbs::put_climbs` meets its contract: the labels, then the climbs node by node.
 use mathlib.Core.Path.{_∙_}
-use Rattle.climbs.proofs.Climbs.{labelled-numbers, labelled-rise, climbs-all}
+use Rattle.climbs.proofs.Climbs.{labelled-own, labelled-rise, climbs-all}
 use borrow.Author.Needs.{needs}
 use Rattle.climbs.proofs.put_climbs.Statement.{statement}
 use Rattle.climbs.proofs.put_climbs.Tie as tie
@@ -8,12 +8,12 @@ use Rattle.climbs.proofs.put_climbs.Tie as tie
 label-nodes-requires : tie.Need-label-nodes-requires
 label-nodes-requires c κs = search needs
 
-put-each-requires : tie.Need-put-each-requires
-put-each-requires c κs =
+put-all-requires : tie.Need-put-all-requires
+put-all-requires c κs =
     let a = c .before .before .before in
     let s = a .before .before .before in
     let o = a .label-nodes .ensures in
-    (s .pre .0, o .kept .size ∙ s .pre .1, s .pre .2, labelled-rise _ _ _ _ (s .pre .2) o (s .pre .3), labelled-numbers _ _ _ _ (s .pre .2) o)
+    (s .pre .0, o .kept .size ∙ s .pre .1, s .pre .2, labelled-rise _ _ _ _ (s .pre .2) o (s .pre .3), labelled-own _ _ _ _ (s .pre .2) o)
 
 same-length : tie.Need-same-length
 same-length c = search needs
@@ -23,7 +23,7 @@ returns c =
     let d = c .before .before in
     let a = d .before .before .before .before in
     let s = a .before .before .before in
-    climbs-all _ _ _ _ _ _ (s .pre .2) (s .pre .3) (a .label-nodes .ensures) (d .put-each .ensures)
+    climbs-all _ _ _ _ _ _ (s .pre .2) (s .pre .3) (a .label-nodes .ensures) (d .put-all .ensures)
 
 pub put-climbs-spec : {M : Type 1} → statement M
-put-climbs-spec = tie.close (tie.spec label-nodes-requires put-each-requires same-length returns)
+put-climbs-spec = tie.close (tie.spec label-nodes-requires put-all-requires same-length returns)

@@ -1,12 +1,12 @@
--- `climbs::put_each` meets its contract. The invariant: the climbs and labels after the first i nodes; the measure: the nodes left.
+-- `climbs::put_all` meets its contract. The invariant: the climbs and labels after the first i nodes; the measure: the nodes left.
 use mathlib.Core.Path.{_∙_}
 use Prim.Native.Nat.{_-_, _≤_}
 use native.Mathlib.Omega.{arith}
 use Rattle.climbs.specs.Climbs.{ClimbsBefore}
 use Rattle.climbs.proofs.Climbs.{climbs-start, handed-size, handed-leaf, climbs-more, climbs-end}
 use borrow.Author.Needs.{needs}
-use Rattle.climbs.proofs.put_each.Statement.{statement}
-use Rattle.climbs.proofs.put_each.Tie as tie
+use Rattle.climbs.proofs.put_all.Statement.{statement}
+use Rattle.climbs.proofs.put_all.Tie as tie
 
 abbrev Inv-loop : tie.InvT-loop
 Inv-loop n count most work₀ i₀ work i = (i ≤ count) × ClimbsBefore n count most i work₀ work
@@ -55,8 +55,8 @@ same-length c = let z = c .before .loop .inv .1 .kept .size in omega arith
 returns : tie.Need-returns Inv-loop μ-loop
 returns c = climbs-end (c .before .loop .inv .0) (c .loop-test .left) (c .before .loop .inv .1)
 
-pub put-each-spec : {M : Type 1} → statement M
-put-each-spec =
+pub put-all-spec : {M : Type 1} → statement M
+put-all-spec =
     tie.close
     (tie.spec
     Inv-loop
