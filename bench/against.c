@@ -135,8 +135,8 @@ static uint64_t run_in_turn(unsigned call, int is_first)
     return run(call, is_first != before_first);
 }
 
-/* The least times over turns in both orders: the same code takes up to a tenth more or less as the first of a round than
- * as the second. */
+/* The least times over turns in both orders: the same code takes up to an eighth more or less as the first of a round
+ * than as the second. */
 static void measure_in_turns(struct times *least)
 {
     struct times t[CALLS];
