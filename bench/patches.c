@@ -105,21 +105,37 @@ static inline unsigned largest_pixel(unsigned n, const uint8_t *pixels)
     return most;
 }
 
-/* The depth of a patch is that of its leaf below its father, or for the root below the largest pixel. */
+/* Puts the climb of each leaf in the place of its father: the height at which it joins a leaf of a smaller number, which
+ * is deeper, or the most if it joins none. The label of a node is the least leaf below it; labels lie over the numbers of
+ * the leaves. The last node with a leaf's label is the highest one, and its father's height stays. */
+static inline void put_climbs(unsigned n, unsigned count, unsigned most,
+                              uint16_t *restrict work)
+{
+    uint16_t *fathers = work + n, *labels = work + 4 * n;
+    for (unsigned i = 0; i < count; i++)
+        labels[i] = (uint16_t)i;
+    for (unsigned i = 0; i < count; i++) {
+        unsigned father = fathers[i], leaf = labels[i];
+        if (father < n && leaf < labels[father])
+            labels[father] = (uint16_t)leaf;
+        fathers[leaf] = (uint16_t)(father < n ? work[father] : most);
+    }
+}
+
+/* The depth of a patch is that of its leaf below its climb, which stands in the place of the leaf's father. */
 static inline void put_heights(unsigned n, const uint8_t *restrict pixels,
                                const uint16_t *restrict work,
                                const uint16_t *restrict patches,
                                uint16_t *restrict heights,
                                uint16_t *restrict depths)
 {
-    const uint16_t *fathers = work + n, *map = work + 2 * n;
-    unsigned most = largest_pixel(n, pixels), count = 0;
+    const uint16_t *climbs = work + n, *map = work + 2 * n;
+    unsigned count = 0;
     for (unsigned x = 0; x < n; x++) {
         if (patches[x] != count + 1)
             continue;
-        unsigned father = fathers[map[x]];
         heights[count] = pixels[x];
-        depths[count] = (uint16_t)((father < n ? work[father] : most) - pixels[x]);
+        depths[count] = (uint16_t)(climbs[map[x]] - pixels[x]);
         count++;
     }
 }
@@ -170,6 +186,7 @@ static inline void put_figures(struct grid g, const uint8_t *pixels,
     number_leaves(g.n, nodes, work, cells, numbers);
     for (unsigned x = 0; x < g.n; x++)
         cells[x] = (uint16_t)patch_at(g.n, pixels, work, numbers, x);
+    put_climbs(g.n, nodes, largest_pixel(g.n, pixels), work);
     put_heights(g.n, pixels, work, cells, f.heights, f.depths);
     put_sums(g, count, cells, f);
 }
