@@ -25,30 +25,10 @@
 enum { SIZE, HEIGHT, DEPTH, COLUMNS, ROWS };    /* the figures of a patch */
 enum { TREE, PATCHES, CALLS };
 
-typedef uint64_t component_tree_call(
-    uint32_t adjacency, uint32_t width, uint32_t height,
-    const uint8_t *pixels, size_t pixels_len,
-    uint8_t *heights, size_t heights_len,
-    uint16_t *fathers, size_t fathers_len,
-    uint16_t *firsts, size_t firsts_len,
-    uint16_t *map, size_t map_len, uint16_t *work, size_t work_len);
-
-typedef uint64_t list_patches_call(
-    uint32_t adjacency, uint32_t width, uint32_t height,
-    const uint8_t *pixels, size_t pixels_len,
-    uint16_t *sizes, size_t sizes_len,
-    uint16_t *heights, size_t heights_len,
-    uint16_t *depths, size_t depths_len,
-    uint16_t *columns, size_t columns_len,
-    uint16_t *rows, size_t rows_len, uint16_t *work, size_t work_len);
-
-/* The compiler compares these types with the header's. */
-extern component_tree_call controller_component_tree;
-extern list_patches_call controller_list_patches;
-
+/* Of one library, with the types of the header. */
 struct library {
-    component_tree_call *component_tree;
-    list_patches_call *list_patches;
+    __typeof__(controller_component_tree) *component_tree;
+    __typeof__(controller_list_patches) *list_patches;
 };
 
 /* All memory that a call may be lent. */
