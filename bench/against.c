@@ -5,8 +5,8 @@
  * shows how far two times of the same code differ.
  *
  * Before that it compares what both answer on each picture. The depths of
- * patches may differ, and the pictures where they do are counted; anything
- * else that differs ends the program.
+ * patches may differ, and the lists where they do are counted; anything else
+ * that differs ends the program, and so does a refusal.
  */
 
 #include "board_controller.h"
@@ -41,9 +41,9 @@ struct memory {
 static struct library after, before;
 static struct memory lent;      /* to both, so that its place makes no difference */
 static uint8_t pixels[LARGEST_N];
-static uint32_t a;
+static uint32_t a;              /* the adjacency */
 static int before_first;        /* in each round */
-static unsigned other_depths;   /* on how many pictures */
+static unsigned other_depths;   /* in how many lists */
 static double most;             /* of the ratios of the list of patches */
 
 static void *loaded(void *found)
@@ -92,12 +92,13 @@ static void compare(unsigned call, unsigned picture)
     kept = lent;
     memset(&lent, FILLING, sizeof lent);
     uint64_t second = run(call, 0);
-    if (memcmp(kept.figures[DEPTH], lent.figures[DEPTH], sizeof lent.figures[DEPTH]) != 0)
+    size_t depths = call == PATCHES ? controller_value(first) * sizeof lent.figures[DEPTH][0] : 0;
+    if (memcmp(kept.figures[DEPTH], lent.figures[DEPTH], depths) != 0)
         other_depths++;
-    memcpy(kept.figures[DEPTH], lent.figures[DEPTH], sizeof lent.figures[DEPTH]);
+    memcpy(kept.figures[DEPTH], lent.figures[DEPTH], depths);
     if (first == second && controller_refusal(first) == 0 && memcmp(&kept, &lent, sizeof lent) == 0)
         return;
-    printf("%s differs: %s, adjacency %u: %llx %llx\n",
+    printf("%s differs or is refused: %s, adjacency %u: %llx %llx\n",
            call == TREE ? "component_tree" : "list_patches", picture_names[picture], a,
            (unsigned long long)first, (unsigned long long)second);
     exit(1);
@@ -162,7 +163,7 @@ int main(int arguments, char **argument)
     after = library_of(argument[1]);
     before = library_of(argument[2]);
     for_all(compare_one);
-    printf("results: the same, but for depths on %u of %u pictures and adjacencies\n",
+    printf("results: the same, but for depths in %u of %u lists of patches\n",
            other_depths, 2 * PICTURE_COUNT);
     printf("\nTime after over time before, 40 by 40\n");
     printf("\n| picture | adjacency | list_patches | component_tree | list_patches less component_tree |\n");

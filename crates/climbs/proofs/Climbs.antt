@@ -19,28 +19,28 @@ use Rattle.topology.proofs.Nodes.{node-is}
 use Rattle.topology.proofs.Fathers.{father-found}
 use Rattle.topology.proofs.Climb.{Up, up-rises, father, father-greater}
 use Rattle.topology.proofs.LeafNodes.{leafNode}
-use Rattle.topology.proofs.LeavesBelow.{LeastBelow, Least, ChainEnd, least-same, least-one, least-last, chain-end, leaf-least}
+use Rattle.topology.proofs.LeavesBelow.{LeastBelow, Least, ChainEnd, least-same-fathers, least-one, least-last, chain-end, leaf-least}
 use Rattle.topology.proofs.Dynamics.{climb-father, climb-root}
 use Rattle.least_labels.specs.LeastLabels.{Handed, top, lowered, stayed, LeastOf, LeastThrough}
 use Rattle.least_labels.proofs.Labels.{labels-start, labels-final, labels-top, labels-more}
-use Rattle.climbs.specs.Climbs.{NodesLabelled, OwnLabels, FathersRise, heightOr, ClimbPut, ClimbsBefore, HeightsAndFathers, Climbs}
+use Rattle.climbs.specs.Climbs.{NodesLabelled, OwnLabels, FathersRise, heightOrMost, ClimbPut, ClimbsBefore, HeightsAndFathers, Climbs}
 
 -- the height of a node, or the largest value
 module _ (n most : ℕ) (work : List ℕ) (f : ℕ) where
-  pub height-in : f < n → heightOr n most work f ≡ getD work f 0
-  unfolding heightOr
+  pub height-in : f < n → heightOrMost n most work f ≡ getD work f 0
+  unfolding heightOrMost
   height-in h = ap (λ (b : Bool). pick b (getD work f 0) most) (lt-ltb f n h)
 
-  pub height-out : n ≤ f → heightOr n most work f ≡ most
-  unfolding heightOr
+  pub height-out : n ≤ f → heightOrMost n most work f ≡ most
+  unfolding heightOrMost
   height-out h = ap (λ (b : Bool). pick b (getD work f 0) most) (le-ltb f n h)
 
 -- the same in memory with the same heights
-height-same : (n most f : ℕ) (work l : List ℕ) → ((j : ℕ) → j < n → getD l j 0 ≡ getD work j 0) → heightOr n most l f ≡ heightOr n most work f
-height-same n most f work l e =
+height-same : (n most f : ℕ) (work cells : List ℕ) → ((j : ℕ) → j < n → getD cells j 0 ≡ getD work j 0) → heightOrMost n most cells f ≡ heightOrMost n most work f
+height-same n most f work cells e =
     by-cases (decLt f n)
-    (λ h. height-in n most l f h ∙ (e f h ∙ sym (height-in n most work f h)))
-    (λ h. let g : n ≤ f = omega arith in height-out n most l f g ∙ sym (height-out n most work f g))
+    (λ h. height-in n most cells f h ∙ (e f h ∙ sym (height-in n most work f h)))
+    (λ h. let g : n ≤ f = omega arith in height-out n most cells f g ∙ sym (height-out n most work f g))
 
 -- the least node among nodes labelled with their numbers
 numbered-least : {P : ℕ → ℕ} {m a v : ℕ} → LeastOf (Up P m a) (λ j. j) v → LeastBelow P m a v
@@ -67,10 +67,10 @@ module _ (n count most : ℕ) (work : List ℕ) (few : count ≤ n) (long : leng
         climbs = λ s j h. absurd (omega arith);
       }
 
-  -- one node more: m after its label is handed up
-  module _ (i : ℕ) (l m : List ℕ) (h : i < count) (c : ClimbsBefore n count most i work l) (g : Handed n i l m) where
+  -- one node more: the cells before it, and after its label is handed up
+  module _ (i : ℕ) (cells handed : List ℕ) (h : i < count) (c : ClimbsBefore n count most i work cells) (g : Handed n i cells handed) where
     abbrev leaf : ℕ
-    leaf = blockEntry l (4 * n) i
+    leaf = blockEntry cells (4 * n) i
 
     least-here : LeastBelow P count i leaf
     least-here = numbered-least (labels-final rises (c .labels) i h (omega arith))
@@ -78,77 +78,77 @@ module _ (n count most : ℕ) (work : List ℕ) (few : count ≤ n) (long : leng
     leaf-few : leaf ≤ i
     leaf-few = up-rises rises (least-here .below)
 
-    same-father : blockEntry l n i ≡ P i
+    same-father : blockEntry cells n i ≡ P i
     same-father = c .ahead i (omega arith) (omega arith)
 
     -- what handing up leaves
     record AfterHanding (after : List ℕ) : Type 0 where
       size : length after ≡ length work
-      before : (j : ℕ) → j < 4 * n → getD after j 0 ≡ getD l j 0
+      before : (j : ℕ) → j < 4 * n → getD after j 0 ≡ getD cells j 0
       own : blockEntry after (4 * n) i ≡ leaf
       labels : LeastThrough P count (i + 1) (λ j. j) (blockEntry after (4 * n))
 
-    unchanged : LeastThrough P count (i + 1) (λ j. j) (blockEntry l (4 * n)) → AfterHanding l
+    unchanged : LeastThrough P count (i + 1) (λ j. j) (blockEntry cells (4 * n)) → AfterHanding cells
     unchanged k = record { size = c .kept .size; before = λ j b. refl; own = refl; labels = k }
 
-    handed : Handed n i l m → AfterHanding m
-    handed (top a e) =
+    after-handing : Handed n i cells handed → AfterHanding handed
+    after-handing (top a e) =
         let f = same-father in
         subst AfterHanding (sym e) (unchanged (labels-top rises h (c .labels) (omega arith) (λ a b. refl)))
-    handed (stayed a b e) =
+    after-handing (stayed a b e) =
         let f = same-father in
-        let q = ap (blockEntry l (4 * n)) f in
+        let q = ap (blockEntry cells (4 * n)) f in
         subst AfterHanding (sym e)
         (unchanged (labels-more rises h (c .labels) (up .rise i h (omega arith) .1) (omega arith) (λ a b d. refl)))
-    handed (lowered a b e) =
+    after-handing (lowered a b e) =
         let f = same-father in
         let r = up .rise i h (omega arith) in
         let later = r .0 in
         let within = r .1 in
         let size = c .kept .size in
-        let q = ap (blockEntry l (4 * n)) f in
-        subst AfterHanding (sym (e ∙ ap (λ (z : ℕ). set l (4 * n + z) leaf) f))
+        let q = ap (blockEntry cells (4 * n)) f in
+        subst AfterHanding (sym (e ∙ ap (λ (z : ℕ). set cells (4 * n + z) leaf) f))
         (record {
-          size = length-set l (4 * n + P i) leaf ∙ size;
+          size = length-set cells (4 * n + P i) leaf ∙ size;
           before =
               λ j b.
               let d : j ≢ 4 * n + P i = λ q. absurd (omega arith) in
-              getD-set-other l (4 * n + P i) j leaf 0 d;
+              getD-set-other cells (4 * n + P i) j leaf 0 d;
           own =
               let d : 4 * n + i ≢ 4 * n + P i = λ q. absurd (omega arith) in
-              getD-set-other l (4 * n + P i) (4 * n + i) leaf 0 d;
+              getD-set-other cells (4 * n + P i) (4 * n + i) leaf 0 d;
           labels =
-              let lesser : leaf ≡ min (blockEntry l (4 * n) (P i)) leaf = omega arith in
+              let lesser : leaf ≡ min (blockEntry cells (4 * n) (P i)) leaf = omega arith in
               labels-more rises h (c .labels) within
-              (getD-set-same l (4 * n + P i) leaf 0 (omega arith) ∙ lesser)
+              (getD-set-same cells (4 * n + P i) leaf 0 (omega arith) ∙ lesser)
               (λ a b q.
               let d : 4 * n + a ≢ 4 * n + P i = λ z. q (omega arith) in
-              getD-set-other l (4 * n + P i) (4 * n + a) leaf 0 d);
+              getD-set-other cells (4 * n + P i) (4 * n + a) leaf 0 d);
         })
 
-    abbrev k : AfterHanding m
-    k = handed g
+    abbrev k : AfterHanding handed
+    k = after-handing g
 
-    pub handed-size : length m ≡ 5 * n
+    pub handed-size : length handed ≡ 5 * n
     handed-size = k .size ∙ long
 
-    pub handed-leaf : blockEntry m (4 * n) i < n
+    pub handed-leaf : blockEntry handed (4 * n) i < n
     handed-leaf = let e = k .own in let b = leaf-few in omega arith
 
     pub climbs-more :
-        (o : List ℕ) → ClimbPut n i most m o → ClimbsBefore n count most (i + 1) work o
-    climbs-more o e =
+        (climbed : List ℕ) → ClimbPut n i most handed climbed → ClimbsBefore n count most (i + 1) work climbed
+    climbs-more climbed e =
         let b = leaf-few in
         let size = k .size in
-        let at : blockEntry m n i ≡ P i = k .before (n + i) (omega arith) ∙ same-father in
-        let v : heightOr n most m (blockEntry m n i) ≡ x =
-        ap (heightOr n most m) at ∙
-        height-same n most (P i) work m (λ j h. k .before j (omega arith) ∙ c .kept .same j (inl h)) in
-        subst (ClimbsBefore n count most (i + 1) work) (sym (e ∙ ap₂ (λ (z y : ℕ). set m (n + z) y) (k .own) v))
+        let at : blockEntry handed n i ≡ P i = k .before (n + i) (omega arith) ∙ same-father in
+        let v : heightOrMost n most handed (blockEntry handed n i) ≡ x =
+        ap (heightOrMost n most handed) at ∙
+        height-same n most (P i) work handed (λ j h. k .before j (omega arith) ∙ c .kept .same j (inl h)) in
+        subst (ClimbsBefore n count most (i + 1) work) (sym (e ∙ ap₂ (λ (z y : ℕ). set handed (n + z) y) (k .own) v))
         (record {
           kept =
               record {
-                size = length-set m (n + leaf) x ∙ size;
+                size = length-set handed (n + leaf) x ∙ size;
                 same =
                     λ j w.
                     let d : j ≢ n + leaf = λ q. absurd (⊎-elim (λ z. omega arith) (λ z. let y = z .0 in omega arith) w) in
@@ -171,8 +171,8 @@ module _ (n count most : ℕ) (work : List ℕ) (few : count ≤ n) (long : leng
               least-last rises least-here (subst (LeastBelow P count s) q a) (omega arith)
               (λ z. let r = f (subst (LeastBelow P count (P s)) (sym q) z) in omega arith)
               in
-              ap (λ (z : ℕ). getD (set m (n + leaf) x) (n + z) 0) q ∙
-              (getD-set-same m (n + leaf) x 0 (omega arith) ∙ ap (λ (z : ℕ). heightOr n most work (P z)) (sym here)))
+              ap (λ (z : ℕ). getD (set handed (n + leaf) x) (n + z) 0) q ∙
+              (getD-set-same handed (n + leaf) x 0 (omega arith) ∙ ap (λ (z : ℕ). heightOrMost n most work (P z)) (sym here)))
               (λ q.
               let z : s ≢ i = λ y. q (least-one (subst (λ (w : ℕ). LeastBelow P count w j) y a) least-here) in
               let d : n + j ≢ n + leaf = λ y. q (omega arith) in
@@ -182,15 +182,15 @@ module _ (n count most : ℕ) (work : List ℕ) (few : count ≤ n) (long : leng
         })
       where
         x : ℕ
-        x = heightOr n most work (P i)
+        x = heightOrMost n most work (P i)
 
-        other : (j : ℕ) → j ≢ n + leaf → getD (set m (n + leaf) x) j 0 ≡ getD m j 0
-        other j d = getD-set-other m (n + leaf) j x 0 d
+        other : (j : ℕ) → j ≢ n + leaf → getD (set handed (n + leaf) x) j 0 ≡ getD handed j 0
+        other j d = getD-set-other handed (n + leaf) j x 0 d
 
 pub climbs-end :
-    {n count most i : ℕ} {work l : List ℕ} → i ≤ count → count ≤ i → ClimbsBefore n count most i work l → ClimbsBefore n count most count work l
-climbs-end {n} {count} {most} {i} {work} {l} a b c =
-    let e : i ≡ count = omega arith in subst (λ (z : ℕ). ClimbsBefore n count most z work l) e c
+    {n count most i : ℕ} {work climbed : List ℕ} → i ≤ count → count ≤ i → ClimbsBefore n count most i work climbed → ClimbsBefore n count most count work climbed
+climbs-end {n} {count} {most} {i} {work} {climbed} a b c =
+    let e : i ≡ count = omega arith in subst (λ (z : ℕ). ClimbsBefore n count most z work climbed) e c
 
 -- labels written: the fathers stand
 module _ (n count : ℕ) (work labelled : List ℕ) (few : count ≤ n) (o : NodesLabelled n count work labelled) where
@@ -233,18 +233,14 @@ module _ (p : Picture) (n most : ℕ) (work after : List ℕ) where
     ok : Accepted p
     ok = accepted-is p (t .accepted)
 
-    -- the fathers in memory are those of the nodes
-    abbrev Q : ℕ → ℕ
-    Q = blockEntry work n
-
     least-of : (a : ℕ) → a < m → (w : ℕ) × Least p a w
     least-of a h = (
       blockEntry after (4 * n) a,
-      least-same (t .fathers) (numbered-least (labels-final (fathers-rise n (m) work few up) (c .labels) a h (omega arith))),
+      least-same-fathers (t .fathers) (numbered-least (labels-final (fathers-rise n m work few up) (c .labels) a h (omega arith))),
     )
 
     climbed-leaf : (j : ℕ) → j < m → leafNode p j ≡ true → blockEntry after n j ≡ climbOf p (nodeAt p j)
-    climbed-leaf j b l = c .climbs s j (e .within) (least-same (λ i h. sym (t .fathers i h)) (e .least)) ends ∙ height
+    climbed-leaf j b l = c .climbs s j (e .within) (least-same-fathers (λ i h. sym (t .fathers i h)) (e .least)) ends ∙ height
       where
         e : ChainEnd (father-greater p ok) j
         e = chain-end (father-greater p ok) least-of j b (leaf-least p ok j l)
@@ -252,15 +248,15 @@ module _ (p : Picture) (n most : ℕ) (work after : List ℕ) where
         s : ℕ
         s = e .last
 
-        same : Q s ≡ father p s
+        same : blockEntry work n s ≡ father p s
         same = t .fathers s (e .within)
 
-        ends : LeastBelow Q (m) (Q s) j → m ≤ Q s
-        ends d = let q = same in let a = e .ends (subst (λ (z : ℕ). Least p z j) same (least-same (t .fathers) d)) in omega arith
+        ends : LeastBelow (blockEntry work n) m (blockEntry work n s) j → m ≤ blockEntry work n s
+        ends d = let q = same in let a = e .ends (subst (λ (z : ℕ). Least p z j) same (least-same-fathers (t .fathers) d)) in omega arith
 
-        height : heightOr n most work (Q s) ≡ climbOf p (nodeAt p j)
+        height : heightOrMost n most work (blockEntry work n s) ≡ climbOf p (nodeAt p j)
         height =
-            ap (heightOr n most work) same ∙
+            ap (heightOrMost n most work) same ∙
             ⊎-elim
             (λ f.
             let (w, k) = least-of (father p s) f in

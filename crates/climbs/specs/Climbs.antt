@@ -27,14 +27,14 @@ pub record OwnLabels (n count : ℕ) (work : List ℕ) : Type 0 where
 pub record FathersRise (n count : ℕ) (work : List ℕ) : Type 0 where
   pub rise : (i : ℕ) → i < count → blockEntry work n i < n → (i < blockEntry work n i) × (blockEntry work n i < count)
 
--- the height of the node f; most if f is no node
-unfoldable pub heightOr : ℕ → ℕ → List ℕ → ℕ → ℕ
-heightOr n most work f = pick (ltb f n) (getD work f 0) most
+-- the height of the node f; the largest value if f is no node
+unfoldable pub heightOrMost : ℕ → ℕ → List ℕ → ℕ → ℕ
+heightOrMost n most work f = pick (ltb f n) (getD work f 0) most
 
 -- the least node below i, its label, gets the height of the father of i in the place of its own father
 abbrev pub ClimbPut : ℕ → ℕ → ℕ → List ℕ → List ℕ → Type 0
 ClimbPut n i most work after =
-    after ≡ set work (n + blockEntry work (4 * n) i) (heightOr n most work (blockEntry work n i))
+    after ≡ set work (n + blockEntry work (4 * n) i) (heightOrMost n most work (blockEntry work n i))
 
 -- nothing but the second block and the fifth has changed
 pub record OthersKept (n : ℕ) (work after : List ℕ) : Type 0 where
@@ -50,7 +50,7 @@ pub record ClimbsBefore (n count most i : ℕ) (work after : List ℕ) : Type 0 
   pub climbs :
       (s j : ℕ) → s < i → LeastBelow (blockEntry work n) count s j →
       (LeastBelow (blockEntry work n) count (blockEntry work n s) j → i ≤ blockEntry work n s) →
-      blockEntry after n j ≡ heightOr n most work (blockEntry work n s)
+      blockEntry after n j ≡ heightOrMost n most work (blockEntry work n s)
 
 -- the heights and fathers of the count nodes of p, and its largest value
 pub record HeightsAndFathers (p : Picture) (n count most : ℕ) (work : List ℕ) : Type 0 where

@@ -5,24 +5,24 @@ ghost use mathlib.Core.Path.{_≡_};
 ghost use Prim.Native.Nat.{_*_, _≤_, _<_};
 ghost use lib.ListN.{length};
 ghost use Rattle.lists.specs.Blocks.{blockEntry};
-ghost use Rattle.climbs.specs.Climbs.{NodesLabelled, OwnLabels, FathersRise, heightOr, ClimbPut, ClimbsBefore, Climbs};
+ghost use Rattle.climbs.specs.Climbs.{NodesLabelled, OwnLabels, FathersRise, heightOrMost, ClimbPut, ClimbsBefore, Climbs};
 
 // Labels each of count nodes with its own number.
 fn label_nodes(n: usize, count: usize, work: &mut [u16])
     requires { ⌜ (n ≤ 1600) × (length (now work) ≡ 5 * n) × (count ≤ n) ⌝ }
     ensures { λ _. ⌜ NodesLabelled n count (now (work .entry)) (now (work .exit)) ⌝ }
 {
-    let mut m = 0;
-    while m < count {
-        work[4 * n + m] = m as u16;
-        m += 1;
+    let mut i = 0;
+    while i < count {
+        work[4 * n + i] = i as u16;
+        i += 1;
     }
 }
 
 // The height of the node f; the largest value if f is no node.
-fn height_or(n: usize, f: usize, most: u16, work: &[u16]) -> u16
+fn height_or_most(n: usize, f: usize, most: u16, work: &[u16]) -> u16
     requires { ⌜ length (now work) ≡ 5 * n ⌝ }
-    ensures { λ r. ⌜ r ≡ heightOr n most (now (work .entry)) f ⌝ }
+    ensures { λ r. ⌜ r ≡ heightOrMost n most (now (work .entry)) f ⌝ }
 {
     if f < n {
         return work[f];
@@ -37,7 +37,7 @@ fn put_climb(n: usize, i: usize, most: u16, work: &mut [u16])
 {
     let leaf = wide(work[4 * n + i]);
     let f = wide(work[n + i]);
-    work[n + leaf] = height_or(n, f, most, work);
+    work[n + leaf] = height_or_most(n, f, most, work);
 }
 
 // Node by node, by rising number: each hands its least leaf to its father, and puts its climb.

@@ -95,14 +95,14 @@ module _ (p : Picture) (count : ℕ) (work : List ℕ) (t : TreeInWork p count w
         }
 
     -- what they leave
-    module _ (most : ℕ) (b : List ℕ) (k : Climbs (places p) count most a b) where
-      climbed-map : (x : ℕ) → x < places p → blockEntry b (2 * places p) x ≡ blockEntry a (2 * places p) x
+    module _ (most : ℕ) (climbed : List ℕ) (k : Climbs (places p) count most a climbed) where
+      climbed-map : (x : ℕ) → x < places p → blockEntry climbed (2 * places p) x ≡ blockEntry a (2 * places p) x
       climbed-map x h = k .kept .same (2 * places p + x) (inr (omega arith, omega arith))
 
-      pub climbed-mapped : Mapped (places p) b
+      pub climbed-mapped : Mapped (places p) climbed
       climbed-mapped = record { map = λ x h. let e = climbed-map x h in let m = numbered-mapped .map x h in omega arith }
 
-      pub climbed-sizes : (cells : List ℕ) → FiveBlocks (places p) work cells → FiveBlocks (places p) b (p .pixels)
+      pub climbed-sizes : (cells : List ℕ) → FiveBlocks (places p) work cells → FiveBlocks (places p) climbed (p .pixels)
       climbed-sizes cells z =
           let s = numbered-sizes cells z in
           record { few = s .few; blocks = k .kept .size ∙ s .blocks; beside = s .beside }
@@ -112,16 +112,16 @@ module _ (p : Picture) (count : ℕ) (work : List ℕ) (t : TreeInWork p count w
       mapped = record { size = long; patch = λ x h. m x h ∙ numbered-patch x h }
 
       patches-numbered :
-          (most : ℕ) (b : List ℕ) → most ≡ highest (p .pixels) → Climbs (places p) count most a b →
-          PatchesNumbered p (places p) (p .pixels) cells b
-      patches-numbered most b e k =
+          (most : ℕ) (climbed : List ℕ) → most ≡ highest (p .pixels) → Climbs (places p) count most a climbed →
+          PatchesNumbered p (places p) (p .pixels) cells climbed
+      patches-numbered most climbed e k =
           let few = nodes-few p in
           record {
             accepted = t .accepted;
             size = refl;
             same = refl;
             heights = λ i h. k .kept .same i (inl (omega arith)) ∙ height-at p a numbered-tree i h;
-            mapped = λ x h. climbed-map most b k x h ∙ numbered-tree .map x h;
+            mapped = λ x h. climbed-map most climbed k x h ∙ numbered-tree .map x h;
             climbs = k .climbs p (numbered-heights most e);
             map = mapped;
           }
@@ -137,10 +137,10 @@ module _ (p : Picture) (count : ℕ) (work : List ℕ) (t : TreeInWork p count w
           }
 
       pub figures-all :
-          (most q : ℕ) (d b c : List ℕ) → most ≡ highest (p .pixels) → Climbs (places p) count most a d →
-          Patched (places p) (p .pixels) cells (places p) d q b → Sums (p .width) (places p) (places p) cells b c → Figures p q c cells
-      figures-all most q d b c e k f s =
-          let g = f .begun p (patches-numbered most d e k) in
+          (most q : ℕ) (climbed b c : List ℕ) → most ≡ highest (p .pixels) → Climbs (places p) count most a climbed →
+          Patched (places p) (p .pixels) cells (places p) climbed q b → Sums (p .width) (places p) (places p) cells b c → Figures p q c cells
+      figures-all most q climbed b c e k f s =
+          let g = f .begun p (patches-numbered most climbed e k) in
           let n : q ≡ length (patches p) = g .count ∙ sym (patches-count p ok) in
           let few = count-few p ok in
           record {

@@ -127,7 +127,7 @@ pub record PatchRow : Type 0 where
 abbrev patchRow : Picture → List ℕ → ℕ → List (List ℕ) → PatchRow
 patchRow p xs l fs = record { picture = p; places = xs; line = l; figures = fs }
 
--- the watersheds of H3, whose hold list is given, and of H10; a deep patch beside a shallow one; patches of one height, in a row and on both adjacencies; a picture of one patch
+-- the watersheds of H3, whose hold list is given, and of H10; a deep patch beside a shallow one; patches of one height, in rows and with both adjacencies; a picture of one patch
 abbrev pub patch-table : List PatchRow
 patch-table =
     patchRow (pictureOf 4 5 1 (1 ∷ 1 ∷ 4 ∷ 0 ∷ 0 ∷ [])) (1 ∷ 1 ∷ 0 ∷ 2 ∷ 2 ∷ []) 1
@@ -138,6 +138,8 @@ patch-table =
     ((1 ∷ 1 ∷ 0 ∷ 9 ∷ 0 ∷ 0 ∷ []) ∷ (2 ∷ 1 ∷ 1 ∷ 1 ∷ 20 ∷ 0 ∷ []) ∷ (3 ∷ 1 ∷ 5 ∷ 4 ∷ 40 ∷ 0 ∷ []) ∷ []) ∷
     patchRow (pictureOf 4 7 1 (2 ∷ 7 ∷ 5 ∷ 6 ∷ 2 ∷ 2 ∷ 9 ∷ [])) (1 ∷ 0 ∷ 2 ∷ 0 ∷ 3 ∷ 3 ∷ 0 ∷ []) 3
     ((1 ∷ 1 ∷ 2 ∷ 7 ∷ 0 ∷ 0 ∷ []) ∷ (2 ∷ 1 ∷ 5 ∷ 1 ∷ 20 ∷ 0 ∷ []) ∷ (3 ∷ 2 ∷ 2 ∷ 5 ∷ 45 ∷ 0 ∷ []) ∷ []) ∷
+    patchRow (pictureOf 4 8 1 (2 ∷ 2 ∷ 7 ∷ 5 ∷ 6 ∷ 6 ∷ 2 ∷ 9 ∷ [])) (1 ∷ 1 ∷ 0 ∷ 2 ∷ 0 ∷ 0 ∷ 3 ∷ 0 ∷ []) 4
+    ((1 ∷ 2 ∷ 2 ∷ 7 ∷ 5 ∷ 0 ∷ []) ∷ (2 ∷ 1 ∷ 5 ∷ 1 ∷ 30 ∷ 0 ∷ []) ∷ (3 ∷ 1 ∷ 2 ∷ 5 ∷ 60 ∷ 0 ∷ []) ∷ []) ∷
     patchRow (pictureOf 4 3 3 (2 ∷ 7 ∷ 2 ∷ 2 ∷ 3 ∷ 4 ∷ 3 ∷ 2 ∷ 9 ∷ [])) (1 ∷ 0 ∷ 2 ∷ 1 ∷ 0 ∷ 0 ∷ 0 ∷ 3 ∷ 0 ∷ []) 5
     ((1 ∷ 2 ∷ 2 ∷ 7 ∷ 0 ∷ 5 ∷ []) ∷ (2 ∷ 1 ∷ 2 ∷ 2 ∷ 20 ∷ 0 ∷ []) ∷ (3 ∷ 1 ∷ 2 ∷ 1 ∷ 10 ∷ 20 ∷ []) ∷ []) ∷
     patchRow (pictureOf 8 3 3 (2 ∷ 7 ∷ 2 ∷ 2 ∷ 3 ∷ 4 ∷ 3 ∷ 2 ∷ 9 ∷ [])) (1 ∷ 0 ∷ 2 ∷ 1 ∷ 0 ∷ 0 ∷ 0 ∷ 1 ∷ 0 ∷ []) 5

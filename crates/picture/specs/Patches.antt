@@ -46,11 +46,11 @@ deeper p m n =
 abbrev pub deeperPasses : Picture → Node → List ℕ
 deeperPasses p n = map (λ m. pass p (n .first) (m .first)) (select (λ m. deeper p m n) (patchNodes p))
 
--- the climb from a patch: the lowest pass to any deeper patch; for the deepest patch the largest value
+-- the height at which the climb from a patch ends: the lowest pass to any deeper patch; for the deepest patch the largest value
 unfoldable pub climbOf : Picture → Node → ℕ
 climbOf p n = lowest (highest (p .pixels)) (deeperPasses p n)
 
--- a patch's depth (standard term: dynamics of a minimum): its climb less its own height
+-- a patch's depth (standard term: dynamics of a minimum): that height less its own
 unfoldable pub depthOf : Picture → Node → ℕ
 depthOf p n = climbOf p n - n .height
 
@@ -60,7 +60,7 @@ Passes-of-patches =
     (p : Picture) → isPicture p ≡ true → (m n : Node) → List·Memᴰ m (patchNodes p) → List·Memᴰ n (patchNodes p) →
     (x y : ℕ) → isIn x (componentOf p m) ≡ true → isIn y (componentOf p n) ≡ true → pass p x y ≡ pass p (m .first) (n .first)
 
--- no climb ends below its patch, so the difference cuts nothing off
+-- no climb ends below its patch, so no depth is a difference cut to 0
 abbrev pub Climbs-above : Type 0
 Climbs-above = (p : Picture) → isPicture p ≡ true → (n : Node) → List·Memᴰ n (patchNodes p) → n .height ≤ climbOf p n
 
@@ -70,9 +70,9 @@ pub record Deepest (p : Picture) (n : Node) : Type 0 where
   pub none : (m : Node) → List·Memᴰ m (patchNodes p) → deeper p m n ≡ false
   pub others : (m : Node) → List·Memᴰ m (patchNodes p) → m ≢ n → deeper p n m ≡ true
 
--- there is a deepest patch; by what it says there is no other
+-- every picture has exactly one deepest patch, so the largest value stands in for the pass of one patch only
 abbrev pub Deepest-one : Type 0
-Deepest-one = (p : Picture) → isPicture p ≡ true → (n : Node) × Deepest p n
+Deepest-one = (p : Picture) → isPicture p ≡ true → (n : Node) × Deepest p n × ((m : Node) → Deepest p m → m ≡ n)
 
 -- number from 1, size in pixels, height, depth, sum of columns, sum of rows
 pub record Patch : Type 0 where

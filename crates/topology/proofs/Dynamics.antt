@@ -14,7 +14,7 @@ use Rattle.picture.specs.Pictures.{Picture, places, valueAt}
 use Rattle.picture.specs.Passes.{pass}
 use Rattle.picture.specs.Trees.{Node, nodes, nodeAt, componentOf}
 use Rattle.picture.specs.Patches.{patchNodes, patchAt, deeper, deeperPasses, climbOf, depthOf, Passes-of-patches, Climbs-above, Deepest, Deepest-one}
-use Rattle.lists.proofs.Tests.{and-left, and-right, and-both, or-cases, or-left, or-right, test-false}
+use Rattle.lists.proofs.Tests.{and-left, and-right, and-both, or-cases, or-left, or-right, test-false, clash}
 use Rattle.lists.proofs.Lists.{select-mem, mem-select, select-none}
 use Rattle.lists.proofs.Positions.{tally-rises}
 use Rattle.lists.proofs.Sums.{lowest-is, on-lowest, highest-least, highest-most}
@@ -286,7 +286,7 @@ passes-of-patches p h m n a b x y i j =
 
 -- the deepest patch is the leaf of number 0
 pub deepest-one : Deepest-one
-deepest-one p h = (nodeAt p 0, record { patch = leaf-node-patch p 0 b l; none = none; others = others })
+deepest-one p h = (nodeAt p 0, record { patch = patch; none = none; others = others }, only)
   where
     ok : Accepted p
     ok = accepted-is p h
@@ -294,17 +294,17 @@ deepest-one p h = (nodeAt p 0, record { patch = leaf-node-patch p 0 b l; none = 
     root : ℕ
     root = length (nodes p) - 1
 
-    some : 1 ≤ length (nodes p)
-    some = let m = map-found p ok 0 (places-some p ok) in omega arith
-
     b : 0 < length (nodes p)
-    b = some
+    b = let m = map-found p ok 0 (places-some p ok) in omega arith
 
     l : leafNode p 0 ≡ true
     l =
-        let c : root < length (nodes p) = omega (arith, some) in
+        let c : root < length (nodes p) = omega (arith, b) in
         least-leaf p ok root 0 c
-        (record { below = root-above p ok 0 root b c (last-root p ok root (omega (arith, some))); least = λ k u. omega arith })
+        (record { below = root-above p ok 0 root b c (last-root p ok root (omega (arith, b))); least = λ k u. omega arith })
+
+    patch : List·Memᴰ (nodeAt p 0) (patchNodes p)
+    patch = leaf-node-patch p 0 b l
 
     none : (m : Node) → List·Memᴰ m (patchNodes p) → deeper p m (nodeAt p 0) ≡ false
     none m i =
@@ -317,3 +317,14 @@ deepest-one p h = (nodeAt p 0, record { patch = leaf-node-patch p 0 b l; none = 
         let (k, kb, kl, e) = patch-leaf-node p i in
         let z : k ≢ 0 = λ q. d (sym e ∙ ap (nodeAt p) q) in
         subst (λ (n : Node). deeper p (nodeAt p 0) n ≡ true) e (less-deeper p ok 0 k b kb l kl (omega (arith, z)))
+
+    only : (m : Node) → Deepest p m → m ≡ nodeAt p 0
+    only m d =
+        let (k, kb, kl, e) = patch-leaf-node p (d .patch) in
+        by-cases (ℕ-discrete k 0)
+        (λ q. sym e ∙ ap (nodeAt p) q)
+        (λ q.
+        absurd
+        (clash
+        (subst (λ (n : Node). deeper p (nodeAt p 0) n ≡ true) e (less-deeper p ok 0 k b kb l kl (omega (arith, q))))
+        (d .none (nodeAt p 0) patch)))

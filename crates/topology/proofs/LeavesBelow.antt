@@ -2,7 +2,7 @@
 use mathlib.Core.Path.{_≡_, refl, sym, ap, subst}
 use mathlib.Core.Bool.{Bool, true}
 use mathlib.Core.Logic.{⊎-elim, by-cases}
-use mathlib.Core.List.{List, List·Memᴰ}
+use mathlib.Core.List.{List·Memᴰ}
 use Prim.Native.Nat.{ℕ, zero, suc, _+_, _-_, _≤_, _<_}
 use native.Mathlib.Decide.{ℕ-discrete, decLt}
 use native.Mathlib.Omega.{arith}
@@ -34,8 +34,8 @@ pub record LeastBelow (P : ℕ → ℕ) (m s j : ℕ) : Type 0 where
   pub least : (k : ℕ) → Up P m s k → j ≤ k
 
 module _ {P : ℕ → ℕ} {m : ℕ} where
-  pub least-same : {Q : ℕ → ℕ} → ((i : ℕ) → i < m → P i ≡ Q i) → {a j : ℕ} → LeastBelow P m a j → LeastBelow Q m a j
-  least-same e l =
+  pub least-same-fathers : {Q : ℕ → ℕ} → ((i : ℕ) → i < m → P i ≡ Q i) → {a j : ℕ} → LeastBelow P m a j → LeastBelow Q m a j
+  least-same-fathers e l =
       record { below = up-same e (l .below); least = λ k u. l .least k (up-same (λ i h. sym (e i h)) u) }
 
   pub least-one : {s j k : ℕ} → LeastBelow P m s j → LeastBelow P m s k → j ≡ k

@@ -188,6 +188,7 @@ module _ (p : Picture) where
       (nodeAt p i .height < nodeAt p j .height) ⊎ ((nodeAt p i .height ≡ nodeAt p j .height) × (nodeAt p i .first < nodeAt p j .first))
   node-order i j a b = sorted-order (nodes-sorted p) i j a b
 
+  -- heights rise with the numbers
   pub heights-rise : (i j : ℕ) → i ≤ j → j < length (nodes p) → nodeAt p i .height ≤ nodeAt p j .height
   heights-rise i j a b =
       by-cases (decLt i j)

@@ -1,4 +1,4 @@
--- `climbs::label_nodes` meets its contract. The invariant: the first m nodes have their numbers; the measure: the nodes left.
+-- `climbs::label_nodes` meets its contract. The invariant: the first i nodes have their numbers; the measure: the nodes left.
 use mathlib.Core.Path.{refl}
 use Prim.Native.Nat.{_-_, _≤_}
 use native.Mathlib.Omega.{arith}
@@ -9,10 +9,10 @@ use Rattle.climbs.proofs.label_nodes.Statement.{statement}
 use Rattle.climbs.proofs.label_nodes.Tie as tie
 
 abbrev Inv-loop : tie.InvT-loop
-Inv-loop n count work₀ m₀ work m = (m ≤ count) × NodesLabelled n m work₀ work
+Inv-loop n count work₀ i₀ work i = (i ≤ count) × NodesLabelled n i work₀ work
 
 abbrev μ-loop : tie.MeasureT-loop
-μ-loop n count work₀ m₀ work m = count - m
+μ-loop n count work₀ i₀ work i = count - i
 
 loop-holds : tie.Need-loop-holds Inv-loop μ-loop
 loop-holds c = (search needs, overwritten-start _ _ _)
@@ -32,8 +32,8 @@ mul-work-2 c = search needs
 slice-write-work : tie.Need-slice-write-work Inv-loop μ-loop
 slice-write-work c = search needs
 
-add-m : tie.Need-add-m Inv-loop μ-loop
-add-m c = search needs
+add-i : tie.Need-add-i Inv-loop μ-loop
+add-i c = search needs
 
 loop-less : tie.Need-loop-less Inv-loop μ-loop
 loop-less c = search needs
@@ -64,7 +64,7 @@ label-nodes-spec =
     add-work
     mul-work-2
     slice-write-work
-    add-m
+    add-i
     loop-less
     loop-again
     same-length

@@ -2,7 +2,7 @@
 use mathlib.Core.Path.{ap, ap₂, _∙_}
 use Prim.Native.Nat.{ℕ, _+_}
 use lib.ListN.{set}
-use Rattle.climbs.specs.Climbs.{heightOr}
+use Rattle.climbs.specs.Climbs.{heightOrMost}
 use borrow.Author.Needs.{needs}
 use Rattle.climbs.proofs.put_climb.Statement.{statement}
 use Rattle.climbs.proofs.put_climb.Tie as tie
@@ -34,8 +34,8 @@ slice-read-wide-2 c = search needs
 wide-requires-2 : tie.Need-wide-requires-2
 wide-requires-2 c κs = search needs
 
-height-or-requires : tie.Need-height-or-requires
-height-or-requires c κs = search needs
+height-or-most-requires : tie.Need-height-or-most-requires
+height-or-most-requires c κs = search needs
 
 add-work : tie.Need-add-work
 add-work c = search needs
@@ -56,7 +56,7 @@ returns c =
     let n = s .args .n in
     let l = s .args .work .now in
     ap₂ (λ (j v : ℕ). set l (n + j) v) (b .wide .ensures)
-    (c .height-or .ensures ∙ ap (heightOr n (s .args .most) l) (c .before .before .wide2 .ensures))
+    (c .height-or-most .ensures ∙ ap (heightOrMost n (s .args .most) l) (c .before .before .wide2 .ensures))
 
 pub put-climb-spec : {M : Type 1} → statement M
 put-climb-spec =
@@ -71,7 +71,7 @@ put-climb-spec =
     mul-wide-3
     slice-read-wide-2
     wide-requires-2
-    height-or-requires
+    height-or-most-requires
     add-work
     mul-work
     slice-write-work
