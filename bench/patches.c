@@ -106,8 +106,8 @@ static inline unsigned largest_pixel(unsigned n, const uint8_t *pixels)
 }
 
 /* Puts the climb of each leaf in the place of its father: the height at which it joins a leaf of a smaller number, which
- * is deeper, or the largest pixel if it joins none. The label of a node is the least leaf below it; labels lie over the numbers of
- * the leaves. The last node with a leaf's label is the highest one, and its father's height stays. */
+ * is deeper, or the largest pixel if it joins none. The label of a node is the least leaf below it; labels lie over the
+ * numbers of the leaves. The last node with a leaf's label is the highest one, and its father's height stays. */
 static inline void put_climbs(unsigned n, unsigned count, unsigned most,
                               uint16_t *restrict work)
 {

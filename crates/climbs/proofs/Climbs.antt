@@ -49,7 +49,16 @@ numbered-least {P} {m} {a} l = record { below = subst (Up P m a) (l .is) (l .wit
 fathers-rise :
     (n count : ℕ) (work : List ℕ) → count ≤ n → FathersRise n count work →
     (i : ℕ) → i < count → blockEntry work n i < count → i < blockEntry work n i
-fathers-rise n count work few up i h f = up .rise i h (omega arith) .0
+fathers-rise n count work few up i h f = up .rise i h (omega arith)
+
+pub climbs-start : {n count most : ℕ} {work : List ℕ} → OwnLabels n count work → ClimbsBefore n count most 0 work work
+climbs-start o =
+    record {
+      kept = record { size = refl; same = λ j h. refl };
+      ahead = λ s a b. refl;
+      labels = labels-start (o .own);
+      climbs = λ s j h. absurd (omega arith);
+    }
 
 module _ (n count most : ℕ) (work : List ℕ) (few : count ≤ n) (long : length work ≡ 5 * n) (up : FathersRise n count work) where
   abbrev P : ℕ → ℕ
@@ -57,15 +66,6 @@ module _ (n count most : ℕ) (work : List ℕ) (few : count ≤ n) (long : leng
 
   rises : (i : ℕ) → i < count → P i < count → i < P i
   rises = fathers-rise n count work few up
-
-  pub climbs-start : OwnLabels n count work → ClimbsBefore n count most 0 work work
-  climbs-start o =
-      record {
-        kept = record { size = refl; same = λ j h. refl };
-        ahead = λ s a b. refl;
-        labels = labels-start (o .own);
-        climbs = λ s j h. absurd (omega arith);
-      }
 
   -- one node more: the cells before it, and after its label is handed up
   module _ (i : ℕ) (cells handed : List ℕ) (h : i < count) (c : ClimbsBefore n count most i work cells) (g : Handed n i cells handed) where
@@ -99,12 +99,11 @@ module _ (n count most : ℕ) (work : List ℕ) (few : count ≤ n) (long : leng
         let f = same-father in
         let q = ap (blockEntry cells (4 * n)) f in
         subst AfterHanding (sym e)
-        (unchanged (labels-more rises h (c .labels) (up .rise i h (omega arith) .1) (omega arith) (λ a b d. refl)))
+        (unchanged (labels-more rises h (c .labels) (up .within i h (omega arith)) (omega arith) (λ a b d. refl)))
     after-handing (lowered a b e) =
         let f = same-father in
-        let r = up .rise i h (omega arith) in
-        let later = r .0 in
-        let within = r .1 in
+        let later = up .rise i h (omega arith) in
+        let within = up .within i h (omega arith) in
         let size = c .kept .size in
         let q = ap (blockEntry cells (4 * n)) f in
         subst AfterHanding (sym (e ∙ ap (λ (z : ℕ). set cells (4 * n + z) leaf) f))
@@ -136,8 +135,8 @@ module _ (n count most : ℕ) (work : List ℕ) (few : count ≤ n) (long : leng
     handed-leaf = let e = k .own in let b = leaf-few in omega arith
 
     pub climbs-more :
-        (climbed : List ℕ) → ClimbPut n i most handed climbed → ClimbsBefore n count most (i + 1) work climbed
-    climbs-more climbed e =
+        {climbed : List ℕ} → ClimbPut n i most handed climbed → ClimbsBefore n count most (i + 1) work climbed
+    climbs-more e =
         let b = leaf-few in
         let size = k .size in
         let at : blockEntry handed n i ≡ P i = k .before (n + i) (omega arith) ∙ same-father in
@@ -193,27 +192,25 @@ climbs-end {n} {count} {most} {i} {work} {climbed} a b c =
     let e : i ≡ count = omega arith in subst (λ (z : ℕ). ClimbsBefore n count most z work climbed) e c
 
 -- labels written: the fathers stand
-module _ (n count : ℕ) (work labelled : List ℕ) (few : count ≤ n) (o : NodesLabelled n count work labelled) where
+module _ (n count : ℕ) (work labelled : List ℕ) (o : NodesLabelled n count work labelled) where
   before : (j : ℕ) → j < 4 * n → getD labelled j 0 ≡ getD work j 0
   before j h = o .kept .outside j (inl h)
 
   pub labelled-own : OwnLabels n count labelled
   labelled-own = record { own = o .inside }
 
-  pub labelled-rise : FathersRise n count work → FathersRise n count labelled
-  labelled-rise up =
+  pub labelled-rise : count ≤ n → FathersRise n count work → FathersRise n count labelled
+  labelled-rise few up =
       record {
-        rise =
-            λ i h f.
-            let e : blockEntry labelled n i ≡ blockEntry work n i = before (n + i) (omega arith) in
-            let r = up .rise i h (omega arith) in
-            let a = r .0 in
-            let b = r .1 in
-            (omega arith, omega arith);
+        rise = λ i h f. let e = same i h in let r = up .rise i h (omega arith) in omega arith;
+        within = λ i h f. let e = same i h in let r = up .within i h (omega arith) in omega arith;
       }
+    where
+      same : (i : ℕ) → i < count → blockEntry labelled n i ≡ blockEntry work n i
+      same i h = before (n + i) (omega arith)
 
-  labelled-tree : (p : Picture) (most : ℕ) → HeightsAndFathers p n count most work → HeightsAndFathers p n count most labelled
-  labelled-tree p most t =
+  labelled-tree : {p : Picture} {most : ℕ} → count ≤ n → HeightsAndFathers p n count most work → HeightsAndFathers p n count most labelled
+  labelled-tree few t =
       let e = t .number in
       record {
         accepted = t .accepted;
@@ -273,9 +270,9 @@ module _ (p : Picture) (n most : ℕ) (work after : List ℕ) where
 
 -- labels and climbs together
 pub climbs-all :
-    (n count most : ℕ) (work labelled after : List ℕ) → count ≤ n → FathersRise n count work → NodesLabelled n count work labelled →
+    {n count most : ℕ} {work labelled after : List ℕ} → count ≤ n → FathersRise n count work → NodesLabelled n count work labelled →
     ClimbsBefore n count most count labelled after → Climbs n count most work after
-climbs-all n count most work labelled after few up o c =
+climbs-all {n} {count} {most} {work} {labelled} {after} few up o c =
     record {
       kept =
           record {
@@ -283,15 +280,15 @@ climbs-all n count most work labelled after few up o c =
             same =
                 λ j h.
                 let low : j < 4 * n = ⊎-elim (λ z. omega arith) (λ z. z .1) h in
-                c .kept .same j h ∙ before n count work labelled few o j low;
+                c .kept .same j h ∙ before n count work labelled o j low;
           };
       climbs =
           λ p t j b l.
           let e = t .number in
           climbed-leaf p n most labelled after
-          (subst (λ (z : ℕ). HeightsAndFathers p n z most labelled) e (labelled-tree n count work labelled few o p most t))
+          (subst (λ (z : ℕ). HeightsAndFathers p n z most labelled) e (labelled-tree n count work labelled o few t))
           (omega arith)
-          (subst (λ (z : ℕ). FathersRise n z labelled) e (labelled-rise n count work labelled few o up))
+          (subst (λ (z : ℕ). FathersRise n z labelled) e (labelled-rise n count work labelled o few up))
           (subst (λ (z : ℕ). ClimbsBefore n z most z labelled after) e c)
           j b l;
     }

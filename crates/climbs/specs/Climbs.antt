@@ -25,7 +25,8 @@ pub record OwnLabels (n count : ℕ) (work : List ℕ) : Type 0 where
 
 -- the father of each of count nodes has a greater number, or is no node
 pub record FathersRise (n count : ℕ) (work : List ℕ) : Type 0 where
-  pub rise : (i : ℕ) → i < count → blockEntry work n i < n → (i < blockEntry work n i) × (blockEntry work n i < count)
+  pub rise : (i : ℕ) → i < count → blockEntry work n i < n → i < blockEntry work n i
+  pub within : (i : ℕ) → i < count → blockEntry work n i < n → blockEntry work n i < count
 
 -- the height of the node f; the largest value if f is no node
 unfoldable pub heightOrMost : ℕ → ℕ → List ℕ → ℕ → ℕ

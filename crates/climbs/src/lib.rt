@@ -20,7 +20,7 @@ fn label_nodes(n: usize, count: usize, work: &mut [u16])
 }
 
 // The height of the node f; the largest value if f is no node.
-fn height_or_most(n: usize, f: usize, most: u16, work: &[u16]) -> u16
+fn height_or_most(n: usize, most: u16, work: &[u16], f: usize) -> u16
     requires { ⌜ length (now work) ≡ 5 * n ⌝ }
     ensures { λ r. ⌜ r ≡ heightOrMost n most (now (work .entry)) f ⌝ }
 {
@@ -37,11 +37,11 @@ fn put_climb(n: usize, i: usize, most: u16, work: &mut [u16])
 {
     let leaf = wide(work[4 * n + i]);
     let f = wide(work[n + i]);
-    work[n + leaf] = height_or_most(n, f, most, work);
+    work[n + leaf] = height_or_most(n, most, work, f);
 }
 
 // Node by node, by rising number: each hands its least leaf to its father, and puts its climb.
-fn put_all(n: usize, count: usize, most: u16, work: &mut [u16])
+fn put_by_labels(n: usize, count: usize, most: u16, work: &mut [u16])
     requires { ⌜ (n ≤ 1600) × (length (now work) ≡ 5 * n) × (count ≤ n) × FathersRise n count (now work) × OwnLabels n count (now work) ⌝ }
     ensures { λ _. ⌜ ClimbsBefore n count most count (now (work .entry)) (now (work .exit)) ⌝ }
 {
@@ -59,5 +59,5 @@ pub fn put_climbs(n: usize, count: usize, most: u16, work: &mut [u16])
     ensures { λ _. ⌜ Climbs n count most (now (work .entry)) (now (work .exit)) ⌝ }
 {
     label_nodes(n, count, work);
-    put_all(n, count, most, work);
+    put_by_labels(n, count, most, work);
 }

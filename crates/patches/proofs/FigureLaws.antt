@@ -71,17 +71,25 @@ module _ (p : Picture) (count : ℕ) (work : List ℕ) (t : TreeInWork p count w
     pub numbered-rise : FathersRise (places p) count a
     numbered-rise =
         let q = t .number in
-        let bound = places-bound p ok in
         record {
           rise =
               λ i h b.
               let ib : i < length (nodes p) = omega arith in
               let e = numbered-tree .fathers i ib in
-              let f : father p i < length (nodes p) =
-              ⊎-elim (λ z. z) (λ z. let y = z .0 in absurd (omega arith)) (father-found p (nodeAt p i) (node-is p i ib)) in
-              let g = father-greater p ok i ib f in
-              (omega arith, omega arith);
+              let g = father-greater p ok i ib (node-father i ib (omega arith)) in
+              omega arith;
+          within =
+              λ i h b.
+              let ib : i < length (nodes p) = omega arith in
+              let e = numbered-tree .fathers i ib in
+              let f = node-father i ib (omega arith) in
+              omega arith;
         }
+      where
+        node-father : (i : ℕ) → i < length (nodes p) → father p i < places p → father p i < length (nodes p)
+        node-father i b h =
+            let bound = places-bound p ok in
+            ⊎-elim (λ f. f) (λ f. let e = f .0 in absurd (omega arith)) (father-found p (nodeAt p i) (node-is p i b))
 
     numbered-heights : (most : ℕ) → most ≡ highest (p .pixels) → HeightsAndFathers p (places p) count most a
     numbered-heights most e =

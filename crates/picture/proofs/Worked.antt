@@ -127,7 +127,7 @@ pub record PatchRow : Type 0 where
 abbrev patchRow : Picture → List ℕ → ℕ → List (List ℕ) → PatchRow
 patchRow p xs l fs = record { picture = p; places = xs; line = l; figures = fs }
 
--- the watersheds of H3, whose hold list is given, and of H10; a deep patch beside a shallow one; patches of one height, in rows and with both adjacencies; a picture of one patch
+-- the watersheds of H3, whose hold list is given, and of H10; a deep patch beside a shallow one; patches of one height, in rows and with both adjacencies, and beside a lower one; a picture of one patch
 abbrev pub patch-table : List PatchRow
 patch-table =
     patchRow (pictureOf 4 5 1 (1 ∷ 1 ∷ 4 ∷ 0 ∷ 0 ∷ [])) (1 ∷ 1 ∷ 0 ∷ 2 ∷ 2 ∷ []) 1
@@ -144,6 +144,8 @@ patch-table =
     ((1 ∷ 2 ∷ 2 ∷ 7 ∷ 0 ∷ 5 ∷ []) ∷ (2 ∷ 1 ∷ 2 ∷ 2 ∷ 20 ∷ 0 ∷ []) ∷ (3 ∷ 1 ∷ 2 ∷ 1 ∷ 10 ∷ 20 ∷ []) ∷ []) ∷
     patchRow (pictureOf 8 3 3 (2 ∷ 7 ∷ 2 ∷ 2 ∷ 3 ∷ 4 ∷ 3 ∷ 2 ∷ 9 ∷ [])) (1 ∷ 0 ∷ 2 ∷ 1 ∷ 0 ∷ 0 ∷ 0 ∷ 1 ∷ 0 ∷ []) 5
     ((1 ∷ 3 ∷ 2 ∷ 7 ∷ 3 ∷ 10 ∷ []) ∷ (2 ∷ 1 ∷ 2 ∷ 1 ∷ 20 ∷ 0 ∷ []) ∷ []) ∷
+    patchRow (pictureOf 4 5 2 (2 ∷ 2 ∷ 1 ∷ 3 ∷ 1 ∷ 2 ∷ 1 ∷ 3 ∷ 0 ∷ 2 ∷ [])) (0 ∷ 0 ∷ 1 ∷ 0 ∷ 2 ∷ 0 ∷ 3 ∷ 0 ∷ 4 ∷ 0 ∷ []) 6
+    ((1 ∷ 1 ∷ 1 ∷ 2 ∷ 20 ∷ 0 ∷ []) ∷ (2 ∷ 1 ∷ 1 ∷ 1 ∷ 40 ∷ 0 ∷ []) ∷ (3 ∷ 1 ∷ 1 ∷ 1 ∷ 10 ∷ 10 ∷ []) ∷ (4 ∷ 1 ∷ 0 ∷ 3 ∷ 30 ∷ 10 ∷ []) ∷ []) ∷
     patchRow (pictureOf 8 1 2 (0 ∷ 255 ∷ [])) (1 ∷ 0 ∷ []) 1 ((1 ∷ 1 ∷ 0 ∷ 255 ∷ 0 ∷ 0 ∷ []) ∷ []) ∷
     []
 

@@ -37,7 +37,7 @@ patchAt p x = patchFrom 1 p x (patchNodes p)
 unfoldable pub lineCount : Picture → ℕ
 lineCount p = tally (λ x. eqb (patchAt p x) 0) (range 0 (places p))
 
--- a patch, by its leaf, is deeper than another: its height is less, or equal with a smaller patch number
+-- the patch of the leaf m is deeper than that of the leaf n: its height is less, or equal with a smaller patch number
 unfoldable pub deeper : Picture → Node → Node → Bool
 deeper p m n =
     ltb (m .height) (n .height) || eqb (m .height) (n .height) && ltb (patchAt p (m .first)) (patchAt p (n .first))

@@ -1,4 +1,4 @@
--- The climb from two nodes to their nearest common ancestor, whose height decides at which heights two places are joined.
+-- Ancestors of nodes, and the climb from two nodes to their nearest common ancestor, whose height decides at which heights two places are joined.
 use mathlib.Core.Path.{_≡_, sym, ap, subst, _∙_}
 use mathlib.Core.Logic.{_⊎_, inl, inr, ⊎-elim, by-cases, _↔_}
 use Prim.Native.Nat.{ℕ, zero, suc, _+_, _-_, _≤_, _<_}
@@ -29,7 +29,7 @@ module _ {P : ℕ → ℕ} {m : ℕ} where
   up-trans u stay = u
   up-trans u (rise h f v) = rise h f (up-trans u v)
 
-  -- two ancestors of one node
+  -- of two ancestors of one node, one is the other or lies above it
   pub up-chain : {a c d : ℕ} → Up P m c a → Up P m d a → Up P m c d ⊎ Up P m d c
   up-chain stay v = inr v
   up-chain (rise h f u) stay = inl (rise h f u)

@@ -244,11 +244,11 @@ module _ (p : Picture) (ok : Accepted p) where
       (conn-trans c (joined-mono p (conn-target c .low) b)))
 
   -- a place of a patch is joined to the first place at the value of both
-  member :
+  member-joined :
       (k x : ℕ) → k < length (nodes p) → leafNode p k ≡ true → isIn x (componentOf p (nodeAt p k)) ≡ true →
       Joined p (valueAt p (nodeAt p k .first)) (nodeAt p k .first) x × Joined p (valueAt p x) x (nodeAt p k .first)
   unfolding leafNode
-  member k x b l i =
+  member-joined k x b l i =
       let s = node-is p k b .place in
       let c = in-joined p (nodeAt p k .height) (nodeAt p k .first) x s i in
       let v = leaf-sound p (nodeAt p k .height) (nodeAt p k .first) s l x c in (
@@ -263,8 +263,8 @@ module _ (p : Picture) (ok : Accepted p) where
   member-pass k l x y kb lb kl ll i j =
       let u = nodeAt p k .first in
       let v = nodeAt p l .first in
-      let (c, d) = member k x kb kl i in
-      let (e, f) = member l y lb ll j in
+      let (c, d) = member-joined k x kb kl i in
+      let (e, f) = member-joined l y lb ll j in
       let low = pass-moved x y u v (conn-source d .within) (conn-source f .within) d f in
       let high = pass-moved u v x y (conn-source c .within) (conn-source e .within) c e in
       omega arith

@@ -73,6 +73,8 @@ pub fn depths() -> Vec<(Picture, Vec<i32>)> {
         (four("5 7 6 9 0"), vec![4, 1, 9]),
         (four("0 9 5 7 1"), vec![9, 2, 8]),
         (four("3 9 0 / 4 9 9 / 4 4 1"), vec![1, 9, 8]),
+        // The lowest pass leads to a lower patch, and to one of the same height.
+        (four("2 2 1 3 1 / 2 1 3 0 2"), vec![2, 1, 1, 3]),
         // The first patch has forks at 3 and 5 below the end of its climb.
         (four("1 3 2 5 4 8 0 9"), vec![7, 1, 1, 9]),
         // Three parts meet at one height.

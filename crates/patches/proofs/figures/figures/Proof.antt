@@ -10,6 +10,19 @@ use Rattle.patches.proofs.figures.figures.Tie as tie
 abbrev pictured : tie.Start → Picture
 pictured s = pictureOf (s .args .a) (s .args .w) (s .args .h) (s .args .pixels .now)
 
+-- the ways back: from the depths to the climbs, the patch of each place, the numbers, the start
+abbrev climbed : tie.After-put-patches → tie.After-put-climbs
+climbed c = c .before .before .before .before .before
+
+abbrev mapped : tie.After-put-climbs → tie.After-map-patches
+mapped c = c .before .before .before .before .before .before
+
+abbrev numbered : tie.After-map-patches → tie.After-number
+numbered c = c .before .before .before .before .before .before .before
+
+abbrev origin : tie.After-number → tie.Start
+origin c = c .before .before .before .before .before .before
+
 mul-n : tie.Need-mul-n
 mul-n c = search needs
 
@@ -21,7 +34,7 @@ number-requires c κs =
 map-patches-requires : tie.Need-map-patches-requires
 map-patches-requires c κs =
     let l = c .before .before .before .before .before .before in
-    let s = l .before .before .before .before .before .before in (
+    let s = origin l in (
       numbered-sizes (pictured s) _ _ (s .pre .0) _ _ (l .number .ensures) _ (s .pre .1),
       numbered-mapped (pictured s) _ _ (s .pre .0) _ _ (l .number .ensures),
       let z = s .pre .1 .beside in search needs,
@@ -35,8 +48,8 @@ cell-of-requires c κs = search needs
 
 put-climbs-requires : tie.Need-put-climbs-requires
 put-climbs-requires c κs =
-    let l = c .before .before .before .before .before .before .before .before .before .before .before .before in
-    let s = l .before .before .before .before .before .before in (
+    let l = numbered (c .before .before .before .before .before) in
+    let s = origin l in (
       s .pre .1 .few,
       numbered-sizes (pictured s) _ _ (s .pre .0) _ _ (l .number .ensures) _ (s .pre .1) .blocks,
       tree-few (pictured s) _ _ (s .pre .0),
@@ -46,8 +59,8 @@ put-climbs-requires c κs =
 put-patches-requires : tie.Need-put-patches-requires
 put-patches-requires c κs =
     let k = c .before .before .before .before in
-    let l = k .before .before .before .before .before .before .before .before .before .before .before .before .before in
-    let s = l .before .before .before .before .before .before in (
+    let l = numbered (mapped k) in
+    let s = origin l in (
       climbed-sizes (pictured s) _ _ (s .pre .0) _ _ (l .number .ensures) _ _ (k .put-climbs .ensures) _ (s .pre .1),
       let z = s .pre .1 .beside in search needs,
       climbed-mapped (pictured s) _ _ (s .pre .0) _ _ (l .number .ensures) _ _ (k .put-climbs .ensures),
@@ -56,10 +69,10 @@ put-patches-requires c κs =
 put-sums-requires : tie.Need-put-sums-requires
 put-sums-requires c κs =
     let q = c .before .before .before .before in
-    let k = q .before .before .before .before .before in
-    let m = k .before .before .before .before .before .before in
-    let l = m .before .before .before .before .before .before .before in
-    let s = l .before .before .before .before .before .before in (
+    let k = climbed q in
+    let m = mapped k in
+    let l = numbered m in
+    let s = origin l in (
       patched-frame (pictured s) _ _ (s .pre .0) _ _ (l .number .ensures) _ (let z = s .pre .1 .beside in search needs) (m .map-patches .ensures),
       refl,
       q .put-patches .ensures .kept .size ∙
@@ -75,10 +88,10 @@ same-length-2 c = search needs
 returns : tie.Need-returns
 returns c =
     let q = c .before .before .before .before .before .before .before in
-    let k = q .before .before .before .before .before in
-    let m = k .before .before .before .before .before .before in
-    let l = m .before .before .before .before .before .before .before in
-    let s = l .before .before .before .before .before .before in
+    let k = climbed q in
+    let m = mapped k in
+    let l = numbered m in
+    let s = origin l in
     let long = m .map-patches .kept .1 .1 .1 .0 ∙ (l .number .kept .1 .1 .1 .0 ∙ s .pre .1 .beside) in
     figures-all (pictured s) _ _ (s .pre .0) _ _ (l .number .ensures) _ long (m .map-patches .ensures) _ _ _ _ _
     (k .before .before .cell-of .ensures ∙ k .before .before .before .largest .ensures)
