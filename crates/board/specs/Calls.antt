@@ -1,8 +1,9 @@
 -- What the public calls promise: the answer, and what they leave in each lent slice.
 -- p the picture, o output, q work, r the answer; a prime: after the call.
 use mathlib.Core.Path.{_≡_}
+use mathlib.Core.Logic.{_↔_}
 use mathlib.Core.List.{List}
-use Prim.Native.Nat.{ℕ, zero, suc}
+use Prim.Native.Nat.{ℕ, zero, suc, _≤_}
 use lib.Dec.{eqb}
 use lib.ListN.{length}
 use Rattle.lists.specs.Lists.{pick}
@@ -10,9 +11,9 @@ use Rattle.picture.specs.Pictures.{Picture, valueAt}
 use Rattle.picture.specs.Components.{components}
 use Rattle.picture.specs.Labels.{labels}
 use Rattle.picture.specs.Watersheds.{lowerable, watershed}
-use Rattle.faults.specs.Faults.{outputFault, placeFault, sizeFault}
+use Rattle.faults.specs.Faults.{outputFault, placeFault, touchFault, sizeFault}
 use Rattle.picture.specs.Filling.{filled}
-use Rattle.picture.specs.Patches.{patchAt}
+use Rattle.picture.specs.Patches.{patchAt, touchedPatch}
 use Rattle.answers.specs.declared.Answer.{Answer}
 use Rattle.answers.specs.Answers.{workAfter, WorkSays, OutputSays}
 use Rattle.board.specs.declared.query.Ground.{Ground}
@@ -27,6 +28,11 @@ outputFaultOf p o q =
 -- the fault of a call that lends work and names a place
 abbrev pub placeFaultOf : Picture → List ℕ → ℕ → ℕ
 placeFaultOf p q x = placeFault (p .adjacency) (p .width) (p .height) (length (p .pixels)) (length q) x
+
+-- the fault of a touch by a handbook
+abbrev pub touchFaultOf : ℕ → Picture → List ℕ → ℕ → ℕ
+touchFaultOf handbook p q x =
+    touchFault handbook (p .adjacency) (p .width) (p .height) (length (p .pixels)) (length q) x
 
 -- the fault of a call that lends output and work and names a least size of parts
 abbrev pub sizeFaultOf : Picture → ℕ → List ℕ → List ℕ → ℕ
@@ -63,8 +69,26 @@ patchNumber (G.Patch n) = n
 abbrev pub QueryIs : ℕ → ℕ → ℕ → Queried → Type 0
 QueryIs f v n r = r ≡ record { number = f; value = v; ground = groundOf n }
 
--- the pixel's value and the line or the patch's number; on a refusal the value is 0 and the ground the line
-pub record QuerySays (p : Picture) (x : ℕ) (q q′ : List ℕ) (r : Queried) : Type 0 where
-  pub answer :
-      QueryIs (placeFaultOf p q x) (pick (eqb (placeFaultOf p q x) 0) (valueAt p x) 0) (pick (eqb (placeFaultOf p q x) 0) (patchAt p x) 0) r
-  pub work : q′ ≡ workAfter (placeFaultOf p q x) p q
+-- a call with the fault f that answers the value v and the patch number n, 0 for the line; on a refusal the value is 0 and the ground the line
+pub record QueriedSays (f v n : ℕ) (p : Picture) (q q′ : List ℕ) (r : Queried) : Type 0 where
+  pub answer : QueryIs f (pick (eqb f 0) v 0) (pick (eqb f 0) n 0) r
+  pub work : q′ ≡ workAfter f p q
+
+-- the pixel's value and the line or the patch's number
+abbrev pub QuerySays : Picture → ℕ → List ℕ → List ℕ → Queried → Type 0
+QuerySays p x q q′ r = QueriedSays (placeFaultOf p q x) (valueAt p x) (patchAt p x) p q q′ r
+
+-- the pixel's value and the patch that a touch belongs to by a handbook, or the line
+abbrev pub TouchSays : ℕ → Picture → ℕ → List ℕ → List ℕ → Queried → Type 0
+TouchSays handbook p x q q′ r =
+    QueriedSays (touchFaultOf handbook p q x) (valueAt p x) (touchedPatch handbook p x) p q q′ r
+
+-- under handbook 4 the promise of a touch is that of the place query
+abbrev pub Touch-four : Type 0
+Touch-four = (p : Picture) (x : ℕ) (q q′ : List ℕ) (r : Queried) → TouchSays 4 p x q q′ r ↔ QuerySays p x q q′ r
+
+-- of a touch inside a patch both handbooks promise the same
+abbrev pub Touch-inside : Type 0
+Touch-inside =
+    (p : Picture) (x : ℕ) → 1 ≤ patchAt p x →
+    (q q′ : List ℕ) (r : Queried) → TouchSays 4 p x q q′ r ↔ TouchSays 5 p x q q′ r

@@ -1,11 +1,11 @@
-// The answer of a place query, and its core with work cleared.
+// The answer of a place query and of a touch, and their core with work cleared.
 use answers::clear_work;
-use patches::cores::query;
+use patches::cores::touch;
 ghost use mathlib.Core.Path.{_≡_};
 ghost use Prim.Native.Nat.{_*_, _<_};
 ghost use lib.ListN.{length};
 ghost use Rattle.picture.specs.Pictures.{pictureOf};
-ghost use Rattle.picture.specs.Patches.{patchAt};
+ghost use Rattle.picture.specs.Patches.{touchedPatch};
 ghost use Rattle.faults.specs.Steps.{Admitted};
 ghost use Rattle.answers.specs.Answers.{cleared};
 ghost use Rattle.board.specs.Calls.{groundOf, patchNumber, QueryIs};
@@ -43,7 +43,7 @@ fn ground_of(number: u16) -> Ground
     Ground::Patch(number)
 }
 
-// The answer of a place query.
+// The answer of a place query or of a touch.
 pub fn answer_query(number: u8, value: u8, patch: u16) -> Queried
     ensures { λ r. ⌜ QueryIs number value patch r ⌝ }
 {
@@ -54,15 +54,32 @@ pub fn answer_query(number: u8, value: u8, patch: u16) -> Queried
     }
 }
 
-// The patch number of a place, from work of 5 n entries that is cleared after it.
-pub fn query_cleared(a: u32, w: u32, h: u32, pixels: &[u8], place: usize, work: &mut [u16]) -> u16
+// The number of the patch that a touch at a place belongs to by a handbook, from work of 5 n entries that is cleared after it.
+pub fn touch_cleared(
+    handbook: u32,
+    a: u32,
+    w: u32,
+    h: u32,
+    pixels: &[u8],
+    place: usize,
+    work: &mut [u16],
+) -> u16
     requires { ⌜ Admitted (pictureOf a w h (now pixels)) (length (now work)) × (place < w * h) ⌝ }
-    ensures { λ r. ⌜ (r ≡ patchAt (pictureOf a w h (now (pixels .entry))) place) × (now (work .exit) ≡ cleared (length (now (pixels .entry))) (now (work .entry))) ⌝ }
+    ensures { λ r. ⌜ (r ≡ touchedPatch handbook (pictureOf a w h (now (pixels .entry))) place) × (now (work .exit) ≡ cleared (length (now (pixels .entry))) (now (work .entry))) ⌝ }
 {
     let n = pixels.len();
     let whole = 5 * n;
     let mut cells = [0u16; 1600];
-    let number = query(a, w, h, pixels, place, &mut work[..whole], &mut cells[..n]);
+    let number = touch(
+        handbook,
+        a,
+        w,
+        h,
+        pixels,
+        place,
+        &mut work[..whole],
+        &mut cells[..n],
+    );
     clear_work(work, n);
     number
 }

@@ -4,12 +4,11 @@ use mathlib.Core.List.{List}
 use Prim.Native.Nat.{ℕ, zero, suc}
 use lib.Dec.{eqb}
 use Rattle.lists.specs.Lists.{pick}
-use Rattle.picture.specs.Pictures.{Picture, valueAt}
-use Rattle.picture.specs.Patches.{patchAt}
+use Rattle.picture.specs.Pictures.{Picture}
 use Rattle.answers.specs.declared.Answer.{Answer}
 use Rattle.answers.specs.Answers.{WorkSays}
 use Rattle.board.specs.declared.query.Queried.{Queried}
-use Rattle.board.specs.Calls.{placeFaultOf, groundOf, patchNumber, QuerySays}
+use Rattle.board.specs.Calls.{groundOf, patchNumber, QueriedSays}
 use Rattle.saving.specs.declared.Saved.{Saved}
 use Rattle.saving.specs.Calls.{SaveSays}
 use Rattle.stored_rows.specs.Calls.{RowsSay}
@@ -19,17 +18,15 @@ ground-again : (n : ℕ) → groundOf (patchNumber (groundOf n)) ≡ groundOf n
 ground-again zero = refl
 ground-again (suc n) = refl
 
--- what the public call promises of the answer for a place holds of the packed one, since no place has the patch 0
+-- what a public call promises of the answer for a place holds of the packed one, since no place has the patch 0
 pub query-packed :
-    {p : Picture} {x : ℕ} {q q′ : List ℕ} {a : Queried} (r : ℕ) →
-    queriedIn r ≡ groundByNumber a → QuerySays p x q q′ a → QuerySays p x q q′ (queriedIn r)
-query-packed {p} {x} {q} {q′} {a} r e s =
-    let f = placeFaultOf p q x in
-    let v = pick (eqb f 0) (valueAt p x) 0 in
-    let n = pick (eqb f 0) (patchAt p x) 0 in
+    {f v n : ℕ} {p : Picture} {q q′ : List ℕ} {a : Queried} (r : ℕ) →
+    queriedIn r ≡ groundByNumber a → QueriedSays f v n p q q′ a → QueriedSays f v n p q q′ (queriedIn r)
+query-packed {f} {v} {n} r e s =
+    let number = pick (eqb f 0) n 0 in
     record {
       answer =
-          e ∙ (ap groundByNumber (s .answer) ∙ (λ j. record { number = f; value = v; ground = ground-again n j }));
+          e ∙ (ap groundByNumber (s .answer) ∙ (λ j. record { number = f; value = pick (eqb f 0) v 0; ground = ground-again number j }));
       work = s .work;
     }
 

@@ -8,6 +8,7 @@ use board::pass_between;
 use board::query_place;
 use board::restore_rows;
 use board::store_rows;
+use board::touch_place;
 use board::watershed_of;
 use board::write_file;
 use figure_lists::list_figures;
@@ -15,7 +16,7 @@ use packed_answers::packed;
 use packed_answers::packed_query;
 use packed_answers::packed_saved;
 ghost use Rattle.picture.specs.Pictures.{pictureOf};
-ghost use Rattle.board.specs.Calls.{LabelsSay, LowerableSays, WatershedSays, FillSays, QuerySays};
+ghost use Rattle.board.specs.Calls.{LabelsSay, LowerableSays, WatershedSays, FillSays, QuerySays, TouchSays};
 ghost use Rattle.board.specs.Trees.{TreeSays, CheckSays, PassSays};
 ghost use Rattle.saving.specs.Calls.{SaveSays};
 ghost use Rattle.stored_rows.specs.Calls.{StoreSays, RestoreSays};
@@ -189,6 +190,22 @@ pub extern "C" fn controller_query_place(
     ensures { λ r. ⌜ QuerySays (pictureOf adjacency width height (now (pixels .entry))) place (now (work .entry)) (now (work .exit)) (queriedIn r) ⌝ }
 {
     packed_query(query_place(adjacency, width, height, pixels, place, work))
+}
+
+// The value of the pixel at a place, and the number of the patch that a touch there belongs to by a handbook, 0 for the line.
+#[no_mangle]
+pub extern "C" fn controller_touch_place(
+    handbook: u32,
+    adjacency: u32,
+    width: u32,
+    height: u32,
+    pixels: &[u8],
+    place: u32,
+    work: &mut [u16],
+) -> u64
+    ensures { λ r. ⌜ TouchSays handbook (pictureOf adjacency width height (now (pixels .entry))) place (now (work .entry)) (now (work .exit)) (queriedIn r) ⌝ }
+{
+    packed_query(touch_place(handbook, adjacency, width, height, pixels, place, work))
 }
 
 // The figures of the patches in their order, a list each; the value is the number of patches.

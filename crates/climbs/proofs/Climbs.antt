@@ -21,9 +21,9 @@ use Rattle.topology.proofs.Climb.{Up, up-rises, father, father-greater}
 use Rattle.topology.proofs.LeafNodes.{leafNode}
 use Rattle.topology.proofs.LeavesBelow.{LeastBelow, Least, ChainEnd, least-same-fathers, least-one, least-last, chain-end, leaf-least}
 use Rattle.topology.proofs.Dynamics.{climb-father, climb-root}
-use Rattle.least_labels.specs.LeastLabels.{Handed, top, lowered, stayed, LeastOf, LeastThrough}
-use Rattle.least_labels.proofs.Labels.{labels-start, labels-final, labels-top, labels-more}
-use Rattle.climbs.specs.Climbs.{NodesLabelled, OwnLabels, FathersRise, heightOrMost, ClimbPut, ClimbsBefore, HeightsAndFathers, Climbs}
+use Rattle.least_labels.specs.LeastLabels.{FathersRise, Handed, LeastOf, LeastThrough}
+use Rattle.least_labels.proofs.Labels.{labels-start, labels-final, fathers-rise, handed-kept, handed-own, handed-labels}
+use Rattle.climbs.specs.Climbs.{NodesLabelled, OwnLabels, heightOrMost, ClimbPut, ClimbsBefore, HeightsAndFathers, Climbs}
 
 -- the height of a node, or the largest value
 module _ (n most : ℕ) (work : List ℕ) (f : ℕ) where
@@ -46,11 +46,6 @@ height-same n most f work cells e =
 numbered-least : {P : ℕ → ℕ} {m a v : ℕ} → LeastOf (Up P m a) (λ j. j) v → LeastBelow P m a v
 numbered-least {P} {m} {a} l = record { below = subst (Up P m a) (l .is) (l .within); least = l .least }
 
-fathers-rise :
-    (n count : ℕ) (work : List ℕ) → count ≤ n → FathersRise n count work →
-    (i : ℕ) → i < count → blockEntry work n i < count → i < blockEntry work n i
-fathers-rise n count work few up i h f = up .rise i h (omega arith)
-
 pub climbs-start : {n count most : ℕ} {work : List ℕ} → OwnLabels n count work → ClimbsBefore n count most 0 work work
 climbs-start o =
     record {
@@ -65,7 +60,7 @@ module _ (n count most : ℕ) (work : List ℕ) (few : count ≤ n) (long : leng
   P = blockEntry work n
 
   rises : (i : ℕ) → i < count → P i < count → i < P i
-  rises = fathers-rise n count work few up
+  rises = fathers-rise few up
 
   -- one node more: the cells before it, and after its label is handed up
   module _ (i : ℕ) (cells handed : List ℕ) (h : i < count) (c : ClimbsBefore n count most i work cells) (g : Handed n i cells handed) where
@@ -81,87 +76,56 @@ module _ (n count most : ℕ) (work : List ℕ) (few : count ≤ n) (long : leng
     same-father : blockEntry cells n i ≡ P i
     same-father = c .ahead i (omega arith) (omega arith)
 
-    -- what handing up leaves
-    record AfterHanding (after : List ℕ) : Type 0 where
-      size : length after ≡ length work
-      before : (j : ℕ) → j < 4 * n → getD after j 0 ≡ getD cells j 0
-      own : blockEntry after (4 * n) i ≡ leaf
-      labels : LeastThrough P count (i + 1) (λ j. j) (blockEntry after (4 * n))
+    -- handing up leaves all but the labels
+    earlier : (j : ℕ) → j < 4 * n → getD handed j 0 ≡ getD cells j 0
+    earlier j b = handed-kept g .outside j (inl b)
 
-    unchanged : LeastThrough P count (i + 1) (λ j. j) (blockEntry cells (4 * n)) → AfterHanding cells
-    unchanged k = record { size = c .kept .size; before = λ j b. refl; own = refl; labels = k }
+    handed-long : length handed ≡ length work
+    handed-long = handed-kept g .size ∙ c .kept .size
 
-    after-handing : Handed n i cells handed → AfterHanding handed
-    after-handing (top a e) =
-        let f = same-father in
-        subst AfterHanding (sym e) (unchanged (labels-top rises h (c .labels) (omega arith) (λ a b. refl)))
-    after-handing (stayed a b e) =
-        let f = same-father in
-        let q = ap (blockEntry cells (4 * n)) f in
-        subst AfterHanding (sym e)
-        (unchanged (labels-more rises h (c .labels) (up .within i h (omega arith)) (omega arith) (λ a b d. refl)))
-    after-handing (lowered a b e) =
-        let f = same-father in
-        let later = up .rise i h (omega arith) in
-        let within = up .within i h (omega arith) in
-        let size = c .kept .size in
-        let q = ap (blockEntry cells (4 * n)) f in
-        subst AfterHanding (sym (e ∙ ap (λ (z : ℕ). set cells (4 * n + z) leaf) f))
-        (record {
-          size = length-set cells (4 * n + P i) leaf ∙ size;
-          before =
-              λ j b.
-              let d : j ≢ 4 * n + P i = λ q. absurd (omega arith) in
-              getD-set-other cells (4 * n + P i) j leaf 0 d;
-          own =
-              let d : 4 * n + i ≢ 4 * n + P i = λ q. absurd (omega arith) in
-              getD-set-other cells (4 * n + P i) (4 * n + i) leaf 0 d;
-          labels =
-              let lesser : leaf ≡ min (blockEntry cells (4 * n) (P i)) leaf = omega arith in
-              labels-more rises h (c .labels) within
-              (getD-set-same cells (4 * n + P i) leaf 0 (omega arith) ∙ lesser)
-              (λ a b q.
-              let d : 4 * n + a ≢ 4 * n + P i = λ z. q (omega arith) in
-              getD-set-other cells (4 * n + P i) (4 * n + a) leaf 0 d);
-        })
+    cells-long : length cells ≡ 5 * n
+    cells-long = c .kept .size ∙ long
 
-    abbrev k : AfterHanding handed
-    k = after-handing g
+    own : blockEntry handed (4 * n) i ≡ leaf
+    own = handed-own n count i work cells few cells-long up h same-father g
+
+    labels : LeastThrough P count (i + 1) (λ j. j) (blockEntry handed (4 * n))
+    labels = handed-labels n count i work cells few cells-long up h same-father (c .labels) g
 
     pub handed-size : length handed ≡ 5 * n
-    handed-size = k .size ∙ long
+    handed-size = handed-long ∙ long
 
     pub handed-leaf : blockEntry handed (4 * n) i < n
-    handed-leaf = let e = k .own in let b = leaf-few in omega arith
+    handed-leaf = let b = leaf-few in omega (arith, own)
 
     pub climbs-more :
         {climbed : List ℕ} → ClimbPut n i most handed climbed → ClimbsBefore n count most (i + 1) work climbed
     climbs-more e =
         let b = leaf-few in
-        let size = k .size in
-        let at : blockEntry handed n i ≡ P i = k .before (n + i) (omega arith) ∙ same-father in
+        let size = handed-size in
+        let at : blockEntry handed n i ≡ P i = earlier (n + i) (omega arith) ∙ same-father in
         let v : heightOrMost n most handed (blockEntry handed n i) ≡ x =
         ap (heightOrMost n most handed) at ∙
-        height-same n most (P i) work handed (λ j h. k .before j (omega arith) ∙ c .kept .same j (inl h)) in
-        subst (ClimbsBefore n count most (i + 1) work) (sym (e ∙ ap₂ (λ (z y : ℕ). set handed (n + z) y) (k .own) v))
+        height-same n most (P i) work handed (λ j h. earlier j (omega arith) ∙ c .kept .same j (inl h)) in
+        subst (ClimbsBefore n count most (i + 1) work) (sym (e ∙ ap₂ (λ (z y : ℕ). set handed (n + z) y) own v))
         (record {
           kept =
               record {
-                size = length-set handed (n + leaf) x ∙ size;
+                size = length-set handed (n + leaf) x ∙ handed-long;
                 same =
                     λ j w.
                     let d : j ≢ n + leaf = λ q. absurd (⊎-elim (λ z. omega arith) (λ z. let y = z .0 in omega arith) w) in
                     let low : j < 4 * n = ⊎-elim (λ z. omega arith) (λ z. z .1) w in
-                    other j d ∙ (k .before j low ∙ c .kept .same j w);
+                    other j d ∙ (earlier j low ∙ c .kept .same j w);
               };
           ahead =
               λ s u w.
               let d : n + s ≢ n + leaf = λ q. absurd (omega arith) in
-              other (n + s) d ∙ (k .before (n + s) (omega arith) ∙ c .ahead s (omega arith) w);
+              other (n + s) d ∙ (earlier (n + s) (omega arith) ∙ c .ahead s (omega arith) w);
           labels =
               λ a u.
               let d : 4 * n + a ≢ n + leaf = λ q. absurd (omega arith) in
-              subst (LeastOf _ (λ j. j)) (sym (other (4 * n + a) d)) (k .labels a u);
+              subst (LeastOf _ (λ j. j)) (sym (other (4 * n + a) d)) (labels a u);
           climbs =
               λ s j u a f.
               by-cases (ℕ-discrete j leaf)
@@ -177,7 +141,7 @@ module _ (n count most : ℕ) (work : List ℕ) (few : count ≤ n) (long : leng
               let d : n + j ≢ n + leaf = λ y. q (omega arith) in
               let jb = up-rises rises (a .below) in
               other (n + j) d ∙
-              (k .before (n + j) (omega arith) ∙ c .climbs s j (omega arith) a (λ y. let r = f y in omega arith)));
+              (earlier (n + j) (omega arith) ∙ c .climbs s j (omega arith) a (λ y. let r = f y in omega arith)));
         })
       where
         x : ℕ
@@ -233,7 +197,7 @@ module _ (p : Picture) (n most : ℕ) (work after : List ℕ) where
     least-of : (a : ℕ) → a < m → (w : ℕ) × Least p a w
     least-of a h = (
       blockEntry after (4 * n) a,
-      least-same-fathers (t .fathers) (numbered-least (labels-final (fathers-rise n m work few up) (c .labels) a h (omega arith))),
+      least-same-fathers (t .fathers) (numbered-least (labels-final (fathers-rise few up) (c .labels) a h (omega arith))),
     )
 
     climbed-leaf : (j : ℕ) → j < m → leafNode p j ≡ true → blockEntry after n j ≡ climbOf p (nodeAt p j)

@@ -23,11 +23,6 @@ NodesLabelled n count work after = Overwritten (λ m. m) (4 * n) count work afte
 pub record OwnLabels (n count : ℕ) (work : List ℕ) : Type 0 where
   pub own : (m : ℕ) → m < count → blockEntry work (4 * n) m ≡ m
 
--- the father of each of count nodes has a greater number, or is no node
-pub record FathersRise (n count : ℕ) (work : List ℕ) : Type 0 where
-  pub rise : (i : ℕ) → i < count → blockEntry work n i < n → i < blockEntry work n i
-  pub within : (i : ℕ) → i < count → blockEntry work n i < n → blockEntry work n i < count
-
 -- the height of the node f; the largest value if f is no node
 unfoldable pub heightOrMost : ℕ → ℕ → List ℕ → ℕ → ℕ
 heightOrMost n most work f = pick (ltb f n) (getD work f 0) most

@@ -5,7 +5,8 @@ ghost use mathlib.Core.Path.{_≡_};
 ghost use Prim.Native.Nat.{_*_, _≤_, _<_};
 ghost use lib.ListN.{length};
 ghost use Rattle.lists.specs.Blocks.{blockEntry};
-ghost use Rattle.climbs.specs.Climbs.{NodesLabelled, OwnLabels, FathersRise, heightOrMost, ClimbPut, ClimbsBefore, Climbs};
+ghost use Rattle.least_labels.specs.LeastLabels.{FathersRise};
+ghost use Rattle.climbs.specs.Climbs.{NodesLabelled, OwnLabels, heightOrMost, ClimbPut, ClimbsBefore, Climbs};
 
 // Labels each of count nodes with its own number.
 fn label_nodes(n: usize, count: usize, work: &mut [u16])

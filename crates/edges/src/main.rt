@@ -1,4 +1,7 @@
-// Prints for each edge case its name, then what `holds` prints for its file and argument.
+// Prints for each edge case its name, then what `holds` prints for its file and argument; of a handbook what a touch answers.
+use board::Queried;
+use board::patch_number;
+use board::touch_place;
 use files::put_file;
 use files::put_headed;
 use hold_list::put_text;
@@ -36,7 +39,7 @@ fn print_name(word: &[u8], numbers: &[u32])
 
 // Prints the name of a case: a word and a number.
 fn print_numbered(word: &[u8], number: u32)
-    requires { ⌜ (length (now word) ≤ 8) × (number < 100000) ⌝ }
+    requires { ⌜ (length (now word) ≤ 9) × (number < 100000) ⌝ }
 {
     let numbers = [number];
     print_name(word, &numbers);
@@ -229,6 +232,75 @@ fn print_arguments() {
     print_refused_files();
 }
 
+// What a touch at a place of the row 0 2 1 9 5 answers by a handbook and an adjacency.
+fn touched(handbook: u32, adjacency: u32, place: u32) -> Queried {
+    let mut work = [0u16; 25];
+    touch_place(
+        handbook,
+        adjacency,
+        5,
+        1,
+        b"\x00\x02\x01\x09\x05",
+        place,
+        &mut work,
+    )
+}
+
+// The number of the refusal of a touch by a handbook and an adjacency, 0 for none.
+fn touch_refusal(handbook: u32, adjacency: u32) -> u32
+    ensures { λ r. ⌜ r < 100000 ⌝ }
+{
+    let answer = touched(handbook, adjacency, 0);
+    answer.number as u32
+}
+
+// The number of the patch that a touch at a place belongs to by a handbook, 0 for the line.
+fn touched_patch(handbook: u32, place: u32) -> u32
+    ensures { λ r. ⌜ r < 100000 ⌝ }
+{
+    let answer = touched(handbook, 4, place);
+    let ground = answer.ground;
+    patch_number(ground) as u32
+}
+
+// Prints that number and what stands behind it.
+fn print_touched(handbook: u32, place: u32, behind: &[u8]) {
+    let number = touched_patch(handbook, place);
+    let mut text = [0u8; 5];
+    let end = put_number(&mut text, 0, number);
+    io::write_all(1, &text[..end]);
+    io::write_all(1, behind);
+}
+
+// The case of a handbook: the patches that touches at the places of the row belong to, or the refusal.
+fn print_handbook(handbook: u32)
+    requires { ⌜ handbook < 100000 ⌝ }
+{
+    print_numbered(b"handbook ", handbook);
+    let refusal = touch_refusal(handbook, 4);
+    if refusal != 0 {
+        print_numbered(b"refused ", refusal);
+        return;
+    }
+    print_touched(handbook, 0, b" ");
+    print_touched(handbook, 1, b" ");
+    print_touched(handbook, 2, b" ");
+    print_touched(handbook, 3, b" ");
+    print_touched(handbook, 4, b"\n");
+}
+
+// The cases of handbooks: those that are known and the next on either side, and which refusal comes first.
+fn print_handbooks() {
+    print_handbook(3);
+    print_handbook(4);
+    print_handbook(5);
+    print_handbook(6);
+    io::write_all(1, b"handbook 3 adjacency 5\n");
+    print_numbered(b"refused ", touch_refusal(3, 5));
+    io::write_all(1, b"handbook 5 adjacency 5\n");
+    print_numbered(b"refused ", touch_refusal(5, 5));
+}
+
 fn main() {
     print_heights(0);
     print_heights(1);
@@ -247,4 +319,5 @@ fn main() {
     print_comments();
     print_rows();
     print_arguments();
+    print_handbooks();
 }

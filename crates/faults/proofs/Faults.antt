@@ -9,11 +9,11 @@ use lib.ListN.{length, getD}
 use borrow.Author.Tests.{eqb-false, ltb-false, leb-false, le-ltb}
 use Rattle.picture.specs.Pictures.{Picture, isPicture}
 use Rattle.faults.specs.PictureFault.{firstOf, when, pictureFault, pictureFaultOf}
-use Rattle.lists.proofs.Tests.{or-fails}
+use Rattle.lists.proofs.Tests.{or-fails, on-test}
 use Rattle.picture.proofs.Sides.{sides-area}
 use Rattle.faults.proofs.Accepted.{no-fault, accepted}
 use Rattle.topology.proofs.Accepted.{at-byte}
-use Rattle.faults.specs.Faults.{workFault, workFaultOf, outputFault, placeFault, sizeUnfit, sizeFault}
+use Rattle.faults.specs.Faults.{workFault, workFaultOf, outputFault, placeFault, touchFault, sizeUnfit, sizeFault}
 use Rattle.faults.specs.Steps.{Faultless, Admitted}
 
 -- the first of two numbers
@@ -118,6 +118,22 @@ module _ (a w h l : ℕ) where
       pub place-enough : placeFault a w h l work x ≡ 0 → (workFault a w h l work ≡ 0) × (x < w * h)
       unfolding placeFault
       place-enough e = let z = then-none _ 9 _ _ refl e in (z .0, leb-false (w * h) x (z .1))
+
+      -- a handbook first
+      module _ (handbook : ℕ) where
+        pub touch-unknown : (eqb handbook 4 || eqb handbook 5) ≡ false → touchFault handbook a w h l work x ≡ 14
+        unfolding touchFault
+        touch-unknown e = rw e
+
+        pub touch-known : (eqb handbook 4 || eqb handbook 5) ≡ true → touchFault handbook a w h l work x ≡ placeFault a w h l work x
+        unfolding touchFault
+        touch-known e = rw e
+
+        pub touch-enough : touchFault handbook a w h l work x ≡ 0 → (workFault a w h l work ≡ 0) × (x < w * h)
+        touch-enough e =
+            on-test (eqb handbook 4 || eqb handbook 5)
+            (λ t. place-enough (sym (touch-known t) ∙ e))
+            (λ t. absurd (let z = touch-unknown t in omega arith))
 
 -- a picture without a fault is accepted, since its pixels come from a slice of bytes
 pub faultless-accepted : (p : Picture) → pictureFaultOf p ≡ 0 → ((i : ℕ) → getD (p .pixels) i 0 ≤ 255) → isPicture p ≡ true

@@ -1,5 +1,5 @@
--- The fault of a call's arguments, from numbers and lengths alone: 7, 3, 8, then 9, then 10 or 13.
-use mathlib.Core.Bool.{Bool, _||_}
+-- The fault of a call's arguments, from numbers and lengths alone: 14, then 7, 3, 8, then 9, then 10 or 13.
+use mathlib.Core.Bool.{Bool, _||_, not}
 use Prim.Native.Nat.{ℕ, _*_}
 use lib.Dec.{eqb, ltb, leb}
 use lib.ListN.{length}
@@ -21,6 +21,11 @@ outputFault a w h l out work = firstOf (workFault a w h l work) (when (ltb out (
 -- the fault of a picture's arguments and work, then 10 for a place that is n or more
 unfoldable pub placeFault : ℕ → ℕ → ℕ → ℕ → ℕ → ℕ → ℕ
 placeFault a w h l work x = firstOf (workFault a w h l work) (when (leb (w * h) x) 10)
+
+-- 14 for a handbook that is neither 4 nor 5, then the fault of a call that names a place
+unfoldable pub touchFault : ℕ → ℕ → ℕ → ℕ → ℕ → ℕ → ℕ → ℕ
+touchFault handbook a w h l work x =
+    firstOf (when (not (eqb handbook 4 || eqb handbook 5)) 14) (placeFault a w h l work x)
 
 -- a least size is 0 or above n
 abbrev pub sizeUnfit : ℕ → ℕ → Bool

@@ -1,6 +1,7 @@
 // The fault of a call's arguments, from numbers and lengths alone; 0 for none.
 use crate::picture_fault::picture_fault;
 pub use crate::picture_fault::sides_fault;
+use ranges::either;
 use ranges::lesser;
 
 mod picture_fault;
@@ -10,7 +11,7 @@ ghost use mathlib.Core.Bool.{_||_};
 ghost use Prim.Native.Nat.{min};
 ghost use lib.Dec.{ltb, leb};
 ghost use Rattle.faults.specs.PictureFault.{firstOf, when};
-ghost use Rattle.faults.specs.Faults.{workFault, outputFault, placeFault, sizeUnfit, sizeFault};
+ghost use Rattle.faults.specs.Faults.{workFault, outputFault, placeFault, touchFault, sizeUnfit, sizeFault};
 
 // A fault, then 9 for lent memory with fewer entries than needed.
 pub fn short_after(fault: u8, length: usize, needed: usize) -> u8
@@ -61,6 +62,24 @@ pub fn place_fault(a: u32, w: u32, h: u32, length: usize, work: usize, place: u3
     ensures { λ r. ⌜ r ≡ placeFault a w h length work place ⌝ }
 {
     place_after(work_fault(a, w, h, length, work), length, place)
+}
+
+// A handbook, then a picture's arguments, the length of work, and a place.
+pub fn touch_fault(
+    handbook: u32,
+    a: u32,
+    w: u32,
+    h: u32,
+    length: usize,
+    work: usize,
+    place: u32,
+) -> u8
+    ensures { λ r. ⌜ r ≡ touchFault handbook a w h length work place ⌝ }
+{
+    if !either(handbook, 4, 5) {
+        return 14;
+    }
+    place_fault(a, w, h, length, work, place)
 }
 
 // A fault, then 10 for two places of which one is n or more.

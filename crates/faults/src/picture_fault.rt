@@ -1,19 +1,8 @@
 // The fault of a picture's arguments: of its sides and length, and with its adjacency.
+use ranges::either;
 use ranges::sides_fit;
 ghost use mathlib.Core.Path.{_≡_};
-ghost use mathlib.Core.Bool.{_||_};
-ghost use lib.Dec.{eqb};
 ghost use Rattle.faults.specs.PictureFault.{sidesFault, pictureFault};
-
-// The adjacency is 4 or 8.
-fn adjacency_fits(a: u32) -> bool
-    ensures { λ r. ⌜ r ≡ (eqb a 4 || eqb a 8) ⌝ }
-{
-    if a == 4 {
-        return true;
-    }
-    a == 8
-}
 
 // The number of the first fault of two sides and a number of pixels; 0 for none.
 pub fn sides_fault(w: u32, h: u32, length: usize) -> u8
@@ -32,7 +21,7 @@ pub fn sides_fault(w: u32, h: u32, length: usize) -> u8
 pub fn picture_fault(a: u32, w: u32, h: u32, length: usize) -> u8
     ensures { λ r. ⌜ r ≡ pictureFault a w h length ⌝ }
 {
-    if !adjacency_fits(a) {
+    if !either(a, 4, 8) {
         return 7;
     }
     sides_fault(w, h, length)

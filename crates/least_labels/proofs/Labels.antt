@@ -1,14 +1,16 @@
--- The laws of the least labels: none handed up, one more, those that are final.
+-- The laws of the least labels: none handed up, one more, those that are final; and the same in cells.
 use mathlib.Core.Path.{_≡_, refl, sym, ap, subst, _∙_}
 use mathlib.Core.Logic.{_⊎_, inl, inr, ⊎-elim, _≢_, by-cases}
 use mathlib.Core.List.{List}
 use Prim.Native.Nat.{ℕ, _+_, _*_, _≤_, _<_, min}
 use native.Mathlib.Decide.{ℕ-discrete, decLt}
 use native.Mathlib.Omega.{arith}
-use lib.ListN.{set}
-use Rattle.lists.specs.Blocks.{blockEntry}
+use lib.ListN.{length, set}
+use lib.Seq.{getD-set-same, getD-set-other}
+use Rattle.lists.specs.Blocks.{blockEntry, UntouchedOutside}
+use Rattle.lists.proofs.Blocks.{untouched-refl, untouched-trans, untouched-set}
 use Rattle.topology.proofs.Climb.{Up, stay, rise, up-trans}
-use Rattle.least_labels.specs.LeastLabels.{Handed, top, lowered, stayed, LeastOf, Through, own, by, LeastThrough}
+use Rattle.least_labels.specs.LeastLabels.{FathersRise, Handed, top, lowered, stayed, LeastOf, Through, own, by, LeastThrough, HandedBefore, LeastLabel}
 
 -- the three cases of a node, its father f
 module _ (n i f : ℕ) (work : List ℕ) (e : f ≡ blockEntry work n i) where
@@ -25,7 +27,7 @@ module _ (n i f : ℕ) (work : List ℕ) (e : f ≡ blockEntry work n i) where
   handed-stayed h l = let q = ap (blockEntry work (4 * n)) e in stayed (omega arith) (omega arith) refl
 
 -- the least label of a set with the same nodes, and of two sets together
-least-same :
+pub least-same :
     {S T : ℕ → Type 0} {label : ℕ → ℕ} {v w : ℕ} → ((j : ℕ) → S j → T j) → ((j : ℕ) → T j → S j) → w ≡ v → LeastOf S label v → LeastOf T label w
 least-same there back e l =
     record {
@@ -127,3 +129,75 @@ module _ {P : ℕ → ℕ} {m : ℕ} (rises : (i : ℕ) → i < m → P i < m �
             by-cases (ℕ-discrete s i)
             (λ z. inr (up-through (omega arith) (subst (λ (y : ℕ). Up P m y j) z u)))
             (λ z. inl (by s (omega arith) c e u))
+
+-- what a node that hands its label up changes
+pub handed-kept : {n i : ℕ} {cells after : List ℕ} → Handed n i cells after → UntouchedOutside (4 * n) n cells after
+handed-kept {n} {i} {cells} (top a e) = subst (UntouchedOutside (4 * n) n cells) (sym e) (untouched-refl (4 * n) n cells)
+handed-kept {n} {i} {cells} (stayed a b e) = subst (UntouchedOutside (4 * n) n cells) (sym e) (untouched-refl (4 * n) n cells)
+handed-kept {n} {i} {cells} (lowered a b e) =
+    subst (UntouchedOutside (4 * n) n cells) (sym e) (untouched-set (4 * n) n _ _ cells cells a (untouched-refl (4 * n) n cells))
+
+pub fathers-rise :
+    {n count : ℕ} {work : List ℕ} → count ≤ n → FathersRise n count work →
+    (i : ℕ) → i < count → blockEntry work n i < count → i < blockEntry work n i
+fathers-rise few up i h f = up .rise i h (omega arith)
+
+-- in a tree with the fathers of work; the father of i in the cells is the same
+module _ (n count i : ℕ) (work cells : List ℕ) (few : count ≤ n) (long : length cells ≡ 5 * n) (up : FathersRise n count work) (h : i < count) (same : blockEntry cells n i ≡ blockEntry work n i) where
+  abbrev P : ℕ → ℕ
+  P = blockEntry work n
+
+  abbrev given : ℕ
+  given = blockEntry cells (4 * n) i
+
+  -- its own label stays
+  pub handed-own : {after : List ℕ} → Handed n i cells after → blockEntry after (4 * n) i ≡ given
+  handed-own (top a e) = ap (λ (l : List ℕ). blockEntry l (4 * n) i) e
+  handed-own (stayed a b e) = ap (λ (l : List ℕ). blockEntry l (4 * n) i) e
+  handed-own (lowered a b e) =
+      let r = up .rise i h (omega arith) in
+      let d : 4 * n + i ≢ 4 * n + blockEntry cells n i = λ q. absurd (omega arith) in
+      ap (λ (l : List ℕ). blockEntry l (4 * n) i) e ∙ getD-set-other cells (4 * n + blockEntry cells n i) (4 * n + i) given 0 d
+
+  -- and each node has its least label through one node more
+  pub handed-labels :
+      {label : ℕ → ℕ} {after : List ℕ} → LeastThrough P count i label (blockEntry cells (4 * n)) → Handed n i cells after →
+      LeastThrough P count (i + 1) label (blockEntry after (4 * n))
+  handed-labels {label} k (top a e) =
+      subst (λ (l : List ℕ). LeastThrough P count (i + 1) label (blockEntry l (4 * n))) (sym e)
+      (labels-top (fathers-rise few up) h k (omega arith) (λ a b. refl))
+  handed-labels {label} k (stayed a b e) =
+      let q = ap (blockEntry cells (4 * n)) same in
+      subst (λ (l : List ℕ). LeastThrough P count (i + 1) label (blockEntry l (4 * n))) (sym e)
+      (labels-more (fathers-rise few up) h k (up .within i h (omega arith)) (omega arith) (λ a b d. refl))
+  handed-labels {label} k (lowered a b e) =
+      let q = ap (blockEntry cells (4 * n)) same in
+      let within = up .within i h (omega arith) in
+      let lesser : given ≡ min (blockEntry cells (4 * n) (P i)) given = omega arith in
+      subst (λ (l : List ℕ). LeastThrough P count (i + 1) label (blockEntry l (4 * n)))
+      (sym (e ∙ ap (λ (z : ℕ). set cells (4 * n + z) given) same))
+      (labels-more (fathers-rise few up) h k within
+      (getD-set-same cells (4 * n + P i) given 0 (omega arith) ∙ lesser)
+      (λ a b q.
+      let d : 4 * n + a ≢ 4 * n + P i = λ z. q (omega arith) in
+      getD-set-other cells (4 * n + P i) (4 * n + a) given 0 d))
+
+-- the labels handed up to the node m: none, one more, all before m
+pub handed-start : (n m : ℕ) (work : List ℕ) → HandedBefore n m 0 work work
+handed-start n m work =
+    record { kept = untouched-refl (4 * n) n work; labels = λ count few b up. labels-start (λ a h. refl) }
+
+pub handed-more :
+    {n m i : ℕ} {work cells after : List ℕ} → length work ≡ 5 * n → i < m → HandedBefore n m i work cells → Handed n i cells after →
+    HandedBefore n m (i + 1) work after
+handed-more {n} {m} {i} {work} {cells} {after} long h k g =
+    let size = k .kept .size in
+    record {
+      kept = untouched-trans (4 * n) n work cells after (k .kept) (handed-kept g);
+      labels =
+          λ count few b up.
+          handed-labels n count i work cells few (omega arith) up (omega arith) (k .kept .outside (n + i) (inl (omega arith))) (k .labels count few b up) g;
+    }
+
+pub handed-least : {n m i : ℕ} {work after : List ℕ} → m ≤ i → HandedBefore n m i work after → LeastLabel n m work (blockEntry after (4 * n) m)
+handed-least {m = m} h k count few b up = labels-final (fathers-rise few up) (k .labels count few b up) m b h

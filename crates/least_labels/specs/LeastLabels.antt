@@ -3,8 +3,13 @@ use mathlib.Core.Path.{_≡_}
 use mathlib.Core.List.{List}
 use Prim.Native.Nat.{ℕ, _+_, _*_, _≤_, _<_}
 use lib.ListN.{set}
-use Rattle.lists.specs.Blocks.{blockEntry}
+use Rattle.lists.specs.Blocks.{blockEntry, UntouchedOutside}
 use Rattle.topology.proofs.Climb.{Up}
+
+-- the father of each of count nodes has a greater number, or is no node; fathers are the second block
+pub record FathersRise (n count : ℕ) (work : List ℕ) : Type 0 where
+  pub rise : (i : ℕ) → i < count → blockEntry work n i < n → i < blockEntry work n i
+  pub within : (i : ℕ) → i < count → blockEntry work n i < n → blockEntry work n i < count
 
 -- the father of the node i, if it has one with a greater label, gets that of i; fathers are the second block, labels the fifth
 pub data Handed (n i : ℕ) (work after : List ℕ) : Type 0 where
@@ -31,3 +36,16 @@ pub data Through (P : ℕ → ℕ) (m i a j : ℕ) : Type 0 where
 -- each of m nodes has the least label of itself and of what lies below its sons with numbers below i
 abbrev pub LeastThrough : (ℕ → ℕ) → ℕ → ℕ → (ℕ → ℕ) → (ℕ → ℕ) → Type 0
 LeastThrough P m i label labels = (a : ℕ) → a < m → LeastOf (Through P m i a) label (labels a)
+
+-- after the first i nodes, none of them behind m, in every tree of which these are the fathers: each node has its least label through the first i
+pub record HandedBefore (n m i : ℕ) (work after : List ℕ) : Type 0 where
+  pub kept : UntouchedOutside (4 * n) n work after
+  pub labels :
+      (count : ℕ) → count ≤ n → m < count → FathersRise n count work →
+      LeastThrough (blockEntry work n) count i (blockEntry work (4 * n)) (blockEntry after (4 * n))
+
+-- r is the least label of the node m and the nodes below it, in every tree of which these are the fathers
+abbrev pub LeastLabel : ℕ → ℕ → List ℕ → ℕ → Type 0
+LeastLabel n m work r =
+    (count : ℕ) → count ≤ n → m < count → FathersRise n count work →
+    LeastOf (Up (blockEntry work n) count m) (blockEntry work (4 * n)) r

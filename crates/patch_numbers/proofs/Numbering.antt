@@ -16,15 +16,15 @@ use Rattle.lists.specs.Blocks.{blockEntry, UntouchedOutside, Filled}
 use Rattle.lists.proofs.Tests.{and-left, and-right, and-both, clash, on-pick}
 use Rattle.lists.proofs.Lists.{set-cases}
 use Rattle.lists.proofs.Positions.{tally-next-in, tally-next-out, tally-bound}
-use Rattle.patch_numbers.specs.Numbers.{Mapped, Cleared, Mark, beyond, marked, Son, Marks, starts, Number, passed, given, Numbers, patchIn}
+use Rattle.patch_numbers.specs.Numbers.{Mapped, Mark, beyond, marked, Son, Marks, starts, Number, passed, given, Numbers, patchIn}
 use Rattle.lists.proofs.Blocks.{untouched-refl, untouched-set, overwritten-entry}
 
 -- an entry before the block that may have changed
 pub kept-row : (b n o i : ℕ) {l m : List ℕ} → UntouchedOutside b n l m → o + i < b → blockEntry m o i ≡ blockEntry l o i
 kept-row b n o i k h = k .outside (o + i) (inl h)
 
-pub cleared-mapped : (n : ℕ) (l m : List ℕ) → UntouchedOutside (4 * n) n l m → Mapped n l → Mapped n m
-cleared-mapped n l m k a =
+pub kept-mapped : (n : ℕ) (l m : List ℕ) → UntouchedOutside (4 * n) n l m → Mapped n l → Mapped n m
+kept-mapped n l m k a =
     record {
       map = λ x h. let e = kept-row (4 * n) n (2 * n) x k (omega arith) in let q = a .map x h in omega arith;
     }
@@ -117,13 +117,13 @@ module _ (n : ℕ) (work marks : List ℕ) where
         given (starts-true x (first-is ∙ q) (sym (ap (λ (i : ℕ). getD marks i 0) e) ∙ z))
         (ap (λ (i : ℕ). set work (4 * n + i) (r + 1)) e) refl
 
-  pub numbers-start : Cleared n work → Numbers n work marks 0 0 work
-  numbers-start z =
+  pub numbers-start : Numbers n work marks 0 0 work
+  numbers-start =
       record {
         kept = untouched-refl (4 * n) n work;
         count = refl;
         number = λ z b s. absurd (omega arith);
-        other = λ m b d. z .zero m b;
+        other = λ m b d. refl;
       }
 
   module _ (maps : Mapped n work) (x r : ℕ) (l : List ℕ) (b : x < n) (k : Numbers n work marks x r l) where

@@ -7,7 +7,7 @@ use Prim.Native.Nat.{ℕ, suc, _+_, _*_, _≤_, _<_}
 use lib.Dec.{eqb}
 use lib.ListN.{length, getD, set}
 use Rattle.lists.specs.Lists.{pick, tally, range}
-use Rattle.lists.specs.Blocks.{blockEntry, UntouchedOutside}
+use Rattle.lists.specs.Blocks.{blockEntry, UntouchedOutside, Filled}
 
 -- five blocks of n cells, and n cells or pixels beside them
 pub record FiveBlocks (n : ℕ) (work cells : List ℕ) : Type 0 where
@@ -18,10 +18,6 @@ pub record FiveBlocks (n : ℕ) (work cells : List ℕ) : Type 0 where
 -- the map holds indices
 pub record Mapped (n : ℕ) (work : List ℕ) : Type 0 where
   pub map : (x : ℕ) → x < n → blockEntry work (2 * n) x < n
-
--- the fifth block is 0
-pub record Cleared (n : ℕ) (work : List ℕ) : Type 0 where
-  pub zero : (i : ℕ) → i < n → blockEntry work (4 * n) i ≡ 0
 
 -- the entry f is 1, if there is one
 pub data Mark (f : ℕ) (cells after : List ℕ) : Type 0 where
@@ -51,7 +47,7 @@ pub data Number (n x : ℕ) (work marks : List ℕ) (r : ℕ) (after : List ℕ)
       starts n work marks x ≡ true → after ≡ set work (4 * n + blockEntry work (2 * n) x) (r + 1) → q ≡ r + 1 →
       Number n x work marks r after q
 
--- the nodes that start before x have their numbers in the fifth block, r of them, and the others there 0
+-- the nodes that start before x have their numbers in the fifth block, r of them, and the others there what they had
 pub record Numbers (n : ℕ) (work marks : List ℕ) (x r : ℕ) (after : List ℕ) : Type 0 where
   pub kept : UntouchedOutside (4 * n) n work after
   pub count : r ≡ tally (starts n work marks) (range 0 x)
@@ -60,15 +56,15 @@ pub record Numbers (n : ℕ) (work marks : List ℕ) (x r : ℕ) (after : List �
       blockEntry after (4 * n) (blockEntry work (2 * n) z) ≡ suc (tally (starts n work marks) (range 0 z))
   pub other :
       (m : ℕ) → m < n → ((z : ℕ) → z < x → starts n work marks z ≡ true → blockEntry work (2 * n) z ≢ m) →
-      blockEntry after (4 * n) m ≡ 0
+      blockEntry after (4 * n) m ≡ blockEntry work (4 * n) m
 
--- the fifth block, cleared, holds the numbers of the nodes that are the father of no node; the other blocks are as they were
-pub record Leaves (n count : ℕ) (work : List ℕ) (r : ℕ) (after : List ℕ) : Type 0 where
+-- the fifth block holds the numbers of the nodes that are the father of no node, and else v; the other blocks are as they were
+pub record Leaves (n count v : ℕ) (work : List ℕ) (r : ℕ) (after : List ℕ) : Type 0 where
   pub marks : List ℕ
-  pub cleared : List ℕ
-  pub kept : UntouchedOutside (4 * n) n work cleared
+  pub filled : List ℕ
+  pub fill : Filled (4 * n) n v work filled
   pub mark : Marks n count work marks
-  pub numbers : Numbers n cleared marks n r after
+  pub numbers : Numbers n filled marks n r after
 
 -- the number of the node of x if x has its height, else 0
 unfoldable pub patchIn : ℕ → List ℕ → List ℕ → ℕ → ℕ

@@ -6,7 +6,7 @@ ghost use Prim.Native.Nat.{ℕ, _+_, _*_, _≤_, _<_};
 ghost use lib.Dec.{eqb};
 ghost use lib.ListN.{length, getD};
 ghost use Rattle.lists.specs.Lists.{pick};
-ghost use Rattle.patch_numbers.specs.Numbers.{FiveBlocks, Mapped, Cleared, Mark, Marks, Number, Numbers, Leaves, patchIn};
+ghost use Rattle.patch_numbers.specs.Numbers.{FiveBlocks, Mapped, Mark, Marks, Number, Numbers, Leaves, patchIn};
 
 // Marks the father f of a node; a number that is no node's is the root's father.
 fn mark(cells: &mut [u16], f: usize)
@@ -46,9 +46,9 @@ fn number_leaf(n: usize, x: usize, work: &mut [u16], marks: &[u16], r: usize) ->
     r + 1
 }
 
-// Puts the number of each leaf into the fifth block, which is 0, and answers how many there are.
+// Puts the number of each leaf into the fifth block, and answers how many there are.
 fn number_leaves(n: usize, work: &mut [u16], marks: &[u16]) -> usize
-    requires { ⌜ FiveBlocks n (now work) (now marks) × Mapped n (now work) × Cleared n (now work) ⌝ }
+    requires { ⌜ FiveBlocks n (now work) (now marks) × Mapped n (now work) ⌝ }
     ensures { λ r. ⌜ Numbers n (now (work .entry)) (now (marks .entry)) n r (now (work .exit)) ⌝ }
 {
     let mut r = 0;
@@ -60,13 +60,14 @@ fn number_leaves(n: usize, work: &mut [u16], marks: &[u16]) -> usize
     r
 }
 
-// Numbers the leaves of the tree in work, of count nodes, by first place, with the cells for marks; answers how many there are.
-pub fn number(n: usize, count: usize, work: &mut [u16], cells: &mut [u16]) -> usize
+// Numbers the leaves of the tree in work, of count nodes, by first place, and all other nodes with v, with the cells for marks;
+// answers how many leaves there are.
+pub fn number(n: usize, count: usize, v: u16, work: &mut [u16], cells: &mut [u16]) -> usize
     requires { ⌜ FiveBlocks n (now work) (now cells) × Mapped n (now work) × (count ≤ n) ⌝ }
-    ensures { λ r. ⌜ Leaves n count (now (work .entry)) r (now (work .exit)) ⌝ }
+    ensures { λ r. ⌜ Leaves n count v (now (work .entry)) r (now (work .exit)) ⌝ }
 {
     mark_fathers(n, count, work, cells);
-    fill(work, 4 * n, n, 0);
+    fill(work, 4 * n, n, v);
     number_leaves(n, work, cells)
 }
 

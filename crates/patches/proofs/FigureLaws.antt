@@ -25,7 +25,8 @@ use Rattle.topology.proofs.Climb.{father, father-greater}
 use Rattle.topology.proofs.PatchFigures.{patches-count}
 use Rattle.topology.proofs.PatchSums.{count-few, patch-most, patch-size, patch-columns, patch-rows}
 use Rattle.lists.specs.Blocks.{blockEntry, UntouchedOutside}
-use Rattle.climbs.specs.Climbs.{FathersRise, HeightsAndFathers, Climbs}
+use Rattle.least_labels.specs.LeastLabels.{FathersRise}
+use Rattle.climbs.specs.Climbs.{HeightsAndFathers, Climbs}
 use Rattle.patch_numbers.specs.Numbers.{FiveBlocks, Mapped, Leaves, patchIn}
 use Rattle.patch_sums.specs.Sums.{sizes, columns, rows, NumberedRows, Sums}
 use Rattle.patches.specs.Figures.{TreeInWork, noPatch, PatchesNumbered, Patched, Figures, PatchMap}
@@ -53,21 +54,18 @@ module _ (p : Picture) (count : ℕ) (work : List ℕ) (t : TreeInWork p count w
   pub tree-few : count ≤ places p
   tree-few = let a = t .number in let b = nodes-few p in omega arith
 
-  module _ (r : ℕ) (a : List ℕ) (l : Leaves (places p) count work r a) where
-    numbered-tree : TreeIn p a
-    numbered-tree = tree-kept p (l .cleared) a (l .numbers .kept) (tree-kept p work (l .cleared) (l .kept) (t .tree))
+  module _ (v r : ℕ) (a : List ℕ) (l : Leaves (places p) count v work r a) where
+    pub numbered-tree : TreeIn p a
+    numbered-tree = tree-kept p (l .filled) a (l .numbers .kept) (tree-kept p work (l .filled) (l .fill .kept) (t .tree))
 
     pub numbered-mapped : Mapped (places p) a
     numbered-mapped = record { map = map-in p ok a numbered-tree }
 
     pub numbered-sizes : (cells : List ℕ) → FiveBlocks (places p) work cells → FiveBlocks (places p) a (p .pixels)
     numbered-sizes cells z =
-        record { few = z .few; blocks = l .numbers .kept .size ∙ (l .kept .size ∙ z .blocks); beside = ok .size }
+        record { few = z .few; blocks = l .numbers .kept .size ∙ (l .fill .kept .size ∙ z .blocks); beside = ok .size }
 
-    pub numbered-patch : (x : ℕ) → x < places p → patchIn (places p) (p .pixels) a x ≡ patchAt p x
-    numbered-patch = leaves-patch p ok work (t .tree) count r a (t .number) l
-
-    -- what the climbs ask
+    -- what labels that are handed up ask
     pub numbered-rise : FathersRise (places p) count a
     numbered-rise =
         let q = t .number in
@@ -91,14 +89,20 @@ module _ (p : Picture) (count : ℕ) (work : List ℕ) (t : TreeInWork p count w
             let bound = places-bound p ok in
             ⊎-elim (λ f. f) (λ f. let e = f .0 in absurd (omega arith)) (father-found p (nodeAt p i) (node-is p i b))
 
+  -- the leaves numbered, and 0 for every other node
+  module _ (r : ℕ) (a : List ℕ) (l : Leaves (places p) count 0 work r a) where
+    pub numbered-patch : (x : ℕ) → x < places p → patchIn (places p) (p .pixels) a x ≡ patchAt p x
+    numbered-patch = leaves-patch p ok work (t .tree) count 0 r a (t .number) l refl
+
+    -- what the climbs ask
     numbered-heights : (most : ℕ) → most ≡ highest (p .pixels) → HeightsAndFathers p (places p) count most a
     numbered-heights most e =
         record {
           accepted = t .accepted;
           size = refl;
           number = t .number;
-          heights = height-at p a numbered-tree;
-          fathers = numbered-tree .fathers;
+          heights = height-at p a (numbered-tree 0 r a l);
+          fathers = numbered-tree 0 r a l .fathers;
           largest = e;
         }
 
@@ -108,11 +112,11 @@ module _ (p : Picture) (count : ℕ) (work : List ℕ) (t : TreeInWork p count w
       climbed-map x h = k .kept .same (2 * places p + x) (inr (omega arith, omega arith))
 
       pub climbed-mapped : Mapped (places p) climbed
-      climbed-mapped = record { map = λ x h. let e = climbed-map x h in let m = numbered-mapped .map x h in omega arith }
+      climbed-mapped = record { map = λ x h. let e = climbed-map x h in let m = numbered-mapped 0 r a l .map x h in omega arith }
 
       pub climbed-sizes : (cells : List ℕ) → FiveBlocks (places p) work cells → FiveBlocks (places p) climbed (p .pixels)
       climbed-sizes cells z =
-          let s = numbered-sizes cells z in
+          let s = numbered-sizes 0 r a l cells z in
           record { few = s .few; blocks = k .kept .size ∙ s .blocks; beside = s .beside }
 
     module _ (cells : List ℕ) (long : length cells ≡ places p) (m : (x : ℕ) → x < places p → getD cells x 0 ≡ patchIn (places p) (p .pixels) a x) where
@@ -128,8 +132,8 @@ module _ (p : Picture) (count : ℕ) (work : List ℕ) (t : TreeInWork p count w
             accepted = t .accepted;
             size = refl;
             same = refl;
-            heights = λ i h. k .kept .same i (inl (omega arith)) ∙ height-at p a numbered-tree i h;
-            mapped = λ x h. climbed-map most climbed k x h ∙ numbered-tree .map x h;
+            heights = λ i h. k .kept .same i (inl (omega arith)) ∙ height-at p a (numbered-tree 0 r a l) i h;
+            mapped = λ x h. climbed-map most climbed k x h ∙ numbered-tree 0 r a l .map x h;
             climbs = k .climbs p (numbered-heights most e);
             map = mapped;
           }

@@ -40,7 +40,7 @@ module _ (p : Picture) (ok : Accepted p) (work : List ℕ) (t : TreeIn p work) w
       let c = nodes-few p in
       omega arith
 
-  module _ (count r : ℕ) (after : List ℕ) (c : count ≡ length (nodes p)) (l : Leaves n count work r after) where
+  module _ (count v r : ℕ) (after : List ℕ) (c : count ≡ length (nodes p)) (l : Leaves n count v work r after) where
     -- a node has no mark exactly if it is a leaf
     free-leaf : (m : ℕ) → m < length (nodes p) → getD (l .marks) m 0 ≡ 0 → leafNode p m ≡ true
     free-leaf m b z =
@@ -57,36 +57,36 @@ module _ (p : Picture) (ok : Accepted p) (work : List ℕ) (t : TreeIn p work) w
         let i : s .son < length (nodes p) = omega arith in
         absurd (clash h (father-leaf p ok m (s .son) b i (sym (t .fathers (s .son) i) ∙ s .father))))
 
-    same-map : (x : ℕ) → x < n → blockEntry (l .cleared) (2 * n) x ≡ mapOf p x
-    same-map x h = kept-row (4 * n) n (2 * n) x (l .kept) (omega arith) ∙ t .map x h
+    same-map : (x : ℕ) → x < n → blockEntry (l .filled) (2 * n) x ≡ mapOf p x
+    same-map x h = kept-row (4 * n) n (2 * n) x (l .fill .kept) (omega arith) ∙ t .map x h
 
-    same-first : (m : ℕ) → m < length (nodes p) → blockEntry (l .cleared) (3 * n) m ≡ nodeAt p m .first
-    same-first m h = let few = nodes-few p in kept-row (4 * n) n (3 * n) m (l .kept) (omega arith) ∙ t .firsts m h
+    same-first : (m : ℕ) → m < length (nodes p) → blockEntry (l .filled) (3 * n) m ≡ nodeAt p m .first
+    same-first m h = let few = nodes-few p in kept-row (4 * n) n (3 * n) m (l .fill .kept) (omega arith) ∙ t .firsts m h
 
     -- the places that start a leaf are the first places of minima
-    starts-bottom : (x : ℕ) → x < n → starts n (l .cleared) (l .marks) x ≡ bottom p x
+    starts-bottom : (x : ℕ) → x < n → starts n (l .filled) (l .marks) x ≡ bottom p x
     starts-bottom x b =
         let m = mapOf p x in
         let i = map-found p ok x b in
         let e = same-map x b in
-        same-test (starts n (l .cleared) (l .marks) x) (bottom p x)
+        same-test (starts n (l .filled) (l .marks) x) (bottom p x)
         (λ s.
-        let q = starts-is n (l .cleared) (l .marks) x s in
+        let q = starts-is n (l .filled) (l .marks) x s in
         map-bottom p ok x b
-        (sym (same-first m i) ∙ (ap (blockEntry (l .cleared) (3 * n)) (sym e) ∙ q .0))
+        (sym (same-first m i) ∙ (ap (blockEntry (l .filled) (3 * n)) (sym e) ∙ q .0))
         (free-leaf m i (ap (λ (j : ℕ). getD (l .marks) j 0) (sym e) ∙ q .1)))
         (λ s.
-        starts-true n (l .cleared) (l .marks) x
-        (ap (blockEntry (l .cleared) (3 * n)) e ∙ (same-first m i ∙ ap (λ (k : Node). k .first) (bottom-map p ok x b s)))
+        starts-true n (l .filled) (l .marks) x
+        (ap (blockEntry (l .filled) (3 * n)) e ∙ (same-first m i ∙ ap (λ (k : Node). k .first) (bottom-map p ok x b s)))
         (ap (λ (j : ℕ). getD (l .marks) j 0) e ∙ leaf-free m i (bottom-leaf p ok x b s)))
 
-    same-tally : (x : ℕ) → x ≤ n → tally (starts n (l .cleared) (l .marks)) (range 0 x) ≡ tally (bottom p) (range 0 x)
+    same-tally : (x : ℕ) → x ≤ n → tally (starts n (l .filled) (l .marks)) (range 0 x) ≡ tally (bottom p) (range 0 x)
     same-tally x h =
-        tally-same (starts n (l .cleared) (l .marks)) (bottom p) (range 0 x)
+        tally-same (starts n (l .filled) (l .marks)) (bottom p) (range 0 x)
         (λ y m. let b = range-mem 0 x m in starts-bottom y (omega arith))
 
     -- the number of a leaf is that of the patch that begins there
-    leaf-number : (m : ℕ) → m < length (nodes p) → leafNode p m ≡ true → blockEntry after (4 * n) m ≡ patchAt p (nodeAt p m .first)
+    pub leaf-number : (m : ℕ) → m < length (nodes p) → leafNode p m ≡ true → blockEntry after (4 * n) m ≡ patchAt p (nodeAt p m .first)
     leaf-number m b h =
         let z = nodeAt p m .first in
         let (k, q) = leaf-bottom p ok m b h in
@@ -94,17 +94,19 @@ module _ (p : Picture) (ok : Accepted p) (work : List ℕ) (t : TreeIn p work) w
         ap (blockEntry after (4 * n)) (sym (same-map z zb ∙ leaf-mapped p ok m b h)) ∙
         (l .numbers .number z zb (starts-bottom z zb ∙ q) ∙ (ap suc (same-tally z (omega arith)) ∙ sym (bottom-number p ok z zb q)))
 
-    fork-number : (m : ℕ) → m < length (nodes p) → leafNode p m ≡ false → blockEntry after (4 * n) m ≡ 0
+    -- and of every other node v
+    pub fork-number : (m : ℕ) → m < length (nodes p) → leafNode p m ≡ false → blockEntry after (4 * n) m ≡ v
     fork-number m b h =
         let few = nodes-few p in
         l .numbers .other m (omega arith)
         (λ z zb s q.
         let i : mapOf p z ≡ m = sym (same-map z zb) ∙ q in
-        clash (subst (λ (j : ℕ). leafNode p j ≡ true) i (bottom-leaf p ok z zb (sym (starts-bottom z zb) ∙ s))) h)
+        clash (subst (λ (j : ℕ). leafNode p j ≡ true) i (bottom-leaf p ok z zb (sym (starts-bottom z zb) ∙ s))) h) ∙
+        l .fill .inside m (omega arith)
 
-    -- the patch of a place
-    pub leaves-patch : (x : ℕ) → x < n → patchIn n (p .pixels) after x ≡ patchAt p x
-    leaves-patch x b =
+    -- the patch of a place, with 0 for every other node
+    pub leaves-patch : v ≡ 0 → (x : ℕ) → x < n → patchIn n (p .pixels) after x ≡ patchAt p x
+    leaves-patch zero x b =
         let m = mapOf p x in
         let i = map-found p ok x b in
         let few = nodes-few p in
@@ -112,7 +114,7 @@ module _ (p : Picture) (ok : Accepted p) (work : List ℕ) (t : TreeIn p work) w
         sym (kept-row (4 * n) n (2 * n) x (l .numbers .kept) (omega arith) ∙ same-map x b)
         in
         let own : getD after m 0 ≡ nodeAt p m .height =
-        l .numbers .kept .outside m (inl (omega arith)) ∙ (l .kept .outside m (inl (omega arith)) ∙ height-at p work t m i)
+        l .numbers .kept .outside m (inl (omega arith)) ∙ (l .fill .kept .outside m (inl (omega arith)) ∙ height-at p work t m i)
         in
         sym (patch-is n (p .pixels) after x m mapped) ∙
         by-cases (ℕ-discrete (valueAt p x) (getD after m 0))
@@ -120,5 +122,5 @@ module _ (p : Picture) (ok : Accepted p) (work : List ℕ) (t : TreeIn p work) w
         pick-in _ _ _ _ v ∙
         on-test (leafNode p m)
         (λ f. leaf-number m i f ∙ sym (patch-leaf p ok x b (sym (v ∙ own)) f))
-        (λ f. fork-number m i f ∙ sym (patch-line p ok x b (λ u. f))))
+        (λ f. fork-number m i f ∙ (zero ∙ sym (patch-line p ok x b (λ u. f)))))
         (λ v. pick-out _ _ _ _ v ∙ sym (patch-line p ok x b (λ u. absurd (v (sym (own ∙ u))))))

@@ -2,3 +2,4 @@
 pub mod LeafNumbers
 pub mod Depths
 pub mod FigureLaws
+pub mod Touches

@@ -1,12 +1,13 @@
 // The whole cores: the tree of a picture, and its patches from it.
 use crate::figures::figures;
+use crate::places::nearest_of;
 use crate::places::patch_of;
 use tree::build::build;
 ghost use mathlib.Core.Path.{_≡_};
 ghost use mathlib.Core.Bool.{true};
 ghost use Prim.Native.Nat.{_*_, _<_};
 ghost use Rattle.picture.specs.Pictures.{isPicture, pictureOf};
-ghost use Rattle.picture.specs.Patches.{patchAt};
+ghost use Rattle.picture.specs.Patches.{touchedPatch};
 ghost use Rattle.patch_numbers.specs.Numbers.{FiveBlocks};
 ghost use Rattle.patches.specs.Figures.{Figures};
 
@@ -26,8 +27,10 @@ pub fn patch_figures(
     figures(a, w, h, pixels, count, work, cells)
 }
 
-// The number of the patch of a place of a picture, 0 on the line.
-pub fn query(
+// The number of the patch that a touch at a place of a picture belongs to by a handbook, 0 for none. Under 5 it is the nearest patch,
+// inside a patch too (`touched-five`).
+pub fn touch(
+    handbook: u32,
     a: u32,
     w: u32,
     h: u32,
@@ -37,8 +40,11 @@ pub fn query(
     cells: &mut [u16],
 ) -> u16
     requires { ⌜ (isPicture (pictureOf a w h (now pixels)) ≡ true) × FiveBlocks (w * h) (now work) (now cells) × (place < w * h) ⌝ }
-    ensures { λ r. ⌜ r ≡ patchAt (pictureOf a w h (now (pixels .entry))) place ⌝ }
+    ensures { λ r. ⌜ r ≡ touchedPatch handbook (pictureOf a w h (now (pixels .entry))) place ⌝ }
 {
     let count = build(a, w, h, pixels, work, cells);
+    if handbook == 5 {
+        return nearest_of(a, w, h, pixels, count, place, work, cells);
+    }
     patch_of(a, w, h, pixels, count, place, work, cells)
 }

@@ -1,4 +1,4 @@
--- The pictures worked by hand, H1 to H10, their parts, trees, a pass, labels, patches and fillings: each table by one test that antt computes.
+-- The pictures worked by hand, H1 to H10, their parts, trees, a pass, labels, patches, touches and fillings: each table by one test that antt computes.
 use mathlib.Core.Path.{_≡_, refl}
 use mathlib.Core.Bool.{Bool, true, false, _&&_}
 use mathlib.Core.List.{List, [], _∷_, map}
@@ -12,7 +12,7 @@ use Rattle.picture.specs.Labels.{labels}
 use Rattle.picture.specs.Trees.{Tree, isBranch, nodesAt, nodes, fatherOf, mapOf, treeOf, isLeaf}
 use Rattle.picture.specs.Watersheds.{lowerable, best, watershed}
 use Rattle.picture.specs.Filling.{filledAt, filled}
-use Rattle.picture.specs.Patches.{patchNodes, deeper, climbOf, depthOf, Patch, patchOf, patches, patchAt, lineCount, centre}
+use Rattle.picture.specs.Patches.{patchNodes, nearestPatch, touchedPatch, deeper, climbOf, depthOf, Patch, patchOf, patches, patchAt, lineCount, centre}
 use Rattle.picture.specs.Kept.{keepsAt, flat}
 
 -- two lists hold the same numbers
@@ -171,6 +171,36 @@ patchesHold r =
 pub worked-patches : all patchesHold patch-table ≡ true
 unfolding adjacent componentAt components isBranch nodesAt nodes isLeaf patchNodes pass deeper climbOf depthOf patchOf patches patchAt lineCount
 worked-patches = refl
+
+-- touches worked by hand: the picture, and the patch number of a touch at each place under handbook 4 and under handbook 5
+pub record TouchRow : Type 0 where
+  pub picture : Picture
+  pub four : List ℕ
+  pub five : List ℕ
+
+abbrev touchRow : Picture → List ℕ → List ℕ → TouchRow
+touchRow p xs ys = record { picture = p; four = xs; five = ys }
+
+-- equal passes; H3; the same with a deeper patch of a greater number; a patch behind fewer steps and a higher pass; both adjacencies
+abbrev pub touch-table : List TouchRow
+touch-table =
+    touchRow (pictureOf 4 5 1 (0 ∷ 2 ∷ 1 ∷ 9 ∷ 5 ∷ [])) (1 ∷ 0 ∷ 2 ∷ 0 ∷ 3 ∷ []) (1 ∷ 1 ∷ 2 ∷ 1 ∷ 3 ∷ []) ∷
+    touchRow h3 (0 ∷ 1 ∷ 0 ∷ 2 ∷ 0 ∷ []) (1 ∷ 1 ∷ 1 ∷ 2 ∷ 2 ∷ []) ∷
+    touchRow (pictureOf 4 6 1 (0 ∷ 9 ∷ 5 ∷ 6 ∷ 3 ∷ 4 ∷ [])) (1 ∷ 0 ∷ 2 ∷ 0 ∷ 3 ∷ 0 ∷ []) (1 ∷ 1 ∷ 2 ∷ 2 ∷ 3 ∷ 3 ∷ []) ∷
+    touchRow (pictureOf 4 6 1 (0 ∷ 9 ∷ 8 ∷ 7 ∷ 5 ∷ 1 ∷ [])) (1 ∷ 0 ∷ 0 ∷ 0 ∷ 0 ∷ 2 ∷ []) (1 ∷ 1 ∷ 2 ∷ 2 ∷ 2 ∷ 2 ∷ []) ∷
+    touchRow (pictureOf 4 3 3 (9 ∷ 9 ∷ 0 ∷ 0 ∷ 5 ∷ 9 ∷ 9 ∷ 9 ∷ 9 ∷ [])) (0 ∷ 0 ∷ 1 ∷ 2 ∷ 0 ∷ 0 ∷ 0 ∷ 0 ∷ 0 ∷ []) (1 ∷ 1 ∷ 1 ∷ 2 ∷ 2 ∷ 1 ∷ 1 ∷ 1 ∷ 1 ∷ []) ∷
+    touchRow (pictureOf 8 3 3 (9 ∷ 9 ∷ 0 ∷ 0 ∷ 5 ∷ 9 ∷ 9 ∷ 9 ∷ 9 ∷ [])) (0 ∷ 0 ∷ 1 ∷ 2 ∷ 0 ∷ 0 ∷ 0 ∷ 0 ∷ 0 ∷ []) (1 ∷ 1 ∷ 1 ∷ 2 ∷ 1 ∷ 1 ∷ 1 ∷ 1 ∷ 1 ∷ []) ∷
+    []
+
+-- the patch number of a touch at each place under a handbook
+abbrev pub touched : ℕ → Picture → List ℕ
+touched handbook p = map (touchedPatch handbook p) (range 0 (places p))
+
+-- each worked picture has the touches of its row
+pub worked-touches :
+    all (λ r. sameList (touched 4 (r .picture)) (r .four) && sameList (touched 5 (r .picture)) (r .five)) touch-table ≡ true
+unfolding adjacent componentAt components isBranch nodesAt nodes isLeaf patchNodes pass patchAt nearestPatch touchedPatch
+worked-touches = refl
 
 -- a picture filled with a least size, and the pixels then
 pub record FilledRow : Type 0 where

@@ -1,12 +1,12 @@
--- Patches: the regional minima, which of them is deeper, their depths and records, and the patch of a place.
+-- Patches: the regional minima, the patch of a place and of a touch, which patch is deeper, their depths and records.
 use mathlib.Core.Path.{_≡_}
 use mathlib.Core.Bool.{Bool, true, false, _&&_, _||_}
 use mathlib.Core.Logic.{_≢_}
 use mathlib.Core.List.{List, [], _∷_, map, List·Memᴰ}
-use Prim.Native.Nat.{ℕ, suc, _-_, _*_, _/_, _≤_}
+use Prim.Native.Nat.{ℕ, suc, _-_, _*_, _/_, _≤_, _<_}
 use lib.Dec.{eqb, ltb}
 use lib.ListN.{length}
-use Rattle.lists.specs.Lists.{tally, select, indexFrom, range, isIn, total, highest, lowest}
+use Rattle.lists.specs.Lists.{pick, tally, select, indexFrom, range, isIn, total, highest, lowest}
 use Rattle.picture.specs.Pictures.{Picture, places, column, row, isPicture}
 use Rattle.picture.specs.Passes.{pass}
 use Rattle.picture.specs.Trees.{Node, nodes, componentOf, isLeaf}
@@ -36,6 +36,47 @@ patchAt p x = patchFrom 1 p x (patchNodes p)
 -- how many places of a picture are on the line (in a watershed: the watershed line)
 unfoldable pub lineCount : Picture → ℕ
 lineCount p = tally (λ x. eqb (patchAt p x) 0) (range 0 (places p))
+
+-- the passes from a place to the patches, in the order of their numbers
+abbrev pub patchPasses : Picture → ℕ → List ℕ
+patchPasses p x = map (λ n. pass p x (n .first)) (patchNodes p)
+
+-- the number of the patch with the lowest pass from a place, the lowest number among equals
+unfoldable pub nearestPatch : Picture → ℕ → ℕ
+nearestPatch p x = indexFrom 0 1 (λ k. eqb k (lowest 0 (patchPasses p x))) (patchPasses p x)
+
+-- the number of the patch that a touch belongs to by a handbook: under 5 a touch on the line belongs to the nearest patch; else it belongs to the patch of its place, and on the line to none, 0
+unfoldable pub touchedPatch : ℕ → Picture → ℕ → ℕ
+touchedPatch handbook p x = pick (eqb handbook 5 && eqb (patchAt p x) 0) (nearestPatch p x) (patchAt p x)
+
+-- the pass from a place to a patch is that to any place of the patch
+abbrev pub Pass-to-patch : Type 0
+Pass-to-patch =
+    (p : Picture) → isPicture p ≡ true → (n : Node) → List·Memᴰ n (patchNodes p) →
+    (x y : ℕ) → x < places p → isIn y (componentOf p n) ≡ true → pass p x y ≡ pass p x (n .first)
+
+-- n is the nearest patch of the place x: no patch has a lower pass, and none of the same pass a lower number
+pub record Nearest (p : Picture) (x : ℕ) (n : Node) : Type 0 where
+  pub patch : List·Memᴰ n (patchNodes p)
+  pub pass-least : (m : Node) → List·Memᴰ m (patchNodes p) → pass p x (n .first) ≤ pass p x (m .first)
+  pub number-least :
+      (m : Node) → List·Memᴰ m (patchNodes p) → pass p x (m .first) ≡ pass p x (n .first) →
+      patchAt p (n .first) ≤ patchAt p (m .first)
+
+-- every place of a picture has a nearest patch, and its number is the one defined
+abbrev pub Nearest-patch : Type 0
+Nearest-patch =
+    (p : Picture) → isPicture p ≡ true → (x : ℕ) → x < places p →
+    (n : Node) × Nearest p x n × (nearestPatch p x ≡ patchAt p (n .first)) × (1 ≤ nearestPatch p x)
+
+-- inside a patch the nearest patch is that patch, so that handbook 5 needs no rule for it
+abbrev pub Nearest-inside : Type 0
+Nearest-inside =
+    (p : Picture) → isPicture p ≡ true → (x : ℕ) → x < places p → 1 ≤ patchAt p x → nearestPatch p x ≡ patchAt p x
+
+-- under handbook 5 every touch belongs to the nearest patch
+abbrev pub Touched-five : Type 0
+Touched-five = (p : Picture) → isPicture p ≡ true → (x : ℕ) → x < places p → touchedPatch 5 p x ≡ nearestPatch p x
 
 -- the patch of the leaf m is deeper than that of the leaf n: its height is less, or equal with a smaller patch number
 unfoldable pub deeper : Picture → Node → Node → Bool

@@ -1,8 +1,8 @@
-// Numbers in a range, the lesser of two, and the sides of a picture.
+// Numbers in a range or one of two, the lesser of two, and the sides of a picture.
 ghost use mathlib.Core.Path.{_≡_};
-ghost use mathlib.Core.Bool.{_&&_};
+ghost use mathlib.Core.Bool.{_&&_, _||_};
 ghost use Prim.Native.Nat.{min};
-ghost use lib.Dec.{leb};
+ghost use lib.Dec.{eqb, leb};
 ghost use Rattle.picture.specs.Pictures.{sideFits};
 
 // A number is at least `low` and at most `high`.
@@ -13,6 +13,16 @@ pub fn between(low: usize, x: usize, high: usize) -> bool
         return false;
     }
     x <= high
+}
+
+// A number is one of two.
+pub fn either(x: u32, a: u32, b: u32) -> bool
+    ensures { λ r. ⌜ r ≡ (eqb x a || eqb x b) ⌝ }
+{
+    if x == a {
+        return true;
+    }
+    x == b
 }
 
 // The lesser of two numbers.

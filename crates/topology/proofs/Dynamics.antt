@@ -13,21 +13,20 @@ use Rattle.lists.specs.Lists.{select, isIn, highest, lowest}
 use Rattle.picture.specs.Pictures.{Picture, places, valueAt}
 use Rattle.picture.specs.Passes.{pass}
 use Rattle.picture.specs.Trees.{Node, nodes, nodeAt, componentOf}
-use Rattle.picture.specs.Patches.{patchNodes, patchAt, deeper, deeperPasses, climbOf, depthOf, Passes-of-patches, Climbs-above, Deepest, Deepest-one}
+use Rattle.picture.specs.Patches.{patchNodes, patchAt, deeper, deeperPasses, climbOf, depthOf, Pass-to-patch, Passes-of-patches, Climbs-above, Deepest, Deepest-one}
 use Rattle.lists.proofs.Tests.{and-left, and-right, and-both, or-cases, or-left, or-right, test-false, clash}
 use Rattle.lists.proofs.Lists.{select-mem, mem-select, select-none}
-use Rattle.lists.proofs.Positions.{tally-rises}
 use Rattle.lists.proofs.Sums.{lowest-is, on-lowest, highest-least, highest-most}
 use Rattle.topology.proofs.Connected.{start, conn-source, conn-target, conn-trans}
-use Rattle.topology.proofs.Adjacency.{Joined, joined-sym, joined-mono}
+use Rattle.topology.proofs.Adjacency.{Joined, at-own, joined-sym, joined-mono}
 use Rattle.topology.proofs.Accepted.{Accepted, accepted-is, places-some, value-byte}
 use Rattle.topology.proofs.Reached.{in-joined}
 use Rattle.topology.proofs.Nodes.{node-is, node-order}
 use Rattle.topology.proofs.Descent.{under-is, map-found}
 use Rattle.topology.proofs.Climb.{stay, rise, up-trans, up-chain, up-from, father, last-root}
 use Rattle.topology.proofs.Passes.{pass-most, pass-byte, pass-joined}
-use Rattle.topology.proofs.Leaves.{bottom, leaf-sound}
-use Rattle.topology.proofs.PatchFigures.{bottom-number}
+use Rattle.topology.proofs.Leaves.{leaf-sound}
+use Rattle.topology.proofs.PatchFigures.{bottom-rise}
 use Rattle.topology.proofs.LeafNodes.{leafNode, leaf-bottom}
 use Rattle.topology.proofs.LeavesBelow.{Below, Least, up-height, up-joined, joined-up, leaf-value, least-leaf, root-above, patch-leaf-node, leaf-node-patch}
 
@@ -63,12 +62,10 @@ module _ (p : Picture) (ok : Accepted p) where
       (i j : ℕ) → i < length (nodes p) → j < length (nodes p) → leafNode p i ≡ true → leafNode p j ≡ true →
       nodeAt p i .first < nodeAt p j .first → patchAt p (nodeAt p i .first) < patchAt p (nodeAt p j .first)
   numbers-rise i j a b l k h =
-      let s = leaf-bottom p ok i a l .1 in
-      let t = leaf-bottom p ok j b k .1 in
-      let u = bottom-number p ok (nodeAt p i .first) (node-is p i a .place .within) s in
-      let v = bottom-number p ok (nodeAt p j .first) (node-is p j b .place .within) t in
-      let w = tally-rises (bottom p) (nodeAt p i .first) (nodeAt p j .first) h s in
-      omega arith
+      bottom-rise p ok (nodeAt p i .first) (nodeAt p j .first) (node-is p i a .place .within) (node-is p j b .place .within)
+      (leaf-bottom p ok i a l .1)
+      (leaf-bottom p ok j b k .1)
+      h
 
   -- a patch is deeper exactly if its leaf has a smaller number
   module _ (i j : ℕ) (a : i < length (nodes p)) (b : j < length (nodes p)) (l : leafNode p i ≡ true) (k : leafNode p j ≡ true) where
@@ -268,6 +265,17 @@ module _ (p : Picture) (ok : Accepted p) where
       let low = pass-moved x y u v (conn-source d .within) (conn-source f .within) d f in
       let high = pass-moved u v x y (conn-source c .within) (conn-source e .within) c e in
       omega arith
+
+pub pass-to-patch : Pass-to-patch
+pass-to-patch p h n m x y b i =
+    let ok = accepted-is p h in
+    let (k, kb, kl, e) = patch-leaf-node p m in
+    let (c, d) = member-joined p ok k y kb kl (subst (λ (o : Node). isIn y (componentOf p o) ≡ true) (sym e) i) in
+    let own = start (at-own p x b) in
+    let low = pass-moved p ok x y x (nodeAt p k .first) b (conn-source d .within) own d in
+    let high = pass-moved p ok x (nodeAt p k .first) x y b (conn-source c .within) own c in
+    let q = ap (λ (o : Node). pass p x (o .first)) e in
+    omega arith
 
 pub climbs-above : Climbs-above
 climbs-above p h n m =

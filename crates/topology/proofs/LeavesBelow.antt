@@ -136,7 +136,7 @@ module _ (p : Picture) (ok : Accepted p) where
   leaf-value j b l = sym (ap (λ (n : Node). n .height) (leaf-bottom p ok j b l .0))
 
   -- nothing else lies below a leaf
-  leaf-alone : {a j : ℕ} → leafNode p a ≡ true → Below p a j → j ≡ a
+  pub leaf-alone : {a j : ℕ} → leafNode p a ≡ true → Below p a j → j ≡ a
   leaf-alone l stay = refl
   leaf-alone {a} l (rise {a = i} h f u) =
       let e = leaf-alone l u in
@@ -167,11 +167,14 @@ module _ (p : Picture) (ok : Accepted p) where
       is-son : (j : ℕ) → j < length (nodes p) → father p j ≡ i → any son (range 0 (length (nodes p))) ≡ true
       is-son j c q = mem-any son (mem-range 0 (length (nodes p)) (omega arith) (omega arith)) (eq-eqb (father p j) i q)
 
+  pub some-leaf : (i : ℕ) → i < length (nodes p) → (j : ℕ) × (leafNode p j ≡ true) × Below p i j
+  some-leaf i b = leaf-below (suc i) i (omega arith) b
+
   -- the least node below another is a leaf
   pub least-leaf : (s j : ℕ) → s < length (nodes p) → Least p s j → leafNode p j ≡ true
   least-leaf s j b l =
       let jb = up-from b (l .below) in
-      let (k, t, u) = leaf-below (suc j) j (omega arith) jb in
+      let (k, t, u) = some-leaf j jb in
       let low = up-rises (father-greater p ok) u in
       let high = l .least k (up-trans (l .below) u) in
       let e : k ≡ j = omega arith in

@@ -27,6 +27,7 @@ pub mod ComponentNumbers
 pub mod LeafNodes
 pub mod LeavesBelow
 pub mod Dynamics
+pub mod Nearest
 pub mod PatchSums
 pub mod PatchesKept
 pub mod FlatWall

@@ -21,7 +21,7 @@ use Rattle.topology.proofs.Accepted.{Accepted, value-byte}
 use Rattle.topology.proofs.Reached.{firstAt, component-rising, mem-joined, joined-mem, first-joined, first-at}
 use Rattle.topology.proofs.Nodes.{node, number-found}
 use Rattle.topology.proofs.Descent.{map-under, map-is, under-fork}
-use Rattle.lists.proofs.Positions.{tally-next-in, select-index, tally-inject}
+use Rattle.lists.proofs.Positions.{tally-next-in, tally-rises, select-index, tally-inject}
 use Rattle.topology.proofs.Leaves.{leafAt, bottom, leaf, leaf-same, leaf-no-branch, bottom-is, first-bottom, patch-nodes-are}
 use Rattle.topology.proofs.PatchNumbers.{patch-count, patch-in, patch-same, patch-out}
 
@@ -31,6 +31,15 @@ module _ (p : Picture) (ok : Accepted p) where
   bottom-number z b h =
       let (s, e, l) = bottom-is p z b h in
       patch-in p ok z b l ∙ (ap (λ (m : ℕ). tally (bottom p) (range 0 (suc m))) e ∙ tally-next-in (bottom p) z h)
+
+  -- patches are numbered by first place
+  pub bottom-rise :
+      (y z : ℕ) → y < places p → z < places p → bottom p y ≡ true → bottom p z ≡ true → y < z → patchAt p y < patchAt p z
+  bottom-rise y z yb zb s t h =
+      let u = bottom-number y yb s in
+      let v = bottom-number z zb t in
+      let w = tally-rises (bottom p) y z h s in
+      omega arith
 
   -- two first places of minima with one number are one
   bottom-equal : (y z : ℕ) → y < places p → z < places p → bottom p y ≡ true → bottom p z ≡ true → patchAt p y ≡ patchAt p z → y ≡ z

@@ -1,7 +1,7 @@
--- `patch_numbers::number` meets its contract: the marks, the cleared block and the numbers that its calls leave.
+-- `patch_numbers::number` meets its contract: the marks, the filled block and the numbers that its calls leave.
 use native.Mathlib.Omega.{arith}
 use borrow.Author.Needs.{needs}
-use Rattle.patch_numbers.proofs.Numbering.{cleared-mapped}
+use Rattle.patch_numbers.proofs.Numbering.{kept-mapped}
 use Rattle.patch_numbers.proofs.number.Statement.{statement}
 use Rattle.patch_numbers.proofs.number.Tie as tie
 
@@ -21,8 +21,7 @@ number-leaves-requires c κs =
     let z = f .kept .size in
     let e = s .pre .0 .blocks in (
       record { few = s .pre .0 .few; blocks = omega arith; beside = c .before .before .before .before .before .before .before .before .mark-fathers .ensures .size },
-      cleared-mapped _ _ _ (f .kept) (s .pre .1),
-      record { zero = f .inside },
+      kept-mapped _ _ _ (f .kept) (s .pre .1),
     )
 
 same-length : tie.Need-same-length

@@ -14,7 +14,7 @@ abbrev μ-loop : tie.MeasureT-loop
 μ-loop n work₀ marks r₀ x₀ work r x = n - x
 
 loop-holds : tie.Need-loop-holds Inv-loop μ-loop
-loop-holds c = (search needs, numbers-start _ _ _ (c .before .before .pre .2))
+loop-holds c = (search needs, numbers-start _ _ _)
 
 number-leaf-requires : tie.Need-number-leaf-requires Inv-loop μ-loop
 number-leaf-requires c κs =

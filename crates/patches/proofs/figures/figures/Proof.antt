@@ -35,8 +35,8 @@ map-patches-requires : tie.Need-map-patches-requires
 map-patches-requires c κs =
     let l = c .before .before .before .before .before .before in
     let s = origin l in (
-      numbered-sizes (pictured s) _ _ (s .pre .0) _ _ (l .number .ensures) _ (s .pre .1),
-      numbered-mapped (pictured s) _ _ (s .pre .0) _ _ (l .number .ensures),
+      numbered-sizes (pictured s) _ _ (s .pre .0) _ _ _ (l .number .ensures) _ (s .pre .1),
+      numbered-mapped (pictured s) _ _ (s .pre .0) _ _ _ (l .number .ensures),
       let z = s .pre .1 .beside in search needs,
     )
 
@@ -51,9 +51,9 @@ put-climbs-requires c κs =
     let l = numbered (c .before .before .before .before .before) in
     let s = origin l in (
       s .pre .1 .few,
-      numbered-sizes (pictured s) _ _ (s .pre .0) _ _ (l .number .ensures) _ (s .pre .1) .blocks,
+      numbered-sizes (pictured s) _ _ (s .pre .0) _ _ _ (l .number .ensures) _ (s .pre .1) .blocks,
       tree-few (pictured s) _ _ (s .pre .0),
-      numbered-rise (pictured s) _ _ (s .pre .0) _ _ (l .number .ensures),
+      numbered-rise (pictured s) _ _ (s .pre .0) _ _ _ (l .number .ensures),
     )
 
 put-patches-requires : tie.Need-put-patches-requires
@@ -72,8 +72,9 @@ put-sums-requires c κs =
     let k = climbed q in
     let m = mapped k in
     let l = numbered m in
-    let s = origin l in (
-      patched-frame (pictured s) _ _ (s .pre .0) _ _ (l .number .ensures) _ (let z = s .pre .1 .beside in search needs) (m .map-patches .ensures),
+    let s = origin l in
+    let long = m .map-patches .kept .1 .1 .1 .0 ∙ (l .number .kept .1 .1 .1 .1 .0 ∙ s .pre .1 .beside) in (
+      patched-frame (pictured s) _ _ (s .pre .0) _ _ (l .number .ensures) _ long (m .map-patches .ensures),
       refl,
       q .put-patches .ensures .kept .size ∙
           climbed-sizes (pictured s) _ _ (s .pre .0) _ _ (l .number .ensures) _ _ (k .put-climbs .ensures) _ (s .pre .1) .blocks,
@@ -92,7 +93,7 @@ returns c =
     let m = mapped k in
     let l = numbered m in
     let s = origin l in
-    let long = m .map-patches .kept .1 .1 .1 .0 ∙ (l .number .kept .1 .1 .1 .0 ∙ s .pre .1 .beside) in
+    let long = m .map-patches .kept .1 .1 .1 .0 ∙ (l .number .kept .1 .1 .1 .1 .0 ∙ s .pre .1 .beside) in
     figures-all (pictured s) _ _ (s .pre .0) _ _ (l .number .ensures) _ long (m .map-patches .ensures) _ _ _ _ _
     (k .before .before .cell-of .ensures ∙ k .before .before .before .largest .ensures)
     (k .put-climbs .ensures)

@@ -22,8 +22,8 @@ patch-at-requires : tie.Need-patch-at-requires
 patch-at-requires c κs =
     let s = c .before .before .before .before .before .before .before .before .before .before .before in
     let l = c .before .before .before .before .before .number .ensures in (
-      numbered-sizes (pictured s) _ _ (s .pre .0) _ _ l _ (s .pre .1),
-      numbered-mapped (pictured s) _ _ (s .pre .0) _ _ l,
+      numbered-sizes (pictured s) _ _ (s .pre .0) _ _ _ l _ (s .pre .1),
+      numbered-mapped (pictured s) _ _ (s .pre .0) _ _ _ l,
       s .pre .2,
     )
 
