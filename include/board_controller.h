@@ -20,6 +20,7 @@
  *       count, a list entry below the true count, or an entry of its map
  *       differs
  *   13  the least size is 0 or above n
+ *   14  the handbook is neither 4 nor 5
  *
  * Its lower 32 bits (controller_value) are the value that is named at the
  * function, or 0 on a refusal; only the refusal 6 of controller_write_file
@@ -248,6 +249,27 @@ uint64_t controller_fill_small_parts(
  */
 uint64_t controller_query_place(
     uint32_t adjacency, uint32_t width, uint32_t height,
+    const uint8_t *pixels, size_t pixels_len, uint32_t place,
+    uint16_t *work, size_t work_len);
+
+/*
+ * Answers which patch a touch at a place of a picture belongs to, by one of
+ * the two setting handbooks. The patches are those of
+ * controller_query_place.
+ *
+ *   handbook  4: a touch on the line belongs to no patch, and the answer is
+ *             that of controller_query_place. 5: it belongs to the patch with
+ *             the lowest pass from the place, among equals to the one with
+ *             the lowest number. Inside a patch both answer that patch
+ *   place     0 to n - 1
+ *
+ * The upper 16 bits of the value are the pixel's value (controller_pixel),
+ * the lower 16 the number of the patch, or 0 for none (controller_patch).
+ *
+ * Refusals, in this order: 14, 7, 3, 8, 9 (work_len below 5 n), 10.
+ */
+uint64_t controller_touch_place(
+    uint32_t handbook, uint32_t adjacency, uint32_t width, uint32_t height,
     const uint8_t *pixels, size_t pixels_len, uint32_t place,
     uint16_t *work, size_t work_len);
 

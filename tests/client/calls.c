@@ -13,6 +13,8 @@
  *         [PASS]
  *   watershed ADJACENCY WIDTH HEIGHT PIXELS OUT-LENGTH WORK-LENGTH NUMBER [OUT]
  *   place ADJACENCY WIDTH HEIGHT PIXELS PLACE WORK-LENGTH NUMBER [VALUE PATCH]
+ *   touch HANDBOOK ADJACENCY WIDTH HEIGHT PIXELS PLACE WORK-LENGTH NUMBER
+ *         [VALUE PATCH]
  *   patches ADJACENCY WIDTH HEIGHT PIXELS SIZES-LENGTH HEIGHTS-LENGTH
  *         DEPTHS-LENGTH COLUMNS-LENGTH ROWS-LENGTH WORK-LENGTH NUMBER
  *         [COUNT SIZES HEIGHTS DEPTHS COLUMN-SUMS ROW-SUMS]
@@ -33,6 +35,7 @@
 #define MOST_PLACES 1600
 #define MOST_PATCHES 800 /* enough for every picture, the header says */
 #define MOST_BYTES 1613 /* the same of a saved picture */
+#define MOST_NUMBER 14 /* the largest number of a refusal */
 
 /* The lists of figures of patches, in the order of the arguments. */
 enum { SIZES, HEIGHTS, DEPTHS, COLUMNS, ROWS, FIGURES };
@@ -48,7 +51,7 @@ enum { SIZES, HEIGHTS, DEPTHS, COLUMNS, ROWS, FIGURES };
         ENTRIES(figures[ROWS])
 
 /* The arguments of a call, and the lists that are lent or expected. */
-static uint32_t node_count, place, other_place, least_size, largest;
+static uint32_t node_count, place, other_place, least_size, largest, handbook;
 static uint8_t k;
 static size_t out_length, work_length;
 static size_t heights_length, fathers_length, firsts_length, map_length;
@@ -108,7 +111,7 @@ static void take_lent_tree(void)
 static void take_work_and_number(void)
 {
     work_length = take_length();
-    number = take_number(13);
+    number = take_number(MOST_NUMBER);
     value = pixel = patch = 0;
 }
 
@@ -202,6 +205,12 @@ static void take_place(void)
     pixel = take_number(255);
     patch = take_number(MOST_PATCHES);
     value = pixel * 65536 + patch;
+}
+
+static void take_touch(void)
+{
+    handbook = take_word();
+    take_place();
 }
 
 static void take_patches(void)
@@ -436,6 +445,14 @@ static int run_place(unsigned turn)
     return check(result) && check_place(result);
 }
 
+static int run_touch(unsigned turn)
+{
+    prepare_picture_and_work(turn);
+    uint64_t result = controller_touch_place(handbook, PICTURE, place,
+                                             ENTRIES(work));
+    return check(result) && check_place(result);
+}
+
 static int run_patches(unsigned turn)
 {
     prepare_picture_and_work(turn);
@@ -490,6 +507,7 @@ int main(void)
         {"pass", take_pass, run_pass},
         {"watershed", take_watershed, run_watershed},
         {"place", take_place, run_place},
+        {"touch", take_touch, run_touch},
         {"patches", take_patches, run_patches},
         {"fill", take_fill, run_fill},
         {"save", take_save, run_save},

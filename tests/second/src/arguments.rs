@@ -1,6 +1,7 @@
-//! The arguments that every call has: their refusal, and the picture that they name.
+//! The arguments that every call has: their refusal, and the picture that they
+//! name. The handbook that a number names.
 
-use crate::literal::{Adjacency, Picture};
+use crate::literal::{Adjacency, Handbook, Picture};
 
 /// The refusal's number or 0 of sides, of a number of bytes and of lent memory.
 /// The order is 3, 8, 9. `enough` says whether the lent memory is enough for n
@@ -53,5 +54,14 @@ pub fn picture(adjacency: u32, sides: (u32, u32), pixels: &[u8]) -> Picture {
         } else {
             Adjacency::Eight
         },
+    }
+}
+
+/// The handbook of this number, nothing where the number is refused.
+pub fn handbook(number: u32) -> Option<Handbook> {
+    match number {
+        4 => Some(Handbook::Four),
+        5 => Some(Handbook::Five),
+        _ => None,
     }
 }

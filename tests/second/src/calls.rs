@@ -11,6 +11,7 @@
 //!     pass ADJACENCY WIDTH HEIGHT PIXELS TREE PLACE PLACE WORK-LENGTH NUMBER [PASS]
 //!     watershed ADJACENCY WIDTH HEIGHT PIXELS OUT-LENGTH WORK-LENGTH NUMBER [OUT]
 //!     place ADJACENCY WIDTH HEIGHT PIXELS PLACE WORK-LENGTH NUMBER [VALUE PATCH]
+//!     touch HANDBOOK ADJACENCY WIDTH HEIGHT PIXELS PLACE WORK-LENGTH NUMBER [VALUE PATCH]
 //!     patches ADJACENCY WIDTH HEIGHT PIXELS SIZES-LENGTH HEIGHTS-LENGTH DEPTHS-LENGTH
 //!         COLUMNS-LENGTH ROWS-LENGTH WORK-LENGTH NUMBER
 //!         [COUNT SIZES HEIGHTS DEPTHS COLUMN-SUMS ROW-SUMS]
@@ -34,6 +35,7 @@ use crate::quick;
 use crate::random::Random;
 use crate::saves;
 use crate::stores;
+use crate::touches;
 use crate::worked;
 
 /// The pictures worked by hand, each also under the other adjacency and
@@ -153,7 +155,7 @@ fn picture_of_many_nodes(random: &mut Random, pale_values: usize, adjacency: Adj
     }
 }
 
-fn pictures_of_many_nodes(random: &mut Random) -> Vec<Picture> {
+pub fn pictures_of_many_nodes(random: &mut Random) -> Vec<Picture> {
     let mut pictures = Vec::new();
     for pale_values in [1, 4, 246] {
         pictures.push(picture_of_many_nodes(random, pale_values, Adjacency::Four));
@@ -162,8 +164,8 @@ fn pictures_of_many_nodes(random: &mut Random) -> Vec<Picture> {
     pictures
 }
 
-/// H10, of 6 pixels and 2 patches, for each kind of call, with no cause of
-/// refusal.
+/// H10, of 6 pixels and 2 patches, for each kind of call but touching, with no
+/// cause of refusal.
 fn calls_of_h10() -> Vec<Call> {
     let picture = worked::four("0 5 2 / 3 3 3");
     let lent = LentTree::new(&tree_of(&picture)).lengthen(&mut Random::new(40_002), [6; 4]);
@@ -228,8 +230,8 @@ fn give_causes(call: &mut Call, set: usize) {
     }
 }
 
-/// Calls for the order of refusals: one for each set of causes and each kind
-/// of call.
+/// Calls for the order of refusals: one for each set of causes and each of
+/// these kinds of calls.
 fn calls_for_the_order() -> Vec<Call> {
     let mut calls = Vec::new();
     for set in 0..128 {
@@ -446,6 +448,7 @@ pub fn text(count: usize) -> String {
         calls.extend(KINDS.map(|kind| generated_call(&mut random, kind)));
     }
     calls.extend(fills::calls(count));
+    calls.extend(touches::calls(count));
     let mut lines: Vec<String> = calls.iter().map(Call::line).collect();
     lines.extend(saves::lines(count));
     lines.extend(stores::lines(count));
@@ -458,7 +461,7 @@ mod tests {
 
     fn number_field(kind: &str) -> usize {
         match kind {
-            "label" | "fill" => 8,
+            "label" | "fill" | "touch" => 8,
             "lowerable" | "watershed" | "place" => 7,
             "save" => 6,
             "store" | "restore" => 5,
@@ -470,7 +473,7 @@ mod tests {
 
     #[test]
     fn every_number_occurs() {
-        let expected: [(&str, &[u32]); 12] = [
+        let expected: [(&str, &[u32]); 13] = [
             ("label", &[0, 3, 7, 8, 9]),
             ("lowerable", &[0, 3, 7, 8, 9, 10]),
             ("tree", &[0, 3, 7, 8, 9]),
@@ -478,6 +481,7 @@ mod tests {
             ("pass", &[0, 3, 7, 8, 9, 10, 11]),
             ("watershed", &[0, 3, 7, 8, 9]),
             ("place", &[0, 3, 7, 8, 9, 10]),
+            ("touch", &[0, 3, 7, 8, 9, 10, 14]),
             ("patches", &[0, 3, 7, 8, 9]),
             ("fill", &[0, 3, 7, 8, 9, 13]),
             ("save", &[0, 3, 4, 6, 8, 9]),

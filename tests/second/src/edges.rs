@@ -1,6 +1,8 @@
-//! The edge cases: for each one a name line and what `holds` prints.
+//! The edge cases: for each one a name line and what `holds` prints; then some
+//! of the handbook, with a line of patches or of a refusal.
 
 use crate::holds::Run;
+use crate::question::{touch_query_of, Call, Question};
 
 /// Pixel number `index` of an edge file.
 fn edge_pixel(index: usize, largest: usize) -> u8 {
@@ -138,7 +140,7 @@ fn cases_of_arguments() -> Vec<(&'static str, &'static [&'static str], Vec<u8>)>
     ]
 }
 
-/// All edge cases, in order.
+/// All edge cases of `holds`, in order.
 pub fn edge_cases() -> Vec<Run> {
     let without = cases_of_files().into_iter().map(|(name, input)| Run {
         name,
@@ -155,11 +157,49 @@ pub fn edge_cases() -> Vec<Run> {
     without.chain(with).collect()
 }
 
+/// The names, handbooks and adjacencies of the edge cases of the handbook, in
+/// order.
+const CASES_OF_HANDBOOKS: [(&str, u32, u32); 6] = [
+    ("handbook 3", 3, 4),
+    ("handbook 4", 4, 4),
+    ("handbook 5", 5, 4),
+    ("handbook 6", 6, 4),
+    ("handbook 3 adjacency 5", 3, 5),
+    ("handbook 5 adjacency 5", 5, 5),
+];
+
+/// The patches of the places of the first of the rows, touched under a handbook,
+/// 0 for none; or the refusal.
+fn text_of_touches(handbook: u32, adjacency: u32) -> String {
+    let row = ROWS[0];
+    let call = Call {
+        adjacency,
+        sides: (row.len() as u32, 1),
+        pixels: row.to_vec(),
+        question: Question::Touch { handbook, place: 0 },
+        work_length: 5 * row.len(),
+    };
+    let number = call.refusal();
+    if number != 0 {
+        return format!("refused {}\n", number);
+    }
+    let patches: Vec<String> = (0..row.len())
+        .map(|place| touch_query_of(&call.picture(), handbook, place))
+        .map(|answer| answer.patch.unwrap_or(0).to_string())
+        .collect();
+    patches.join(" ") + "\n"
+}
+
 pub fn text() -> String {
-    edge_cases()
+    let of_holds = edge_cases()
+        .into_iter()
+        .map(|run| format!("{}\n{}", run.name, run.text()));
+    let of_handbooks = CASES_OF_HANDBOOKS
         .iter()
-        .map(|run| format!("{}\n{}", run.name, run.text()))
-        .collect()
+        .map(|(name, handbook, adjacency)| {
+            format!("{}\n{}", name, text_of_touches(*handbook, *adjacency))
+        });
+    of_holds.chain(of_handbooks).collect()
 }
 
 #[cfg(test)]
@@ -251,6 +291,20 @@ mod tests {
         ] {
             assert_eq!(number_of(name), number, "{}", name);
         }
+    }
+
+    #[test]
+    fn edges_of_handbooks() {
+        let expected = "handbook 3\nrefused 14\n\
+                        handbook 4\n1 0 2 0 3\n\
+                        handbook 5\n1 1 2 1 3\n\
+                        handbook 6\nrefused 14\n\
+                        handbook 3 adjacency 5\nrefused 14\n\
+                        handbook 5 adjacency 5\nrefused 7\n";
+        assert!(text().ends_with(&format!("size 0 bytes 4097\nrefused 12\n{}", expected)));
+        assert!(edge_cases()
+            .iter()
+            .all(|run| !run.name.starts_with("handbook")));
     }
 
     #[test]

@@ -177,7 +177,7 @@ fn holds_of_a_refused_file() {
 }
 
 /// A picture with values from `base` to `base` + `largest`.
-fn small_picture(
+pub fn small_picture(
     random: &mut Random,
     (width, height): (usize, usize),
     base: usize,
@@ -244,7 +244,7 @@ fn literal_and_quick_list_the_same_patches_of_few_values() {
 }
 
 /// A generated picture, and the name of its kind.
-fn generated(random: &mut Random, sides: (usize, usize)) -> (&'static str, Picture) {
+pub fn generated(random: &mut Random, sides: (usize, usize)) -> (&'static str, Picture) {
     let generated = generate::picture(random, sides);
     let picture = Picture {
         width: generated.width,

@@ -366,6 +366,40 @@ pub fn place_query(picture: &Picture, place: usize) -> PlaceAnswer {
     }
 }
 
+/// A setting handbook.
+#[derive(Clone, Copy, Debug, PartialEq)]
+pub enum Handbook {
+    Four,
+    Five,
+}
+
+/// The number of the patch with the lowest pass from a place, the lowest number
+/// among equals. The pass to a patch is that to any place of it; here it is
+/// the first.
+fn patch_of_lowest_pass(picture: &Picture, place: usize) -> usize {
+    let leaves = minima(picture);
+    let passes = leaves.iter().enumerate().map(|(index, leaf)| {
+        let number = index + 1;
+        (pass(picture, place, leaf.first_place()), number)
+    });
+    let (_, number) = passes.min().unwrap();
+    number
+}
+
+/// The answer of the touch query. Under handbook 4 it is that of the place
+/// query; handbook 5 gives a touch on the line to a patch. A touch inside a
+/// patch has the same answer under both.
+pub fn touch_query(picture: &Picture, handbook: Handbook, place: usize) -> PlaceAnswer {
+    let answer = place_query(picture, place);
+    match (handbook, answer.patch) {
+        (Handbook::Five, None) => PlaceAnswer {
+            patch: Some(patch_of_lowest_pass(picture, place)),
+            ..answer
+        },
+        _ => answer,
+    }
+}
+
 /// Whether `other` keeps the parts of `picture`: at each height every
 /// component of `picture` lies in exactly one of `other`, and every one of
 /// `other` contains exactly one of `picture`.

@@ -32,6 +32,8 @@ mod fills;
 mod generate;
 #[cfg(test)]
 mod hand;
+#[cfg(test)]
+mod hand_touches;
 mod holds;
 mod lent;
 mod limits;
@@ -46,6 +48,7 @@ mod saves;
 mod saving;
 mod stores;
 mod storing;
+mod touches;
 mod wall;
 mod words;
 mod worked;

@@ -25,11 +25,12 @@ pub enum Question {
     Pass { lent: LentTree, places: [u32; 2] },
     Watershed { out_length: usize },
     Place { place: u32 },
+    Touch { handbook: u32, place: u32 },
     Patches { lengths: [usize; FIGURES] },
     Fill { size: u32, out_length: usize },
 }
 
-/// The kinds of calls but filling.
+/// The kinds of calls but touching and filling.
 pub const KINDS: [&str; 8] = [
     "label",
     "lowerable",
@@ -80,6 +81,16 @@ fn place_query_of(picture: &Picture, place: usize) -> PlaceAnswer {
     }
 }
 
+/// The handbook is one that is not refused.
+pub fn touch_query_of(picture: &Picture, handbook: u32, place: usize) -> PlaceAnswer {
+    let handbook = arguments::handbook(handbook).unwrap();
+    if is_small(picture) {
+        literal::touch_query(picture, handbook, place)
+    } else {
+        quick::touch_query(picture, handbook, place)
+    }
+}
+
 pub fn patches_of(picture: &Picture) -> Vec<Patch> {
     if is_small(picture) {
         literal::patches(picture)
@@ -112,6 +123,11 @@ fn figures_text(patches: &[Patch]) -> String {
     format!(" {}{}", patches.len(), lists.concat())
 }
 
+/// The pixel's value and the patch's number, 0 for the line.
+fn place_text(answer: &PlaceAnswer) -> String {
+    format!(" {} {}", answer.value, answer.patch.unwrap_or(0))
+}
+
 /// Lengths, each with a space behind it.
 fn lengths_text(lengths: &[usize]) -> String {
     lengths
@@ -123,7 +139,9 @@ fn lengths_text(lengths: &[usize]) -> String {
 impl Question {
     pub fn places(&self) -> Vec<u32> {
         match self {
-            Question::Lowerable { place } | Question::Place { place } => vec![*place],
+            Question::Lowerable { place }
+            | Question::Place { place }
+            | Question::Touch { place, .. } => vec![*place],
             Question::Pass { places, .. } => places.to_vec(),
             _ => Vec::new(),
         }
@@ -168,7 +186,9 @@ impl Question {
     /// Sets one of the places, if the call has places.
     pub fn set_place(&mut self, which: usize, new: u32) {
         match self {
-            Question::Lowerable { place } | Question::Place { place } => *place = new,
+            Question::Lowerable { place }
+            | Question::Place { place }
+            | Question::Touch { place, .. } => *place = new,
             Question::Pass { places, .. } => places[which] = new,
             _ => {}
         }
@@ -178,6 +198,21 @@ impl Question {
     pub fn set_size(&mut self, new: u32) {
         if let Question::Fill { size, .. } = self {
             *size = new;
+        }
+    }
+
+    /// The handbook, if the call is told one.
+    pub fn handbook(&self) -> Option<u32> {
+        match self {
+            Question::Touch { handbook, .. } => Some(*handbook),
+            _ => None,
+        }
+    }
+
+    /// Changes the handbook, if the call is told one.
+    pub fn change_handbook(&mut self, change: impl Fn(u32) -> u32) {
+        if let Question::Touch { handbook, .. } = self {
+            *handbook = change(*handbook);
         }
     }
 
@@ -196,6 +231,7 @@ impl Question {
             }
             Question::Watershed { out_length } => ("watershed", format!("{} ", out_length)),
             Question::Place { place } => ("place", format!("{} ", place)),
+            Question::Touch { place, .. } => ("touch", format!("{} ", place)),
             Question::Patches { lengths } => ("patches", lengths_text(lengths)),
             Question::Fill { size, out_length } => ("fill", format!("{} {} ", size, out_length)),
         }
@@ -222,9 +258,9 @@ impl Question {
             Question::Watershed { .. } => {
                 format!(" {}", hexadecimal(&quick::watershed(picture).pixels))
             }
-            Question::Place { place } => {
-                let answer = place_query_of(picture, *place as usize);
-                format!(" {} {}", answer.value, answer.patch.unwrap_or(0))
+            Question::Place { place } => place_text(&place_query_of(picture, *place as usize)),
+            Question::Touch { handbook, place } => {
+                place_text(&touch_query_of(picture, *handbook, *place as usize))
             }
             Question::Patches { .. } => figures_text(&patches_of(picture)),
             Question::Fill { size, .. } => {
@@ -240,8 +276,12 @@ impl Call {
         arguments::picture(self.adjacency, self.sides, &self.pixels)
     }
 
-    /// The refusal's number or 0. The order is 7, 3, 8, 9, 10, 11, 13.
+    /// The refusal's number or 0. The order is 14, 7, 3, 8, 9, 10, 11, 13.
     pub fn refusal(&self) -> u32 {
+        let told = self.question.handbook();
+        if told.is_some_and(|handbook| arguments::handbook(handbook).is_none()) {
+            return 14;
+        }
         let number = arguments::refusal(
             self.adjacency,
             self.sides,
@@ -275,9 +315,11 @@ impl Call {
     pub fn line(&self) -> String {
         let number = self.refusal();
         let (name, fields) = self.question.fields();
+        let told = self.question.handbook();
         let mut line = format!(
-            "{} {} {} {} {} {}{} {}",
+            "{} {}{} {} {} {} {}{} {}",
             name,
+            told.map_or(String::new(), |handbook| format!("{} ", handbook)),
             self.adjacency,
             self.sides.0,
             self.sides.1,

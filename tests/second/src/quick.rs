@@ -1,7 +1,7 @@
 //! The same answers as the literal module, quick enough for 40 by 40
 //! pictures. The tests compare the two on small pictures.
 
-use crate::literal::{Patch, Picture, PlaceAnswer, Tree, NO_FATHER};
+use crate::literal::{Handbook, Patch, Picture, PlaceAnswer, Tree, NO_FATHER};
 use std::collections::BTreeSet;
 
 fn all_neighbours(picture: &Picture) -> Vec<Vec<usize>> {
@@ -358,5 +358,59 @@ pub fn place_query(picture: &Picture, place: usize) -> PlaceAnswer {
             .iter()
             .position(|places| places.contains(&place))
             .map(|index| index + 1),
+    }
+}
+
+/// For each place the number of its patch, nothing for the line.
+pub fn patch_numbers(picture: &Picture) -> Vec<Option<usize>> {
+    let mut numbers = vec![None; picture.count()];
+    let minima = minima(picture, &all_neighbours(picture));
+    for (index, places) in minima.iter().enumerate() {
+        for place in places {
+            numbers[*place] = Some(index + 1);
+        }
+    }
+    numbers
+}
+
+/// The lowest number among the patches that a flood from a place meets at the
+/// height at which it meets the first one.
+///
+/// The flood takes the lowest waiting place next, and its height is the largest
+/// value taken so far. At each height it takes the component of that height
+/// that has the start in it, all of it before it rises. So the height at which
+/// it meets a patch is the pass to that patch.
+fn first_met(picture: &Picture, numbers: &[Option<usize>], start: usize) -> Option<usize> {
+    let mut seen = vec![false; picture.count()];
+    seen[start] = true;
+    let mut waiting = BTreeSet::from([(picture.value(start), start)]);
+    let mut height = picture.value(start);
+    let mut lowest: Option<usize> = None;
+    while let Some((value, place)) = waiting.pop_first() {
+        if value > height && lowest.is_some() {
+            break;
+        }
+        height = height.max(value);
+        lowest = lowest.into_iter().chain(numbers[place]).min();
+        for neighbour in picture.neighbours(place) {
+            if !seen[neighbour] {
+                seen[neighbour] = true;
+                waiting.insert((picture.value(neighbour), neighbour));
+            }
+        }
+    }
+    lowest
+}
+
+/// Inside a patch the flood meets that patch first, at the pixel's own value,
+/// and no other one at that height.
+pub fn touch_query(picture: &Picture, handbook: Handbook, place: usize) -> PlaceAnswer {
+    let numbers = patch_numbers(picture);
+    PlaceAnswer {
+        value: picture.value(place),
+        patch: match handbook {
+            Handbook::Four => numbers[place],
+            Handbook::Five => first_met(picture, &numbers, place),
+        },
     }
 }

@@ -1,4 +1,5 @@
-//! Pictures worked by hand: H1 to H10, and some for the depths of patches.
+//! Pictures worked by hand: H1 to H10, some for the depths of patches, and some
+//! for touches.
 
 use crate::literal::{Adjacency, Picture};
 
@@ -87,6 +88,152 @@ pub fn depths() -> Vec<(Picture, Vec<i32>)> {
         (four("9 3 5"), vec![6]),
         (eight("7 7 / 7 7"), vec![0]),
     ]
+}
+
+/// A picture, and the patch that a touch at each place belongs to under
+/// handbook 4 and under handbook 5, 0 for none.
+pub type Touched = (Picture, Vec<usize>, Vec<usize>);
+
+/// The two lists of patches are rows like the picture.
+fn touched(picture: Picture, under_four: &str, under_five: &str) -> Touched {
+    let patches = |rows: &str| -> Vec<usize> {
+        let words = rows.split_whitespace().filter(|word| *word != "/");
+        words.map(|word| word.parse().unwrap()).collect()
+    };
+    (picture, patches(under_four), patches(under_five))
+}
+
+/// H1 to H10, some of their watersheds, and a row like H3 with a lower pass.
+fn touched_table() -> Vec<Touched> {
+    vec![
+        touched(four("9"), "1", "1"),
+        touched(four("0 1"), "1 0", "1 1"),
+        touched(four("3 1 4 0 2"), "0 1 0 2 0", "1 1 1 2 2"),
+        touched(four("1 1 4 0 0"), "1 1 0 2 2", "1 1 1 2 2"),
+        touched(four("3 1 2 0 0"), "0 1 0 2 2", "1 1 1 2 2"),
+        touched(four("0 5 / 5 0"), "1 0 / 0 2", "1 1 / 1 2"),
+        touched(eight("0 5 / 5 0"), "1 0 / 0 1", "1 1 / 1 1"),
+        touched(
+            four("7 7 7 / 7 7 7 / 7 7 7"),
+            "1 1 1 / 1 1 1 / 1 1 1",
+            "1 1 1 / 1 1 1 / 1 1 1",
+        ),
+        touched(
+            four("0 0 0 / 0 5 0 / 0 0 0"),
+            "1 1 1 / 1 0 1 / 1 1 1",
+            "1 1 1 / 1 1 1 / 1 1 1",
+        ),
+        touched(four("0 3 3 3 1"), "1 0 0 0 2", "1 1 1 1 2"),
+        touched(four("0 0 0 3 1"), "1 1 1 0 2", "1 1 1 1 2"),
+        touched(four("0 3 3 1"), "1 0 0 2", "1 1 1 2"),
+        touched(four("0 5 2 / 3 3 3"), "1 0 2 / 0 0 0", "1 1 2 / 1 1 1"),
+        touched(four("0 3 2 / 0 0 3"), "1 0 2 / 1 1 0", "1 1 2 / 1 1 1"),
+    ]
+}
+
+/// Rows.
+fn touched_rows() -> Vec<Touched> {
+    vec![
+        // The row of the request on depths.
+        touched(four("0 2 1 9 5"), "1 0 2 0 3", "1 1 2 1 3"),
+        // The passes to all patches are equal: the first one is neither the
+        // nearest nor the deepest.
+        touched(four("3 4 5 0"), "1 0 0 2", "1 1 1 2"),
+        touched(four("2 6 6 6 0"), "1 0 0 0 2", "1 1 1 1 2"),
+        touched(four("4 7 1 7 0"), "1 0 2 0 3", "1 1 2 1 3"),
+        touched(four("2 4 3 5 0"), "1 0 2 0 3", "1 1 2 1 3"),
+        touched(four("5 6 5 6 5 6 5"), "1 0 2 0 3 0 4", "1 1 2 1 3 1 4"),
+        touched(four("255 0 255 254 255"), "0 1 0 2 0", "1 1 1 2 1"),
+        // The way down on one side only.
+        touched(four("0 5 4 3"), "1 0 0 2", "1 1 2 2"),
+        // The nearest patch lies behind a wall.
+        touched(four("0 9 5 4 3 1"), "1 0 0 0 0 2", "1 1 2 2 2 2"),
+        touched(four("1 3 4 5 9 0"), "1 0 0 0 0 2", "1 1 1 1 1 2"),
+        // The last place lies above the forks at 5 and at 6; the passes to the
+        // last three patches are 8, the pass to the first is 9.
+        touched(
+            four("0 9 3 6 2 5 1 8"),
+            "1 0 2 0 3 0 4 0",
+            "1 1 2 2 3 3 4 2",
+        ),
+        // The same from the other end.
+        touched(
+            four("8 1 5 2 6 3 9 0"),
+            "0 1 0 2 0 3 0 4",
+            "1 1 1 2 1 3 1 4",
+        ),
+        // Each higher pass has one more patch below it.
+        touched(
+            four("1 7 0 6 2 5 3 4"),
+            "1 0 2 0 3 0 4 0",
+            "1 1 2 2 3 3 4 4",
+        ),
+    ]
+}
+
+/// Pictures of several rows under both adjacencies, with different answers.
+fn touched_under_both_adjacencies() -> Vec<Touched> {
+    vec![
+        // Adjacency 8 leads from the middle to the first patch at 5.
+        touched(
+            four("0 9 9 / 9 5 4 / 9 9 9"),
+            "1 0 0 / 0 0 2 / 0 0 0",
+            "1 1 1 / 1 2 2 / 1 1 1",
+        ),
+        touched(
+            eight("0 9 9 / 9 5 4 / 9 9 9"),
+            "1 0 0 / 0 0 2 / 0 0 0",
+            "1 1 1 / 1 1 2 / 1 1 1",
+        ),
+        // The first places decide on the numbers: the upper patch on the right
+        // is the first, and has the pass 9 from the places of value 4 and 6.
+        // Adjacency 8 makes it a place on the line.
+        touched(
+            four("9 9 7 / 2 4 9 / 9 6 1"),
+            "0 0 1 / 2 0 0 / 0 0 3",
+            "1 1 1 / 2 2 1 / 1 2 3",
+        ),
+        touched(
+            eight("9 9 7 / 2 4 9 / 9 6 1"),
+            "0 0 0 / 1 0 0 / 0 0 2",
+            "1 1 1 / 1 1 1 / 1 1 2",
+        ),
+    ]
+}
+
+/// Other pictures of several rows.
+fn touched_planes() -> Vec<Touched> {
+    vec![
+        // The way from the upper right corner leads round the wall.
+        touched(
+            four("1 9 6 6 / 9 9 9 6 / 0 2 4 6"),
+            "1 0 0 0 / 0 0 0 0 / 2 0 0 0",
+            "1 1 2 2 / 1 1 1 2 / 2 2 2 2",
+        ),
+        // A patch of several pixels; it is the only one within 8.
+        touched(
+            four("9 9 3 / 1 9 9 / 1 1 8"),
+            "0 0 1 / 2 0 0 / 2 2 0",
+            "1 1 1 / 2 1 1 / 2 2 2",
+        ),
+        // Four patches round a cross of several heights.
+        touched(
+            four("3 5 2 / 4 6 4 / 1 5 0"),
+            "1 0 2 / 0 0 0 / 3 0 4",
+            "1 1 2 / 1 1 2 / 3 1 4",
+        ),
+    ]
+}
+
+/// Small pictures and their touches.
+pub fn touches() -> Vec<Touched> {
+    [
+        touched_table(),
+        touched_rows(),
+        touched_under_both_adjacencies(),
+        touched_planes(),
+    ]
+    .concat()
 }
 
 /// The largest side of a picture.
