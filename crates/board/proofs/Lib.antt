@@ -2,6 +2,7 @@
 pub mod Pixels
 pub mod Outputs
 pub mod Queries
+pub mod Touches
 pub mod LentTrees
 pub mod Demands
 pub mod FilledDemands

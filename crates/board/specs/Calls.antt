@@ -1,9 +1,8 @@
 -- What the public calls promise: the answer, and what they leave in each lent slice.
 -- p the picture, o output, q work, r the answer; a prime: after the call.
 use mathlib.Core.Path.{_≡_}
-use mathlib.Core.Logic.{_↔_}
 use mathlib.Core.List.{List}
-use Prim.Native.Nat.{ℕ, zero, suc, _≤_}
+use Prim.Native.Nat.{ℕ, zero, suc}
 use lib.Dec.{eqb}
 use lib.ListN.{length}
 use Rattle.lists.specs.Lists.{pick}
@@ -82,13 +81,3 @@ QuerySays p x q q′ r = QueriedSays (placeFaultOf p q x) (valueAt p x) (patchAt
 abbrev pub TouchSays : ℕ → Picture → ℕ → List ℕ → List ℕ → Queried → Type 0
 TouchSays handbook p x q q′ r =
     QueriedSays (touchFaultOf handbook p q x) (valueAt p x) (touchedPatch handbook p x) p q q′ r
-
--- under handbook 4 the promise of a touch is that of the place query
-abbrev pub Touch-four : Type 0
-Touch-four = (p : Picture) (x : ℕ) (q q′ : List ℕ) (r : Queried) → TouchSays 4 p x q q′ r ↔ QuerySays p x q q′ r
-
--- of a touch inside a patch both handbooks promise the same
-abbrev pub Touch-inside : Type 0
-Touch-inside =
-    (p : Picture) (x : ℕ) → 1 ≤ patchAt p x →
-    (q q′ : List ℕ) (r : Queried) → TouchSays 4 p x q q′ r ↔ TouchSays 5 p x q q′ r

@@ -78,21 +78,63 @@ module _ (p : Picture) (ok : Accepted p) where
         let w = ap (λ (n : Node). pass p x (n .first)) q in
         omega arith)
 
-    -- of the patches of that pass the one that begins first is the nearest
-    nearest-first :
-        (z : ℕ) → z < places p → bottom p z ≡ true → pass p x z ≡ valueAt p x →
-        ((y : ℕ) → y < places p → bottom p y ≡ true → pass p x y ≡ valueAt p x → z ≤ y) → nearestPatch p x ≡ patchAt p z
-    unfolding nearestPatch
-    nearest-first z zb t e first =
-        ap (indexFrom 0 1 near) (passes-are x) ∙
-        (index-earliest (pass p x) near (bottom p) 0 1 (places p) z zb
-        (eq-eqb (pass p x z) (lowest 0 (patchPasses p x)) (e ∙ sym lowest-own))
-        t
-        (λ y c s h. first y c s (eqb-true (pass p x y) (lowest 0 (patchPasses p x)) h ∙ lowest-own)) ∙
-        (let n = bottom-number p ok z zb t in omega arith))
-      where
-        near : ℕ → Bool
-        near k = eqb k (lowest 0 (patchPasses p x))
+    -- the first minimum with that pass is the nearest patch
+    module _ (z : ℕ) (zb : z < places p) (t : bottom p z ≡ true) (own : pass p x z ≡ valueAt p x) (first : (y : ℕ) → y < places p → bottom p y ≡ true → pass p x y ≡ valueAt p x → z ≤ y) where
+      nearest-first : nearestPatch p x ≡ patchAt p z
+      unfolding nearestPatch
+      nearest-first =
+          ap (indexFrom 0 1 near) (passes-are x) ∙
+          (index-earliest (pass p x) near (bottom p) 0 1 (places p) z zb
+          (eq-eqb (pass p x z) (lowest 0 (patchPasses p x)) (own ∙ sym lowest-own))
+          t
+          (λ y c s h. first y c s (eqb-true (pass p x y) (lowest 0 (patchPasses p x)) h ∙ lowest-own)) ∙
+          (let n = bottom-number p ok z zb t in omega arith))
+        where
+          near : ℕ → Bool
+          near k = eqb k (lowest 0 (patchPasses p x))
+
+      nearest-some : 1 ≤ nearestPatch p x
+      nearest-some = let e = nearest-first in let n = bottom-number p ok z zb t in omega arith
+
+      m : ℕ
+      m = mapOf p z
+
+      same : nodeAt p m .first ≡ z
+      unfolding m
+      same = ap (λ (n : Node). n .first) (bottom-map p ok z zb t)
+
+      first-nearest : Nearest p x (nodeAt p m)
+      unfolding m
+      first-nearest =
+          record {
+            patch = leaf-node-patch p m (map-found p ok z zb) (bottom-leaf p ok z zb t);
+            pass-least =
+                λ n i.
+                let (k, c, l, q) = patch-leaf-node p i in
+                let h = pass-above (nodeAt p k .first) (node-is p k c .place .within) in
+                let w = ap (λ (o : Node). pass p x (o .first)) q in
+                omega (arith, pass-here);
+            number-least = number-least;
+          }
+        where
+          pass-here : pass p x (nodeAt p m .first) ≡ valueAt p x
+          pass-here = ap (pass p x) same ∙ own
+
+          number-least :
+              (n : Node) → List·Memᴰ n (patchNodes p) → pass p x (n .first) ≡ pass p x (nodeAt p m .first) →
+              patchAt p (nodeAt p m .first) ≤ patchAt p (n .first)
+          number-least n i e =
+              let (k, c, l, q) = patch-leaf-node p i in
+              let begins = ap (λ (o : Node). o .first) q in
+              let y = nodeAt p k .first in
+              let yb = node-is p k c .place .within in
+              let yt = leaf-bottom p ok k c l .1 in
+              let a = ap (patchAt p) same in
+              let d = ap (patchAt p) begins in
+              let w = first y yb yt (ap (pass p x) begins ∙ (e ∙ pass-here)) in
+              by-cases (ℕ-discrete z y)
+              (λ v. let u = ap (patchAt p) v in omega arith)
+              (λ v. let u = bottom-rise p ok z y zb yb t yt (omega arith) in omega arith)
 
     -- of the leaves below the node of the place the one with the least patch number is the nearest
     pub nearest-leaf :
@@ -143,14 +185,19 @@ module _ (p : Picture) (ok : Accepted p) where
         m : ℕ
         m = mapOf p x
 
-    -- a minimum of the lowest pass begins at y
+    -- a minimum begins at y, and the pass to it is that value
     reached : ℕ → Bool
     reached y = bottom p y && eqb (pass p x y) (valueAt p x)
 
-    -- the first one is the nearest
+    -- there is such a minimum, and so a first one
     found : (n : Node) × Nearest p x n × (nearestPatch p x ≡ patchAt p (n .first)) × (1 ≤ nearestPatch p x)
-    unfolding reached
-    found = (nodeAt p m, record { patch = patch; pass-least = pass-least; number-least = number-least }, number, some)
+    unfolding reached m
+    found = (
+      nodeAt p (mapOf p z),
+      first-nearest z zb t own least,
+      nearest-first z zb t own least ∙ ap (patchAt p) (sym (same z zb t own least)),
+      nearest-some z zb t own least,
+    )
       where
         z : ℕ
         z = indexFrom (places p) 0 reached (range 0 (places p))
@@ -175,47 +222,6 @@ module _ (p : Picture) (ok : Accepted p) where
 
         own : pass p x z ≡ valueAt p x
         own = eqb-true (pass p x z) (valueAt p x) (and-right (bottom p z) (eqb (pass p x z) (valueAt p x)) passed)
-
-        m : ℕ
-        m = mapOf p z
-
-        same : nodeAt p m .first ≡ z
-        same = ap (λ (n : Node). n .first) (bottom-map p ok z zb t)
-
-        patch : List·Memᴰ (nodeAt p m) (patchNodes p)
-        patch = leaf-node-patch p m (map-found p ok z zb) (bottom-leaf p ok z zb t)
-
-        pass-here : pass p x (nodeAt p m .first) ≡ valueAt p x
-        pass-here = ap (pass p x) same ∙ own
-
-        pass-least : (n : Node) → List·Memᴰ n (patchNodes p) → pass p x (nodeAt p m .first) ≤ pass p x (n .first)
-        pass-least n i =
-            let (k, c, g, q) = patch-leaf-node p i in
-            let h = pass-above (nodeAt p k .first) (node-is p k c .place .within) in
-            let w = ap (λ (o : Node). pass p x (o .first)) q in
-            omega (arith, pass-here)
-
-        number-least :
-            (n : Node) → List·Memᴰ n (patchNodes p) → pass p x (n .first) ≡ pass p x (nodeAt p m .first) →
-            patchAt p (nodeAt p m .first) ≤ patchAt p (n .first)
-        number-least n i e =
-            let (k, c, g, q) = patch-leaf-node p i in
-            let first = ap (λ (o : Node). o .first) q in
-            let y = nodeAt p k .first in
-            let yb = node-is p k c .place .within in
-            let yt = leaf-bottom p ok k c g .1 in
-            let a = ap (patchAt p) same in
-            let d = ap (patchAt p) first in
-            let w = least y yb yt (ap (pass p x) first ∙ (e ∙ pass-here)) in
-            by-cases (ℕ-discrete z y)
-            (λ v. let u = ap (patchAt p) v in omega arith)
-            (λ v. let u = bottom-rise p ok z y zb yb t yt (omega arith) in omega arith)
-
-        number : nearestPatch p x ≡ patchAt p (nodeAt p m .first)
-        number = nearest-first z zb t own least ∙ ap (patchAt p) (sym same)
-
-        some : 1 ≤ nearestPatch p x
-        some = let e = nearest-first z zb t own least in let n = bottom-number p ok z zb t in omega arith
 
 pub nearest-inside : Nearest-inside
 nearest-inside p h x b = inside p (accepted-is p h) x b

@@ -1,6 +1,6 @@
 -- `board::query_place` meets its contract: under handbook 4 the promise of a touch is that of the place query.
 use Rattle.picture.specs.Pictures.{pictureOf}
-use Rattle.board.proofs.Queries.{touch-four}
+use Rattle.board.proofs.Touches.{touch-four}
 use borrow.Author.Needs.{needs}
 use Rattle.board.proofs.query_place.Statement.{statement}
 use Rattle.board.proofs.query_place.Tie as tie

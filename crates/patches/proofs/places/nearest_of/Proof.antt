@@ -64,7 +64,7 @@ returns c =
     let w = c .before .before .before .before in
     let l = numbered w in
     let s = origin l in
-    numbered-nearest (pictured s) _ _ (s .pre .0) 65535 _ _ (l .number .ensures) (omega (arith, s .pre .1 .few)) (s .args .x) (s .pre .2) _ _
+    numbered-nearest (pictured s) _ _ (s .pre .0) _ _ _ (l .number .ensures) (omega (arith, s .pre .1 .few)) (s .args .x) (s .pre .2) _ _
     (w .wide .ensures)
     (c .before .before .least-label .ensures)
 
