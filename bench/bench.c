@@ -7,7 +7,8 @@
  * With the argument `once` each call runs once at 40 by 40, ours and then the
  * peer's, in the function `counted`, for a tool that counts instructions; a
  * line for each pair names it. With `growth` each of ours runs once on noise
- * at each side.
+ * at each side. With `touches` our place query and the touch by each handbook
+ * run once on every picture at each side.
  */
 
 #include "calls.h"
@@ -23,6 +24,7 @@
 #define BESIDE_ROUNDS 500
 #define BESIDE_CALLS 10
 #define FILLING 171             /* a byte of memory that no call wrote */
+#define LENGTH_OF(array) (sizeof(array) / sizeof *(array))
 
 /* All memory that a call may be lent. */
 struct memory {
@@ -36,6 +38,7 @@ static uint8_t pixels[LARGEST_N];
 static struct memory ours, peer;
 static uint32_t a, w, n, count, place;
 static uint32_t sizes[SIZES];           /* least sizes of parts */
+static uint32_t handbooks[] = { NONE_ON_LINE, NEAREST_ON_LINE };
 static size_t room = MOST_PATCHES;      /* of each list of figures */
 static uint8_t median;
 
@@ -49,7 +52,8 @@ static uint8_t median_pixel(void)
     return (uint8_t)k;
 }
 
-/* The place of the first largest pixel. */
+/* The place of the first largest pixel. Its node is the root, so that no touch by handbook 5 costs
+ * more; it is on the line unless the picture is flat. */
 static uint32_t largest_place(void)
 {
     uint32_t best = 0;
@@ -57,6 +61,12 @@ static uint32_t largest_place(void)
         if (pixels[x] > pixels[best])
             best = x;
     return best;
+}
+
+static uint64_t touch_place(uint32_t handbook, int is_ours, struct memory *m)
+{
+    return (is_ours ? controller_touch_place : peer_touch_place)(handbook, a, w, w,
+        pixels, n, place, m->work, 5 * n);
 }
 
 static uint64_t list_patches(int is_ours, struct memory *m)
@@ -96,6 +106,9 @@ static uint64_t run(unsigned call, int is_ours, struct memory *m)
     case QUERY:
         return (is_ours ? controller_query_place : peer_query_place)(a, w, w,
             pixels, n, place, m->work, 5 * n);
+    case TOUCH_4:
+    case TOUCH_5:
+        return touch_place(handbooks[call - TOUCH_4], is_ours, m);
     case PATCHES:
         return list_patches(is_ours, m);
     default:
@@ -126,9 +139,9 @@ static void same(unsigned call, unsigned picture)
     uint64_t first = run(call, 1, &ours), second = run(call, 0, &peer);
     if (first == second && memcmp(&ours, &peer, sizeof ours) == 0)
         return;
-    printf("%s differs: %s, side %u, adjacency %u, place %u, sizes from %u: %llx %llx\n",
-           call_names[call], picture_names[picture], w, a, place, sizes[0],
-           (unsigned long long)first, (unsigned long long)second);
+    printf("%s differs: %s, side %u, adjacency %u, place %u, sizes from %u, handbooks from %u:"
+           " %llx %llx\n", call_names[call], picture_names[picture], w, a, place, sizes[0],
+           handbooks[0], (unsigned long long)first, (unsigned long long)second);
     exit(1);
 }
 
@@ -197,7 +210,25 @@ static void compare_sizes(unsigned picture)
     take_sizes();
 }
 
-/* Compares all calls, at all places where a call takes one; also trees with one entry changed, short lists, and all least sizes. */
+/* Compares handbooks, most of them refused, two of which would be 5 if they were cut to 8 or 16
+ * bits, with adjacencies and places that are refused after them. */
+static void compare_handbooks(unsigned picture)
+{
+    const uint32_t tried_handbooks[] = { 4, 5, 0, 3, 6, 8, 261, 65541, UINT32_MAX };
+    const uint32_t tried_adjacencies[] = { a, 3, 5 };
+    for (unsigned i = 0; i < LENGTH_OF(tried_handbooks); i++)
+        for (unsigned j = 0; j < LENGTH_OF(tried_adjacencies); j++)
+            for (place = n - 1; place <= n; place++) {
+                handbooks[0] = tried_handbooks[i];
+                a = tried_adjacencies[j];
+                same(TOUCH_4, picture);
+            }
+    handbooks[0] = NONE_ON_LINE;
+    a = tried_adjacencies[0];
+}
+
+/* Compares all calls, at all places where a call takes one; also trees with one entry changed,
+ * short lists, all least sizes, and refused handbooks. */
 static void compare(unsigned picture)
 {
     for (unsigned call = 0; call < CALLS; call++)
@@ -209,10 +240,13 @@ static void compare(unsigned picture)
     for (place = 0; place <= n; place++) {
         same(LOWERABLE, picture);
         same(QUERY, picture);
+        same(TOUCH_4, picture);
+        same(TOUCH_5, picture);
     }
     compare_damaged_trees(picture);
     compare_short_lists(picture);
     compare_sizes(picture);
+    compare_handbooks(picture);
     median = median_pixel();
     place = largest_place();
 }
@@ -273,6 +307,16 @@ static void for_all(void (*visit)(unsigned adjacency, unsigned s, unsigned p))
             }
 }
 
+static void run_touches_one(unsigned adjacency, unsigned s, unsigned p)
+{
+    for (unsigned i = 0; i < SECOND_QUERY; i++) {
+        unsigned call = calls_beside_query[i];
+        printf("%u|%u|%s|%s\n", adjacencies[adjacency], sides[s], picture_names[p],
+               call_names[call]);
+        counted(run_measured, call, 1);
+    }
+}
+
 static void compare_one(unsigned adjacency, unsigned s, unsigned p)
 {
     (void)adjacency, (void)s;
@@ -282,6 +326,8 @@ static void compare_one(unsigned adjacency, unsigned s, unsigned p)
 static void measure_one(unsigned adjacency, unsigned s, unsigned p)
 {
     measure(run_measured, CALLS, table[adjacency][s][p]);
+    measure_in_turn(run_measured, calls_beside_query, BESIDE_QUERY,
+                    beside_query[adjacency][s][p]);
     if (s == SIDES - 1)
         against_tree[adjacency][p] = measure_against_tree();
 }
@@ -293,6 +339,8 @@ int main(int arguments, char **argument)
         run_growth();
     } else if (strcmp(mode, "once") == 0) {
         run_once();
+    } else if (strcmp(mode, "touches") == 0) {
+        for_all(run_touches_one);
     } else {
         for_all(compare_one);
         printf("results: the same on %u pictures with both adjacencies\n",

@@ -79,6 +79,19 @@ static inline unsigned fault_with_place(uint32_t a, uint32_t w, uint32_t h,
     return fault == 0 && place >= n ? 10 : fault;
 }
 
+/* The handbooks: a touch on the line belongs to no patch, or to the nearest. */
+enum { NONE_ON_LINE = 4, NEAREST_ON_LINE = 5 };
+
+/* The same for a call that takes a handbook too; 14 comes first. */
+static inline unsigned fault_with_handbook(uint32_t handbook, uint32_t a, uint32_t w,
+                                           uint32_t h, size_t n, uint32_t place,
+                                           size_t work_length)
+{
+    if (handbook != NONE_ON_LINE && handbook != NEAREST_ON_LINE)
+        return 14;
+    return fault_with_place(a, w, h, n, place, work_length);
+}
+
 static inline size_t lesser_length(size_t a, size_t b)
 {
     return a < b ? a : b;

@@ -1,4 +1,7 @@
-/* The patches: the tree, its leaves numbered by first place, the patch of one place, and the figures of all patches. */
+/*
+ * The patches: the tree, its leaves numbered by first place, the patch of a
+ * touch, and the figures of all patches.
+ */
 
 #include "calls.h"
 #include "tree.h"
@@ -16,8 +19,11 @@ struct figures {
     uint16_t *sizes, *heights, *depths, *columns, *rows;
 };
 
+/* Both bytes of the number of a node that is no leaf: 0, or a number above that of every leaf. */
+enum { NO_NUMBER = 0, ABOVE_NUMBERS = 255 };
+
 /* Numbers the leaves by first place. The cells mark the nodes that are the father of some node. */
-static inline void number_leaves(unsigned n, unsigned count,
+static inline void number_leaves(unsigned n, unsigned count, int others,
                                  const uint16_t *restrict work,
                                  uint16_t *restrict cells,
                                  uint16_t *restrict numbers)
@@ -26,7 +32,7 @@ static inline void number_leaves(unsigned n, unsigned count,
     const uint16_t *firsts = work + 3 * n;
     unsigned number = 0;
     memset(cells, 0, n * sizeof *cells);
-    memset(numbers, 0, n * sizeof *numbers);
+    memset(numbers, others, n * sizeof *numbers);
     for (unsigned i = 0; i < count; i++)
         if (fathers[i] < n)
             cells[fathers[i]] = 1;
@@ -46,19 +52,44 @@ static inline unsigned patch_at(unsigned n, const uint8_t *restrict pixels,
     return pixels[x] == work[node] ? numbers[node] : 0;
 }
 
+/* The least number of the leaves at or below the node of x. The nodes before it hand their label,
+ * the least number below them so far, to their fathers; labels lie over the numbers. */
+static inline unsigned nearest_patch(unsigned n, const uint16_t *restrict work,
+                                     uint16_t *restrict labels, unsigned x)
+{
+    const uint16_t *fathers = work + n;
+    unsigned node = work[2 * n + x];
+    for (unsigned i = 0; i < node; i++) {
+        unsigned father = fathers[i];
+        if (father < n && labels[i] < labels[father])
+            labels[father] = labels[i];
+    }
+    return labels[node];
+}
+
+uint64_t peer_touch_place(uint32_t handbook, uint32_t a, uint32_t w, uint32_t h,
+    const uint8_t *pixels, size_t n, uint32_t place,
+    uint16_t *work, size_t work_length)
+{
+    unsigned fault = fault_with_handbook(handbook, a, w, h, n, place, work_length);
+    if (fault)
+        return refused(fault);
+    uint16_t cells[LARGEST_N], *numbers = work + 4 * n;
+    bool nearest = handbook == NEAREST_ON_LINE;
+    unsigned count = build_tree(grid_of(a, w, h), pixels, work, cells);
+    number_leaves((unsigned)n, count, nearest ? ABOVE_NUMBERS : NO_NUMBER,
+                  work, cells, numbers);
+    unsigned patch = nearest ? nearest_patch((unsigned)n, work, numbers, place)
+                             : patch_at((unsigned)n, pixels, work, numbers, place);
+    memset(work, 0, 5 * n * sizeof *work);
+    return (uint64_t)pixels[place] << 16 | patch;
+}
+
 uint64_t peer_query_place(uint32_t a, uint32_t w, uint32_t h,
     const uint8_t *pixels, size_t n, uint32_t place,
     uint16_t *work, size_t work_length)
 {
-    unsigned fault = fault_with_place(a, w, h, n, place, work_length);
-    if (fault)
-        return refused(fault);
-    uint16_t cells[LARGEST_N], *numbers = work + 4 * n;
-    unsigned count = build_tree(grid_of(a, w, h), pixels, work, cells);
-    number_leaves((unsigned)n, count, work, cells, numbers);
-    unsigned patch = patch_at((unsigned)n, pixels, work, numbers, place);
-    memset(work, 0, 5 * n * sizeof *work);
-    return (uint64_t)pixels[place] << 16 | patch;
+    return peer_touch_place(NONE_ON_LINE, a, w, h, pixels, n, place, work, work_length);
 }
 
 /* Visits the flat zone of x, the stack linked in the cells; true if no neighbour is lower. */
@@ -183,7 +214,7 @@ static inline void put_figures(struct grid g, const uint8_t *pixels,
 {
     uint16_t *numbers = work + 4 * g.n;
     unsigned nodes = build_tree(g, pixels, work, cells);
-    number_leaves(g.n, nodes, work, cells, numbers);
+    number_leaves(g.n, nodes, NO_NUMBER, work, cells, numbers);
     for (unsigned x = 0; x < g.n; x++)
         cells[x] = (uint16_t)patch_at(g.n, pixels, work, numbers, x);
     put_climbs(g.n, nodes, largest_pixel(g.n, pixels), work);

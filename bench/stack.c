@@ -1,10 +1,10 @@
 /*
  * The largest stack of each of our calls at 40 by 40: each call runs on a
  * stack of its own that was filled with a pattern, on every picture, with
- * both adjacencies, several places, least sizes, files or largest samples, and
- * two patterns. What an empty function takes in its place is taken off, but
- * for the return address; arguments that are passed in memory are the
- * caller's and not counted. For x86-64.
+ * both adjacencies, several places, least sizes, handbooks, files or largest
+ * samples, and two patterns. What an empty function takes in its place is
+ * taken off, but for the return address; arguments that are passed in memory
+ * are the caller's and not counted. For x86-64.
  */
 
 #include "calls.h"
@@ -108,6 +108,14 @@ static void query_place(void)
                                             work, 5 * n);
 }
 
+/* The handbook changes with the place. */
+static void touch_place(void)
+{
+    uint32_t handbook = place / PLACE_STEP % 2 ? NEAREST_ON_LINE : NONE_ON_LINE;
+    answer = ((touch_place_call *)function)(handbook, a, side, side, pixels, n, place,
+                                            work, 5 * n);
+}
+
 static void list_patches(void)
 {
     answer = ((list_patches_call *)function)(a, side, side, pixels, n,
@@ -160,6 +168,7 @@ static const struct {
     { "watershed_of", 19200, (any_function *)controller_watershed_of, watershed_of },
     { "fill_small_parts", 19200, (any_function *)controller_fill_small_parts, fill_small_parts },
     { "query_place", 17600, (any_function *)controller_query_place, query_place },
+    { "touch_place", 17600, (any_function *)controller_touch_place, touch_place },
     { "list_patches", 17600 + sizeof figures, (any_function *)controller_list_patches, list_patches },
     { "write_file", LARGEST_N + MOST_HEADER_BYTES + LARGEST_N, (any_function *)controller_write_file, write_file },
     { "store_rows", 2 * LARGEST_N, (any_function *)controller_store_rows, convert_rows },

@@ -4,17 +4,22 @@
 
 #include <stdio.h>
 
+#define MOST_OVER_QUERY 1.1     /* the bar for a touch */
+
 const uint32_t adjacencies[2] = { 4, 8 };
 const unsigned sides[SIDES] = { 5, 10, 20, 40 };
 const char *const call_names[CALLS] = {
     "label_section, median", "label_section, 255", "is_lowerable",
     "component_tree", "check_tree", "pass_between", "watershed_of",
-    "query_place", "list_patches", "fill_small_parts, 2",
-    "fill_small_parts, 12", "fill_small_parts, n / 2", "fill_small_parts, n",
+    "query_place", "touch_place, 4", "touch_place, 5", "list_patches",
+    "fill_small_parts, 2", "fill_small_parts, 12", "fill_small_parts, n / 2",
+    "fill_small_parts, n",
 };
+const unsigned calls_beside_query[BESIDE_QUERY] = { QUERY, TOUCH_5, TOUCH_4, QUERY };
 
 struct times table[2][SIDES][PICTURE_COUNT][CALLS];
 struct against_tree against_tree[2][PICTURE_COUNT];
+double beside_query[2][SIDES][PICTURE_COUNT][BESIDE_QUERY];
 
 static void print_head(const char *first)
 {
@@ -115,6 +120,55 @@ static void print_fill_against_tree(void)
     printf("\nThe largest is %.2f.\n", most);
 }
 
+static double over_query(unsigned adjacency, unsigned s, unsigned picture, unsigned beside)
+{
+    const double *least = beside_query[adjacency][s][picture];
+    return least[beside] / least[FIRST_QUERY];
+}
+
+/* The picture with the largest ratio to the query. */
+static unsigned costliest(unsigned adjacency, unsigned s, unsigned beside)
+{
+    unsigned most = 0;
+    for (unsigned p = 1; p < PICTURE_COUNT; p++)
+        if (over_query(adjacency, s, p, beside) > over_query(adjacency, s, most, beside))
+            most = p;
+    return most;
+}
+
+/* The largest ratio to the query of all pictures at all sides with both adjacencies. */
+static double most_over_query(unsigned beside)
+{
+    double most = 0;
+    for (unsigned adjacency = 0; adjacency < 2; adjacency++)
+        for (unsigned s = 0; s < SIDES; s++) {
+            unsigned p = costliest(adjacency, s, beside);
+            double over = over_query(adjacency, s, p, beside);
+            most = over > most ? over : most;
+        }
+    return most;
+}
+
+static void print_over_query(void)
+{
+    printf("\nTime of touch_place over time of query_place, and of query_place over itself, ours,"
+           " the largest of all pictures\n");
+    printf("\n| side, adjacency | touch_place, 5 | touch_place, 4 | query_place |\n");
+    printf("|---|---|---|---|\n");
+    for (unsigned adjacency = 0; adjacency < 2; adjacency++)
+        for (unsigned s = 0; s < SIDES; s++) {
+            printf("| %u, %u |", sides[s], adjacencies[adjacency]);
+            for (unsigned beside = TOUCH_BY_5; beside < BESIDE_QUERY; beside++) {
+                unsigned p = costliest(adjacency, s, beside);
+                printf(" %.3f (%s) |", over_query(adjacency, s, p, beside), picture_names[p]);
+            }
+            printf("\n");
+        }
+    printf("\nThe largest is %.3f by handbook 5 and %.3f by handbook 4 (the bar is %.1f);"
+           " that of query_place over itself is %.3f.\n", most_over_query(TOUCH_BY_5),
+           most_over_query(TOUCH_BY_4), MOST_OVER_QUERY, most_over_query(SECOND_QUERY));
+}
+
 void print_tables(void)
 {
     for (unsigned adjacency = 0; adjacency < 2; adjacency++) {
@@ -125,4 +179,5 @@ void print_tables(void)
     }
     print_against_tree();
     print_fill_against_tree();
+    print_over_query();
 }

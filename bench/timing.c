@@ -9,6 +9,7 @@
 
 #define ROUNDS 25
 #define ROUND_SECONDS 400e-6
+#define ROUNDS_IN_TURN 250
 
 static volatile uint64_t sink;
 
@@ -52,6 +53,18 @@ void measure(numbered_call *run, unsigned count, struct times *least)
             struct times *t = &least[call];
             t->ours = lesser(t->ours, round_of(run, call, 1, repeats[call]));
             t->peer = lesser(t->peer, round_of(run, call, 0, repeats[call]));
+        }
+}
+
+void measure_in_turn(numbered_call *run, const unsigned *calls, unsigned count, double *least)
+{
+    unsigned repeats = repeats_of(run, calls[0]);
+    for (unsigned i = 0; i < count; i++)
+        least[i] = 1e9;
+    for (unsigned round = 0; round < ROUNDS_IN_TURN; round++)
+        for (unsigned i = 0; i < count; i++) {
+            unsigned turn = round % 2 ? count - 1 - i : i;
+            least[turn] = lesser(least[turn], round_of(run, calls[turn], 1, repeats));
         }
 }
 

@@ -36,6 +36,7 @@ struct arguments {
     uint8_t k;
     uint32_t count;             /* nodes of the lent tree */
     uint32_t x, y;              /* places */
+    uint32_t handbook;
     uint32_t s;                 /* the least size of a part */
     uint32_t largest;           /* sample of the file that is saved */
     struct bytes bytes;         /* the tree's heights, or an output of bytes */
@@ -55,6 +56,7 @@ struct call {
     uint32_t places;            /* how many it takes */
     int takes_tree;
     int takes_size;
+    int takes_handbook;
     int without_adjacency;
     int saves;                  /* takes a largest sample and answers a count of bytes */
     int lists_patches;          /* the lists have an entry a patch, not a pixel */
@@ -68,9 +70,10 @@ extern uint64_t answer;
 
 #define NO_ADJACENCY 0          /* of the calls that take none */
 
-#define CONTROLLER_CALLS 12
+#define CONTROLLER_CALLS 13
 #define LABEL_SECTION 0         /* the number of the call that takes k */
 #define FILL_SMALL_PARTS 6      /* the number of the call that takes s */
+#define TOUCH_PLACE 8           /* the number of the call that takes a handbook */
 extern const struct call controller_calls[CONTROLLER_CALLS];
 extern const struct call read_call, watershed_call, place_call;
 

@@ -59,6 +59,11 @@ static void query_place(void)
     answer = CALL(query_place)(PICTURE, given.x, LENT(work));
 }
 
+static void touch_place(void)
+{
+    answer = CALL(touch_place)(given.handbook, PICTURE, given.x, LENT(work));
+}
+
 static void list_patches(void)
 {
     answer = CALL(list_patches)(PICTURE, LENT(lists[0]), LENT(lists[1]), LENT(lists[2]),
@@ -93,6 +98,7 @@ const struct call controller_calls[CONTROLLER_CALLS] = {
     { "watershed_of", watershed_of, ON_PICTURE, .bytes_a_pixel = 1 },
     { "fill_small_parts", fill_small_parts, ON_PICTURE, .bytes_a_pixel = 1, .takes_size = 1 },
     { "query_place", query_place, ON_PICTURE, .places = 1 },
+    { "touch_place", touch_place, ON_PICTURE, .places = 1, .takes_handbook = 1 },
     { "list_patches", list_patches, .work_a_pixel = WORK_A_PIXEL,
       .lists = FIGURES, .most_entries = MOST_PATCHES, .lists_patches = 1 },
     { "write_file", write_file, WITHOUT_WORK, .other_bytes = MOST_HEADER_BYTES, .saves = 1 },

@@ -26,6 +26,7 @@ void measure_board_calls(void);
  * has the sums over all lent memory and is the same on every machine, as is
  *
  *   sized|call|adjacency|width|height|picture|least size of a part|answer|sum after
+ *   touched|call|adjacency|width|height|picture|handbook|place|answer|sum after
  */
 void sweep_pictures(void);
 void sweep_files(void);

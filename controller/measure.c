@@ -130,6 +130,23 @@ static void measure_fillings(unsigned picture, uint32_t adjacency)
     }
 }
 
+/* At the first largest pixel: its node is the root, so that no touch by handbook 5 costs more. */
+static void measure_touches(unsigned picture, uint32_t adjacency)
+{
+    static const struct {
+        const char *title;
+        uint32_t handbook;
+    } handbooks[] = {
+        { "touch_place, 4", NONE_ON_LINE }, { "touch_place, 5", NEAREST_ON_LINE },
+    };
+    const struct call *call = &controller_calls[TOUCH_PLACE];
+    for (unsigned i = 0; i < sizeof handbooks / sizeof *handbooks; i++) {
+        prepare(call, picture, adjacency);
+        given.handbook = handbooks[i].handbook;
+        measure(call, handbooks[i].title, picture);
+    }
+}
+
 /* Measures the call of a number under every adjacency that it takes. */
 static void measure_adjacencies(unsigned number, unsigned picture)
 {
@@ -143,6 +160,8 @@ static void measure_adjacencies(unsigned number, unsigned picture)
             measure_sections(picture, adjacency);
         else if (number == FILL_SMALL_PARTS)
             measure_fillings(picture, adjacency);
+        else if (number == TOUCH_PLACE)
+            measure_touches(picture, adjacency);
         else
             measure_call(call, picture, adjacency);
 }

@@ -16,6 +16,7 @@
     empty controller_watershed_of
     empty controller_fill_small_parts
     empty controller_query_place
+    empty controller_touch_place
     empty controller_list_patches
     empty controller_write_file
     empty controller_store_rows

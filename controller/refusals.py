@@ -1,8 +1,9 @@
 """Counts the answers of the sweep. Fails if a refusal that a header lists was not reached.
 
 Each output, list and work memory must have been refused with 9 when it alone was too short, each
-least size that no picture has with 13, each largest sample that no file has with 4, and a pixel
-above the largest sample with 6. A refusal must leave all lent memory as it was.
+least size that no picture has with 13, each handbook that is none with 14, each largest sample
+that no file has with 4, and a pixel above the largest sample with 6. A refusal must leave all lent
+memory as it was.
 """
 
 import sys
@@ -18,6 +19,7 @@ TOO_SHORT = 9
 # arguments too must be named here.
 REFUSED_CHANGES = {
     "fill_small_parts": {13: ("size 0", "size 65537", "size largest", "size n + 1")},
+    "touch_place": {14: ("handbook 3", "handbook 6", "handbook 65540", "handbook largest")},
     "write_file": {4: ("sample 0", "sample 256", "sample 65537", "sample largest"),
                    6: ("first pixel above", "middle pixel above", "last pixel above",
                        "all pixels above")},

@@ -4,8 +4,9 @@ from collections import defaultdict, namedtuple
 
 OUT = "target/controller"
 CALLS = ("label_section", "component_tree", "check_tree", "pass_between", "is_lowerable",
-         "watershed_of", "fill_small_parts", "query_place", "list_patches", "write_file",
-         "store_rows", "restore_rows", "board_read", "board_watershed", "board_place")
+         "watershed_of", "fill_small_parts", "query_place", "touch_place", "list_patches",
+         "write_file", "store_rows", "restore_rows", "board_read", "board_watershed",
+         "board_place")
 TABLET_CALLS = ("board_watershed", "board_place")
 
 # One measured call. The lent memory and the stack are in bytes; m0plus and m0 are the cycles of a

@@ -1,7 +1,7 @@
 /*
  * Every call on several pictures with right and wrong sides and adjacencies,
  * and with one argument changed at a time, or pixels above the largest sample;
- * the filling with many least sizes.
+ * the filling with many least sizes, the touch at many places.
  */
 
 #include "board_controller.h"
@@ -14,6 +14,7 @@
 #define SMALL_SIDE 7
 #define FEW_PIXELS (SMALL_SIDE * SMALL_SIDE)    /* lent where a side is refused */
 #define DARK 0x0f               /* the largest value of every third pixel */
+#define FEW_PLACES 16           /* where a large picture is touched, beside the last one */
 
 /* A linear congruential generator; a pixel is its highest byte. */
 #define DRAW_FACTOR 1664525u
@@ -26,19 +27,22 @@ static const uint32_t sides[] = { 0, 1, 2, SMALL_SIDE, LARGEST_SIDE, LARGEST_SID
 static const uint32_t adjacencies[] = { 3, 4, 8 };
 
 /* What is drawn beside the pixels: the height of a section, two places in hundredths of the last
- * one, the least size of a part likewise, plus one, and the largest sample of a file. That of the
- * first is below a pixel's largest value, so that a pixel may be above it. */
+ * one, the least size of a part likewise, plus one, the largest sample of a file, and the handbook
+ * of a touch. The largest sample of the first is below a pixel's largest value, so that a pixel may
+ * be above it. */
 static const struct {
     uint8_t k;
-    uint32_t x, y, size, largest;
+    uint32_t x, y, size, largest, handbook;
 } draws[] = {
-    { 100, 33, 50, 1, 99 }, { 0, 0, 100, 0, 255 }, { 255, 100, 0, 100, 1 }, { 7, 66, 66, 50, 100 },
+    { 100, 33, 50, 1, 99, NEAREST_ON_LINE }, { 0, 0, 100, 0, 255, NONE_ON_LINE },
+    { 255, 100, 0, 100, 1, NEAREST_ON_LINE }, { 7, 66, 66, 50, 100, NONE_ON_LINE },
 };
 
 /* The first of these have no argument changed: each is a draw. */
 enum change {
     PIXELS_SHORT = LENGTH_OF(draws), PIXELS_LONG, ALL_ELSE_LONG, BYTES_SHORT, WORK_SHORT,
     X_OUTSIDE, X_LARGEST, Y_OUTSIDE, SIZE_0, SIZE_ABOVE_N, SIZE_OF_17_BITS, SIZE_LARGEST,
+    HANDBOOK_3, HANDBOOK_6, HANDBOOK_OF_17_BITS, HANDBOOK_LARGEST,
     SAMPLE_0, SAMPLE_OF_9_BITS, SAMPLE_OF_17_BITS, SAMPLE_LARGEST,
     FIRST_ABOVE, MIDDLE_ABOVE, LAST_ABOVE, ALL_ABOVE,
     OTHER_COUNT, OTHER_HEIGHT, OTHER_FATHER, OTHER_FIRST, OTHER_MAP, FIRST_LIST_SHORT,
@@ -48,11 +52,11 @@ enum change {
 static const char *const change_names[CHANGES] = {
     "none", "none, second draw", "none, third draw", "none, fourth draw", "pixels short",
     "pixels long", "all else long", "bytes short", "work short", "x outside", "x largest",
-    "y outside", "size 0", "size n + 1", "size 65537", "size largest", "sample 0", "sample 256",
-    "sample 65537", "sample largest", "first pixel above", "middle pixel above",
-    "last pixel above", "all pixels above", "other count", "other height", "other father",
-    "other first place", "other map", "list 1 short", "list 2 short", "list 3 short",
-    "list 4 short", "list 5 short",
+    "y outside", "size 0", "size n + 1", "size 65537", "size largest", "handbook 3", "handbook 6",
+    "handbook 65540", "handbook largest", "sample 0", "sample 256", "sample 65537",
+    "sample largest", "first pixel above", "middle pixel above", "last pixel above",
+    "all pixels above", "other count", "other height", "other father", "other first place",
+    "other map", "list 1 short", "list 2 short", "list 3 short", "list 4 short", "list 5 short",
 };
 
 /* Takes a least size that is refused; cut to 16 bits the third would be 1. */
@@ -63,12 +67,30 @@ static int change_size(const struct call *call, unsigned change)
     return call->takes_size;
 }
 
+/* Takes a handbook that is refused; cut to 16 bits the third would be 4. */
+static int change_handbook(const struct call *call, unsigned change)
+{
+    static const uint32_t unfit[] = { 3, 6, 65540, UINT32_MAX };
+    given.handbook = unfit[change - HANDBOOK_3];
+    return call->takes_handbook;
+}
+
 /* Takes a largest sample that is refused; cut to 16 bits the third would be 1. */
 static int change_sample(const struct call *call, unsigned change)
 {
     static const uint32_t unfit[] = { 0, 256, 65537, UINT32_MAX };
     given.largest = unfit[change - SAMPLE_0];
     return call->saves;
+}
+
+/* Takes a number that is refused; answers 0 if the call has no such one. */
+static int change_number(const struct call *call, unsigned change)
+{
+    if (change <= SIZE_LARGEST)
+        return change_size(call, change);
+    if (change <= HANDBOOK_LARGEST)
+        return change_handbook(call, change);
+    return change_sample(call, change);
 }
 
 /* Makes pixels one above the largest sample; answers 0 if there are none. */
@@ -144,6 +166,8 @@ static int make_change(const struct call *call, unsigned change)
 {
     if (change < LENGTH_OF(draws))
         return 1;
+    if (change >= SIZE_0 && change <= SAMPLE_LARGEST)
+        return change_number(call, change);
     switch (change) {
     case X_OUTSIDE:
         given.x = (uint32_t)given.pixels.length;
@@ -154,16 +178,6 @@ static int make_change(const struct call *call, unsigned change)
     case Y_OUTSIDE:
         given.y = (uint32_t)given.pixels.length;
         return call->places >= 2;
-    case SIZE_0:
-    case SIZE_ABOVE_N:
-    case SIZE_OF_17_BITS:
-    case SIZE_LARGEST:
-        return change_size(call, change);
-    case SAMPLE_0:
-    case SAMPLE_OF_9_BITS:
-    case SAMPLE_OF_17_BITS:
-    case SAMPLE_LARGEST:
-        return change_sample(call, change);
     case FIRST_ABOVE:
     case MIDDLE_ABOVE:
     case LAST_ABOVE:
@@ -225,6 +239,7 @@ static void prepare(const struct call *call, unsigned draw)
     given.x = last * draws[draw].x / 100;
     given.y = last * draws[draw].y / 100;
     given.s = last * draws[draw].size / 100 + 1;
+    given.handbook = draws[draw].handbook;
     if (call->takes_tree)
         lend_tree();
     if (call->lists_patches || call->saves)
@@ -308,6 +323,32 @@ static void sweep_sizes(const struct call *call, uint32_t side)
                 sweep_size(call, draw, s);
 }
 
+static void touch(const struct call *call, unsigned draw, uint32_t handbook, uint32_t place)
+{
+    prepare(call, draw);
+    given.handbook = handbook;
+    given.x = place;
+    run_uncounted(stack_top(), call->with_arguments);
+    begin_call("touched", call);
+    add_number(draw);
+    add_number(handbook);
+    add_number(place);
+    end_call();
+}
+
+/* Touches places in equal steps, by both handbooks. */
+static void touch_places(const struct call *call, uint32_t side, uint32_t step)
+{
+    given.width = side;
+    given.height = side;
+    for (given.adjacency = 4; given.adjacency <= 8; given.adjacency += 4)
+        for (unsigned draw = 0; draw < LENGTH_OF(draws); draw++)
+            for (uint32_t place = 0; place < side * side; place += step) {
+                touch(call, draw, NONE_ON_LINE, place);
+                touch(call, draw, NEAREST_ON_LINE, place);
+            }
+}
+
 void sweep_pictures(void)
 {
     for (unsigned i = 0; i < CONTROLLER_CALLS; i++)
@@ -316,4 +357,6 @@ void sweep_pictures(void)
     sweep_call(&place_call);
     sweep_sizes(&controller_calls[FILL_SMALL_PARTS], SMALL_SIDE);
     sweep_sizes(&controller_calls[FILL_SMALL_PARTS], LARGEST_SIDE);
+    touch_places(&controller_calls[TOUCH_PLACE], SMALL_SIDE, 1);
+    touch_places(&controller_calls[TOUCH_PLACE], LARGEST_SIDE, (LARGEST_N - 1) / FEW_PLACES);
 }

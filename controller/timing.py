@@ -10,6 +10,7 @@ from results import runs, table
 MEGAHERTZ = 48
 WALL = "examples/wall.pgm"
 ADJACENCIES = ("4", "8")
+HANDBOOKS = ("5", "4")
 NO_ADJACENCY = "0"              # of the calls that take none
 
 
@@ -53,6 +54,25 @@ def picture_table(title, adjacency, keys, value):
            for picture in pictures])
 
 
+def over_query(ours, handbook, key):
+    """Cycles of a touch by a handbook over those of the place query of a key."""
+    return ours[("touch_place, %s" % handbook,) + key[1:]].m0plus / ours[key].m0plus
+
+
+def query_table(ours):
+    """Touches over place queries on each picture; then the largest by each handbook."""
+    keys = [key for key in ours if key[0] == "query_place"]
+    columns = [(handbook, adjacency) for handbook in HANDBOOKS for adjacency in ADJACENCIES]
+    rows = [[picture] + ["%.3f" % over_query(ours, handbook, ("query_place", adjacency, picture))
+                         for handbook, adjacency in columns]
+            for picture in dict.fromkeys(key[2] for key in keys)]
+    table("Cycles of `touch_place` over those of `query_place`, ours, Cortex-M0+",
+          ["picture"] + ["handbook %s, adjacency %s" % column for column in columns], rows)
+    print("\nThe largest is %s." % " and ".join(
+        "%.3f by handbook %s" % (max(over_query(ours, handbook, key) for key in keys), handbook)
+        for handbook in HANDBOOKS))
+
+
 def span(values, shown):
     """The least and the most of some numbers."""
     least, most = shown(min(values)), shown(max(values))
@@ -86,6 +106,7 @@ def main():
     for adjacency in ADJACENCIES:
         picture_table("Cycles of ours over those of the peer in C (gcc -O2)", adjacency, peer,
                       lambda key: ratio(ours, peer, key))
+    query_table(ours)
 
 
 main()
