@@ -65,6 +65,10 @@ module _ (p : Picture) (count : ℕ) (work : List ℕ) (t : TreeInWork p count w
     numbered-sizes cells z =
         record { few = z .few; blocks = l .numbers .kept .size ∙ (l .fill .kept .size ∙ z .blocks); beside = ok .size }
 
+    -- with 0 for the nodes that are no leaves they are the patches of the places
+    pub numbered-patch : v ≡ 0 → (x : ℕ) → x < places p → patchIn (places p) (p .pixels) a x ≡ patchAt p x
+    numbered-patch = leaves-patch p ok work (t .tree) count v r a (t .number) l
+
     -- what labels that are handed up ask
     pub numbered-rise : FathersRise (places p) count a
     numbered-rise =
@@ -91,9 +95,6 @@ module _ (p : Picture) (count : ℕ) (work : List ℕ) (t : TreeInWork p count w
 
   -- the leaves numbered, and 0 for every other node
   module _ (r : ℕ) (a : List ℕ) (l : Leaves (places p) count 0 work r a) where
-    pub numbered-patch : (x : ℕ) → x < places p → patchIn (places p) (p .pixels) a x ≡ patchAt p x
-    numbered-patch = leaves-patch p ok work (t .tree) count 0 r a (t .number) l refl
-
     -- what the climbs ask
     numbered-heights : (most : ℕ) → most ≡ highest (p .pixels) → HeightsAndFathers p (places p) count most a
     numbered-heights most e =
@@ -121,7 +122,7 @@ module _ (p : Picture) (count : ℕ) (work : List ℕ) (t : TreeInWork p count w
 
     module _ (cells : List ℕ) (long : length cells ≡ places p) (m : (x : ℕ) → x < places p → getD cells x 0 ≡ patchIn (places p) (p .pixels) a x) where
       mapped : PatchMap p cells
-      mapped = record { size = long; patch = λ x h. m x h ∙ numbered-patch x h }
+      mapped = record { size = long; patch = λ x h. m x h ∙ numbered-patch 0 r a l refl x h }
 
       patches-numbered :
           (most : ℕ) (climbed : List ℕ) → most ≡ highest (p .pixels) → Climbs (places p) count most a climbed →

@@ -1,7 +1,6 @@
 // The whole cores: the tree of a picture, and its patches from it.
 use crate::figures::figures;
-use crate::places::nearest_of;
-use crate::places::patch_of;
+use crate::places::touched_patch;
 use tree::build::build;
 ghost use mathlib.Core.Path.{_≡_};
 ghost use mathlib.Core.Bool.{true};
@@ -27,8 +26,7 @@ pub fn patch_figures(
     figures(a, w, h, pixels, count, work, cells)
 }
 
-// The number of the patch that a touch at a place of a picture belongs to by a handbook, 0 for none. Under 5 it is the nearest patch,
-// inside a patch too (`touched-five`).
+// The number of the patch that a touch at a place of a picture belongs to by a handbook, 0 for none.
 pub fn touch(
     handbook: u32,
     a: u32,
@@ -43,8 +41,5 @@ pub fn touch(
     ensures { λ r. ⌜ r ≡ touchedPatch handbook (pictureOf a w h (now (pixels .entry))) place ⌝ }
 {
     let count = build(a, w, h, pixels, work, cells);
-    if handbook == 5 {
-        return nearest_of(a, w, h, pixels, count, place, work, cells);
-    }
-    patch_of(a, w, h, pixels, count, place, work, cells)
+    touched_patch(handbook, a, w, h, pixels, count, place, work, cells)
 }

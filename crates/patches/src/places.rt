@@ -1,40 +1,34 @@
-// The patch of one place and the nearest patch, from the tree, and the places on the line.
+// The patch that a touch belongs to, from the tree, and the places on the line.
 use cells::wide;
 use least_labels::least_label;
 use patch_numbers::number;
 use patch_numbers::patch_at;
 ghost use mathlib.Core.Path.{_≡_};
 ghost use Prim.Native.Nat.{_*_, _<_};
+ghost use lib.Dec.{eqb};
+ghost use Rattle.lists.specs.Lists.{pick};
 ghost use Rattle.picture.specs.Pictures.{Picture, pictureOf};
-ghost use Rattle.picture.specs.Patches.{patchAt, nearestPatch, lineCount};
+ghost use Rattle.picture.specs.Patches.{touchedPatch, lineCount};
 ghost use Rattle.patch_numbers.specs.Numbers.{FiveBlocks};
 ghost use Rattle.patches.specs.Figures.{TreeInWork, PatchMap};
 
-// Above every patch number: what a node that is no leaf has in its place.
+// Above every patch number.
 const NO_PATCH: u16 = 65535;
 
-// The number of the patch of the place x of a picture whose tree of count nodes is in work, 0 on the line.
-pub fn patch_of(
-    a: u32,
-    w: u32,
-    h: u32,
-    pixels: &[u8],
-    count: usize,
-    x: usize,
-    work: &mut [u16],
-    cells: &mut [u16],
-) -> u16
-    requires { ⌜ TreeInWork (pictureOf a w h (now pixels)) count (now work) × FiveBlocks (w * h) (now work) (now cells) × (x < w * h) ⌝ }
-    ensures { λ r. ⌜ r ≡ patchAt (pictureOf a w h (now (pixels .entry))) x ⌝ }
+// The number of the nodes that are no leaves: 0, as on the line; under handbook 5 one that is never the least.
+fn fork_number(handbook: u32) -> u16
+    ensures { λ r. ⌜ r ≡ pick (eqb handbook 5) 65535 0 ⌝ }
 {
-    let n = w as usize * h as usize;
-    number(n, count, 0, work, cells);
-    patch_at(n, pixels, work, x)
+    if handbook == 5 {
+        return NO_PATCH;
+    }
+    0
 }
 
-// The number of the nearest patch of the place x of a picture whose tree of count nodes is in work: the least of the leaves at or
-// below the node of x.
-pub fn nearest_of(
+// The number of the patch that a touch at the place x of a picture belongs to by a handbook, 0 for none; the tree of count nodes is
+// in work. Under handbook 5 it is the least number of the leaves at or below the node of x, inside a patch too (`touched-five`).
+pub fn touched_patch(
+    handbook: u32,
     a: u32,
     w: u32,
     h: u32,
@@ -45,12 +39,14 @@ pub fn nearest_of(
     cells: &mut [u16],
 ) -> u16
     requires { ⌜ TreeInWork (pictureOf a w h (now pixels)) count (now work) × FiveBlocks (w * h) (now work) (now cells) × (x < w * h) ⌝ }
-    ensures { λ r. ⌜ r ≡ nearestPatch (pictureOf a w h (now (pixels .entry))) x ⌝ }
+    ensures { λ r. ⌜ r ≡ touchedPatch handbook (pictureOf a w h (now (pixels .entry))) x ⌝ }
 {
     let n = w as usize * h as usize;
-    number(n, count, NO_PATCH, work, cells);
-    let m = wide(work[2 * n + x]);
-    least_label(n, m, work)
+    number(n, count, fork_number(handbook), work, cells);
+    if handbook == 5 {
+        return least_label(n, wide(work[2 * n + x]), work);
+    }
+    patch_at(n, pixels, work, x)
 }
 
 // How many places have the number 0, and so are on the line.
