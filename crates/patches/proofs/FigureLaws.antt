@@ -10,12 +10,13 @@ use native.Mathlib.Omega.{arith}
 use lib.Dec.{eqb}
 use lib.ListN.{length, getD}
 use borrow.Author.Tests.{eq-eqb, ne-eqb}
-use Rattle.lists.specs.Lists.{range, highest, tally}
+use Rattle.lists.specs.Lists.{pick, range, highest, tally}
 use Rattle.picture.specs.Pictures.{Picture, places, isPicture}
 use Rattle.picture.specs.Trees.{nodes, nodeAt}
 use Rattle.picture.specs.Patches.{patches, patchAt, lineCount}
 use Rattle.tree.specs.Arrays.{TreeIn}
 use Rattle.tree.specs.Built.{Built}
+use Rattle.lists.proofs.Tests.{pick-in, pick-out}
 use Rattle.lists.proofs.Lists.{tally-same, range-mem}
 use Rattle.lists.proofs.Positions.{tally-next-in, tally-next-out, tally-bound}
 use Rattle.topology.proofs.Accepted.{Accepted, accepted-is, places-bound}
@@ -65,9 +66,19 @@ module _ (p : Picture) (count : ℕ) (work : List ℕ) (t : TreeInWork p count w
     numbered-sizes cells z =
         record { few = z .few; blocks = l .numbers .kept .size ∙ (l .fill .kept .size ∙ z .blocks); beside = ok .size }
 
-    -- with 0 for the nodes that are no leaves they are the patches of the places
+    -- with 0 for the nodes that are no leaves they are the patches of the places; with a number above every patch's they are
+    -- so where that is replaced by 0
     pub numbered-patch : v ≡ 0 → (x : ℕ) → x < places p → patchIn (places p) (p .pixels) a x ≡ patchAt p x
-    numbered-patch = leaves-patch p ok work (t .tree) count v r a (t .number) l
+    numbered-patch zero x h = ⊎-elim (λ e. e) (λ e. e .0 ∙ (zero ∙ sym (e .1))) (leaves-patch p ok work (t .tree) count v r a (t .number) l x h)
+
+    pub numbered-or-0 :
+        places p < v → (x : ℕ) → x < places p → pick (eqb (patchIn (places p) (p .pixels) a x) v) 0 (patchIn (places p) (p .pixels) a x) ≡ patchAt p x
+    numbered-or-0 above x h =
+        let most = patch-most p ok x h in
+        ⊎-elim
+        (λ e. pick-out _ v _ _ (λ q. absurd (omega arith)) ∙ e)
+        (λ e. pick-in _ v _ _ (e .0) ∙ sym (e .1))
+        (leaves-patch p ok work (t .tree) count v r a (t .number) l x h)
 
     -- what labels that are handed up ask
     pub numbered-rise : FathersRise (places p) count a

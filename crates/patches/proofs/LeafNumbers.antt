@@ -1,7 +1,7 @@
 -- The arrays of a picture's tree give its patches: leaves by marks, patches by the numbers of leaves.
 use mathlib.Core.Path.{_≡_, sym, ap, subst, _∙_}
 use mathlib.Core.Bool.{true, false}
-use mathlib.Core.Logic.{inl, by-cases}
+use mathlib.Core.Logic.{_⊎_, inl, inr, by-cases}
 use mathlib.Core.List.{List}
 use Prim.Native.Nat.{ℕ, suc, _*_, _≤_, _<_}
 use native.Mathlib.Decide.{ℕ-discrete}
@@ -104,9 +104,9 @@ module _ (p : Picture) (ok : Accepted p) (work : List ℕ) (t : TreeIn p work) w
         clash (subst (λ (j : ℕ). leafNode p j ≡ true) i (bottom-leaf p ok z zb (sym (starts-bottom z zb) ∙ s))) h) ∙
         l .fill .inside m (omega arith)
 
-    -- the patch of a place, with 0 for every other node
-    pub leaves-patch : v ≡ 0 → (x : ℕ) → x < n → patchIn n (p .pixels) after x ≡ patchAt p x
-    leaves-patch zero x b =
+    -- the place has its patch number, or it is on the line and has v, the number of a node that is no leaf
+    pub leaves-patch : (x : ℕ) → x < n → (patchIn n (p .pixels) after x ≡ patchAt p x) ⊎ ((patchIn n (p .pixels) after x ≡ v) × (patchAt p x ≡ 0))
+    leaves-patch x b =
         let m = mapOf p x in
         let i = map-found p ok x b in
         let few = nodes-few p in
@@ -116,11 +116,11 @@ module _ (p : Picture) (ok : Accepted p) (work : List ℕ) (t : TreeIn p work) w
         let own : getD after m 0 ≡ nodeAt p m .height =
         l .numbers .kept .outside m (inl (omega arith)) ∙ (l .fill .kept .outside m (inl (omega arith)) ∙ height-at p work t m i)
         in
-        sym (patch-is n (p .pixels) after x m mapped) ∙
+        let is = sym (patch-is n (p .pixels) after x m mapped) in
         by-cases (ℕ-discrete (valueAt p x) (getD after m 0))
-        (λ v.
-        pick-in _ _ _ _ v ∙
+        (λ e.
+        let same = is ∙ pick-in _ _ _ _ e in
         on-test (leafNode p m)
-        (λ f. leaf-number m i f ∙ sym (patch-leaf p ok x b (sym (v ∙ own)) f))
-        (λ f. fork-number m i f ∙ (zero ∙ sym (patch-line p ok x b (λ u. f)))))
-        (λ v. pick-out _ _ _ _ v ∙ sym (patch-line p ok x b (λ u. absurd (v (sym (own ∙ u))))))
+        (λ f. inl (same ∙ (leaf-number m i f ∙ sym (patch-leaf p ok x b (sym (e ∙ own)) f))))
+        (λ f. inr (same ∙ fork-number m i f, patch-line p ok x b (λ u. f))))
+        (λ e. inl (is ∙ (pick-out _ _ _ _ e ∙ sym (patch-line p ok x b (λ u. absurd (e (sym (own ∙ u))))))))

@@ -12,17 +12,17 @@ ghost use Rattle.picture.specs.Patches.{touchedPatch, lineCount};
 ghost use Rattle.patch_numbers.specs.Numbers.{FiveBlocks};
 ghost use Rattle.patches.specs.Figures.{TreeInWork, PatchMap};
 
-// Above every patch number.
+// Above every patch number: the number of the nodes that are no leaves, so that it is never the least.
 const NO_PATCH: u16 = 65535;
 
-// The number of the nodes that are no leaves: 0, as on the line; under handbook 5 one that is never the least.
-fn fork_number(handbook: u32) -> u16
-    ensures { λ r. ⌜ r ≡ pick (eqb handbook 5) 65535 0 ⌝ }
+// A patch number, and 0 for none.
+fn patch_or_0(number: u16) -> u16
+    ensures { λ r. ⌜ r ≡ pick (eqb number 65535) 0 number ⌝ }
 {
-    if handbook == 5 {
-        return NO_PATCH;
+    if number == NO_PATCH {
+        return 0;
     }
-    0
+    number
 }
 
 // The number of the patch that a touch at the place x of a picture belongs to by a handbook, 0 for none; the tree of count nodes is
@@ -42,11 +42,11 @@ pub fn touched_patch(
     ensures { λ r. ⌜ r ≡ touchedPatch handbook (pictureOf a w h (now (pixels .entry))) x ⌝ }
 {
     let n = w as usize * h as usize;
-    number(n, count, fork_number(handbook), work, cells);
+    number(n, count, NO_PATCH, work, cells);
     if handbook == 5 {
         return least_label(n, wide(work[2 * n + x]), work);
     }
-    patch_at(n, pixels, work, x)
+    patch_or_0(patch_at(n, pixels, work, x))
 }
 
 // How many places have the number 0, and so are on the line.

@@ -1,12 +1,13 @@
--- `patches::places::touched_patch` meets its contract: the leaves are numbered; under handbook 5 the least number at or below the node of the place is that of the nearest patch, else the place has the number of its node.
+-- `patches::places::touched_patch` meets its contract: the leaves are numbered; under handbook 5 the least number at or below the node of the place is that of the nearest patch, else the place has the number of its node, and 0 for none.
 use mathlib.Core.Path.{sym, ap, _∙_}
 use Prim.Native.Nat.{ℕ}
 use native.Mathlib.Omega.{arith}
+use lib.Dec.{eqb}
+use Rattle.lists.specs.Lists.{pick}
 use Rattle.picture.specs.Pictures.{Picture, pictureOf}
 use Rattle.picture.specs.Patches.{touchedPatch}
-use Rattle.lists.proofs.Tests.{pick-in, pick-out}
 use Rattle.topology.proofs.Nearest.{touched-five, touched-else}
-use Rattle.patches.proofs.FigureLaws.{tree-mapped, tree-few, numbered-mapped, numbered-sizes, numbered-patch}
+use Rattle.patches.proofs.FigureLaws.{tree-mapped, tree-few, numbered-mapped, numbered-sizes, numbered-or-0}
 use Rattle.patches.proofs.Touches.{numbered-nearest}
 use borrow.Author.Needs.{needs}
 use Rattle.patches.proofs.places.touched_patch.Statement.{statement}
@@ -16,25 +17,19 @@ use Rattle.patches.proofs.places.touched_patch.Tie as tie
 abbrev pictured : tie.Start → Picture
 pictured s = pictureOf (s .args .a) (s .args .w) (s .args .h) (s .args .pixels .now)
 
--- the ways back: from the node of the place to the numbers, the number of forks, the start
+-- the ways back: from the node of the place to the numbers, to the start
 abbrev numbered : tie.After-wide → tie.After-number
 numbered c = c .before .before .before .before .before .before .before
 
-abbrev forked : tie.After-number → tie.After-fork-number
-forked c = c .before .before .before
-
 abbrev origin : tie.After-number → tie.Start
-origin c = c .before .before .before .before .before .before .before
+origin c = c .before .before .before .before .before .before
 
 mul-n : tie.Need-mul-n
 mul-n c = search needs
 
-fork-number-requires : tie.Need-fork-number-requires
-fork-number-requires c κs = search needs
-
 number-requires : tie.Need-number-requires
 number-requires c κs =
-    let s = c .before .before .before .before .before .before in
+    let s = c .before .before .before .before .before in
     (s .pre .1, tree-mapped (pictured s) _ _ (s .pre .0), tree-few (pictured s) _ _ (s .pre .0))
 
 mul-wide : tie.Need-mul-wide
@@ -74,8 +69,7 @@ returns c =
     let l = numbered w in
     let s = origin l in
     let five = w .before .before .if1 .taken in
-    let v = forked l .fork-number .ensures ∙ pick-in _ 5 65535 0 five in
-    numbered-nearest (pictured s) _ _ (s .pre .0) _ _ _ (l .number .ensures) (omega (arith, s .pre .1 .few, v)) (s .args .x) (s .pre .2) _ _
+    numbered-nearest (pictured s) _ _ (s .pre .0) _ _ _ (l .number .ensures) (omega (arith, s .pre .1 .few)) (s .args .x) (s .pre .2) _ _
     (w .wide .ensures)
     (c .before .before .least-label .ensures) ∙
     (sym (touched-five (pictured s) (s .pre .0 .accepted) (s .args .x) (s .pre .2)) ∙
@@ -96,22 +90,24 @@ same-length-3 c = search needs
 same-length-4 : tie.Need-same-length-4
 same-length-4 c = search needs
 
+patch-or-0-requires : tie.Need-patch-or-0-requires
+patch-or-0-requires c κs = search needs
+
 returns-2 : tie.Need-returns-2
 returns-2 c =
-    let l = c .before .before .before .before .before .before .before in
+    let a = c .before in
+    let l = a .before .before .before .before .before .before .before in
     let s = origin l in
-    let other = c .before .before .if1 .left in
-    let v = forked l .fork-number .ensures ∙ pick-out _ 5 65535 0 other in
-    c .patch-at .ensures ∙
-    (numbered-patch (pictured s) _ _ (s .pre .0) _ _ _ (l .number .ensures) v _ (s .pre .2) ∙
-    sym (touched-else (s .args .handbook) (pictured s) (s .args .x) other))
+    c .patch-or-0 .ensures ∙
+    (ap (λ (k : ℕ). pick (eqb k 65535) 0 k) (a .patch-at .ensures) ∙
+    (numbered-or-0 (pictured s) _ _ (s .pre .0) _ _ _ (l .number .ensures) (omega (arith, s .pre .1 .few)) _ (s .pre .2) ∙
+    sym (touched-else (s .args .handbook) (pictured s) (s .args .x) (a .before .before .if1 .left))))
 
 pub touched-patch-spec : {M : Type 1} → statement M
 touched-patch-spec =
     tie.close
     (tie.spec
     mul-n
-    fork-number-requires
     number-requires
     mul-wide
     add-wide
@@ -123,6 +119,7 @@ touched-patch-spec =
     same-length-2
     returns
     patch-at-requires
+    patch-or-0-requires
     same-length-3
     same-length-4
     returns-2)
