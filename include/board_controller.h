@@ -254,13 +254,15 @@ uint64_t controller_query_place(
 
 /*
  * Answers which patch a touch at a place of a picture belongs to, by one of
- * the two setting handbooks. The patches are those of
- * controller_query_place.
+ * the two setting handbooks. The patches are those of controller_query_place:
+ * for the numbers of the hold list hand over the watershed
+ * (controller_watershed_of), and not the camera's picture.
  *
  *   handbook  4: a touch on the line belongs to no patch, and the answer is
  *             that of controller_query_place. 5: it belongs to the patch with
  *             the lowest pass from the place, among equals to the one with
- *             the lowest number. Inside a patch both answer that patch
+ *             the lowest number. The pass to a patch is that to any of its
+ *             pixels. Inside a patch both answer that patch
  *   place     0 to n - 1
  *
  * The upper 16 bits of the value are the pixel's value (controller_pixel),

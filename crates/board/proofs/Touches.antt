@@ -1,28 +1,51 @@
 -- The touch under the two handbooks: what they have in common, and what it belongs to under handbook 5.
 use mathlib.Core.Path.{_≡_, refl, sym, ap, subst, _∙_}
-use mathlib.Core.Bool.{true}
+use mathlib.Core.Bool.{true, false, _||_}
 use mathlib.Core.Logic.{_↔_}
 use mathlib.Core.List.{List}
 use Prim.Native.Nat.{ℕ, _≤_}
 use native.Mathlib.Omega.{arith}
+use lib.Dec.{eqb}
 use lib.ListN.{length}
+use borrow.Author.Tests.{eqb-false, ne-eqb}
 use Rattle.picture.specs.Pictures.{Picture}
 use Rattle.picture.specs.Patches.{patchAt, nearestPatch, touchedPatch}
-use Rattle.lists.proofs.Tests.{pick-in, pick-out}
+use Rattle.lists.proofs.Tests.{or-fails, or-neither, test-false, pick-in, pick-out}
 use Rattle.topology.proofs.Accepted.{byte-at}
 use Rattle.topology.proofs.Nearest.{nearest-patch, touched-five, touched-else}
-use Rattle.faults.proofs.Faults.{touch-known, touch-enough, admitted}
+use Rattle.faults.proofs.Faults.{place-most, handbook-unknown, handbook-known, touch-enough, admitted}
 use Rattle.board.specs.declared.query.Queried.{Queried}
 use Rattle.board.specs.Calls.{placeFaultOf, touchFaultOf, groundOf, QueriedSays}
-use Rattle.board.specs.Touches.{Touch-four, Touch-inside, Touch-five}
+use Rattle.board.specs.Touches.{Touch-unknown, Touch-four, Touch-inside, Touch-five}
 use Rattle.board.proofs.Queries.{ground-patch}
 
--- but for 14 the fault of a touch is that of the place query
-fault-four : (p : Picture) (q : List ℕ) (x : ℕ) → touchFaultOf 4 p q x ≡ placeFaultOf p q x
-fault-four p q x = touch-known (p .adjacency) (p .width) (p .height) (length (p .pixels)) (length q) x 4 refl
+-- the fault of a touch is that of the place query where the handbook is known, and else 14
+module _ (handbook : ℕ) (p : Picture) (q : List ℕ) (x : ℕ) where
+  fault-known : (eqb handbook 4 || eqb handbook 5) ≡ true → touchFaultOf handbook p q x ≡ placeFaultOf p q x
+  fault-known = handbook-known (p .adjacency) (p .width) (p .height) (length (p .pixels)) (length q) x handbook
 
-fault-five : (p : Picture) (q : List ℕ) (x : ℕ) → touchFaultOf 5 p q x ≡ placeFaultOf p q x
-fault-five p q x = touch-known (p .adjacency) (p .width) (p .height) (length (p .pixels)) (length q) x 5 refl
+  fault-unknown : (eqb handbook 4 || eqb handbook 5) ≡ false → touchFaultOf handbook p q x ≡ 14
+  fault-unknown = handbook-unknown (p .adjacency) (p .width) (p .height) (length (p .pixels)) (length q) x handbook
+
+  -- no other cause has 14
+  fault-14 : touchFaultOf handbook p q x ≡ 14 → (eqb handbook 4 || eqb handbook 5) ≡ false
+  fault-14 e =
+      test-false (eqb handbook 4 || eqb handbook 5)
+      (λ t.
+      let k = fault-known t in
+      let m = place-most (p .adjacency) (p .width) (p .height) (length (p .pixels)) (length q) x in
+      omega arith)
+
+pub touch-unknown : Touch-unknown
+touch-unknown handbook p x q q′ r says = (
+  λ e.
+      let (a, b) = or-fails (eqb handbook 4) (eqb handbook 5) (fault-14 handbook p q x (sym number ∙ e)) in
+      (eqb-false handbook 4 a, eqb-false handbook 5 b),
+  λ d. number ∙ fault-unknown handbook p q x (or-neither _ _ (ne-eqb handbook 4 (d .0)) (ne-eqb handbook 5 (d .1))),
+)
+  where
+    number : r .number ≡ touchFaultOf handbook p q x
+    number = ap (λ (a : Queried). a .number) (says .answer)
 
 -- under handbook 4 a touch belongs to the patch of its place, and inside a patch under handbook 5 too
 touched-four : (p : Picture) (x : ℕ) → touchedPatch 4 p x ≡ patchAt p x
@@ -41,11 +64,11 @@ same-says {f} {g} {m} {n} {v} {p} {q} {q′} {r} e d = (
 )
 
 pub touch-four : Touch-four
-touch-four p x q q′ r = same-says (fault-four p q x) (touched-four p x)
+touch-four p x q q′ r = same-says (fault-known 4 p q x refl) (touched-four p x)
 
 pub touch-inside : Touch-inside
 touch-inside p x h q q′ r =
-    same-says (fault-four p q x ∙ sym (fault-five p q x)) (touched-four p x ∙ sym (touched-inside p x h))
+    same-says (fault-known 4 p q x refl ∙ sym (fault-known 5 p q x refl)) (touched-four p x ∙ sym (touched-inside p x h))
 
 pub touch-five : Touch-five
 touch-five p x q q′ r bytes says z =

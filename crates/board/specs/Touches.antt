@@ -2,7 +2,7 @@
 -- p the picture, x the place, q work, r the answer; a prime: after the call.
 use mathlib.Core.Path.{_≡_}
 use mathlib.Core.Bool.{true}
-use mathlib.Core.Logic.{_↔_}
+use mathlib.Core.Logic.{_↔_, _≢_}
 use mathlib.Core.List.{List}
 use Prim.Native.Nat.{ℕ, _≤_}
 use Rattle.picture.specs.Pictures.{Picture, allBytes}
@@ -11,6 +11,12 @@ use Rattle.picture.specs.Patches.{patchAt, Nearest}
 use Rattle.board.specs.declared.query.Ground.the-variants as G
 use Rattle.board.specs.declared.query.Queried.{Queried}
 use Rattle.board.specs.Calls.{QuerySays, TouchSays}
+
+-- a touch is refused with 14 exactly if the handbook is neither 4 nor 5, whatever else is wrong
+abbrev pub Touch-unknown : Type 0
+Touch-unknown =
+    (handbook : ℕ) (p : Picture) (x : ℕ) (q q′ : List ℕ) (r : Queried) → TouchSays handbook p x q q′ r →
+    (r .number ≡ 14) ↔ ((handbook ≢ 4) × (handbook ≢ 5))
 
 -- under handbook 4 the promise of a touch is that of the place query
 abbrev pub Touch-four : Type 0

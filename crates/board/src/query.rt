@@ -1,6 +1,6 @@
 // The answer of a place query and of a touch, and their core with work cleared.
 use answers::clear_work;
-use patches::cores::touch;
+use patches::cores::touch_core;
 ghost use mathlib.Core.Path.{_≡_};
 ghost use Prim.Native.Nat.{_*_, _<_};
 ghost use lib.ListN.{length};
@@ -70,7 +70,7 @@ pub fn touch_cleared(
     let n = pixels.len();
     let whole = 5 * n;
     let mut cells = [0u16; 1600];
-    let number = touch(
+    let number = touch_core(
         handbook,
         a,
         w,

@@ -263,7 +263,7 @@ fn touched_patch(handbook: u32, place: u32) -> u32
     patch_number(ground) as u32
 }
 
-// Prints that number and what stands behind it.
+// Prints the patch of a touch, then the given text.
 fn print_touched(handbook: u32, place: u32, behind: &[u8]) {
     let number = touched_patch(handbook, place);
     let mut text = [0u8; 5];

@@ -1,14 +1,14 @@
 -- The laws of the faults, and what a core is lent where there is none.
 use mathlib.Core.Path.{_≡_, refl, sym, ap, _∙_}
-use mathlib.Core.Bool.{Bool, true, false, _||_}
+use mathlib.Core.Bool.{Bool, true, false, _&&_, _||_, not}
 use mathlib.Core.Logic.{_≢_}
 use Prim.Native.Nat.{ℕ, zero, suc, _*_, _≤_, _<_}
 use native.Mathlib.Omega.{arith}
 use lib.Dec.{eqb, ltb, leb}
 use lib.ListN.{length, getD}
 use borrow.Author.Tests.{eqb-false, ltb-false, leb-false, le-ltb}
-use Rattle.picture.specs.Pictures.{Picture, isPicture}
-use Rattle.faults.specs.PictureFault.{firstOf, when, pictureFault, pictureFaultOf}
+use Rattle.picture.specs.Pictures.{Picture, sideFits, isPicture}
+use Rattle.faults.specs.PictureFault.{firstOf, when, sidesFault, pictureFault, pictureFaultOf}
 use Rattle.lists.proofs.Tests.{or-fails, on-test}
 use Rattle.picture.proofs.Sides.{sides-area}
 use Rattle.faults.proofs.Accepted.{no-fault, accepted}
@@ -46,6 +46,15 @@ pub when-zero : (n : ℕ) (b : Bool) → when b (suc n) ≡ 0 → b ≡ false
 when-zero n true e = absurd (omega arith)
 when-zero n false e = refl
 
+-- numbers at most m
+first-most : (m f g : ℕ) → f ≤ m → g ≤ m → firstOf f g ≤ m
+first-most m zero g a b = b
+first-most m (suc f) g a b = a
+
+when-most : (m : ℕ) (t : Bool) (n : ℕ) → n ≤ m → when t n ≤ m
+when-most m true n h = h
+when-most m false n h = omega arith
+
 -- a fault f, then suc n where a test passes; g is the fault of both
 module _ (f n : ℕ) (t : Bool) (g : ℕ) (is : firstOf f (when t (suc n)) ≡ g) where
   pub then-first : (r : ℕ) → r ≡ f → r ≢ 0 → r ≡ g
@@ -67,6 +76,16 @@ module _ (a w h l : ℕ) where
 
   pub fault-few : pictureFault a w h l ≡ 0 → w * h ≤ 1600
   fault-few e = sides-area w h (no-fault a w h l e .sized .sides)
+
+  -- the greatest number of such a fault
+  picture-most : pictureFault a w h l ≤ 10
+  unfolding pictureFault sidesFault
+  picture-most =
+      let other = not (eqb a 4 || eqb a 8) in
+      let outside = not (sideFits w && sideFits h) in
+      let longer = not (eqb l (w * h)) in
+      first-most 10 (when other 7) (firstOf (when outside 3) (when longer 8)) (when-most 10 other 7 (omega arith))
+      (first-most 10 (when outside 3) (when longer 8) (when-most 10 outside 3 (omega arith)) (when-most 10 longer 8 (omega arith)))
 
   module _ (work : ℕ) where
     -- the code counts from the number of pixels
@@ -110,6 +129,12 @@ module _ (a w h l : ℕ) where
             let d : s ≢ 0 = eqb-false s 0 b in
             (z .0, omega arith, ltb-false (w * h) s c)
 
+    work-most : workFault a w h l work ≤ 10
+    unfolding workFault
+    work-most =
+        let short = ltb work (5 * (w * h)) in
+        first-most 10 (pictureFault a w h l) (when short 9) picture-most (when-most 10 short 9 (omega arith))
+
     module _ (x : ℕ) where
       pub place-counted : firstOf (workFault a w h l work) (when (leb l x) 10) ≡ placeFault a w h l work x
       unfolding placeFault
@@ -119,21 +144,25 @@ module _ (a w h l : ℕ) where
       unfolding placeFault
       place-enough e = let z = then-none _ 9 _ _ refl e in (z .0, leb-false (w * h) x (z .1))
 
+      pub place-most : placeFault a w h l work x ≤ 10
+      unfolding placeFault
+      place-most = first-most 10 (workFault a w h l work) (when (leb (w * h) x) 10) work-most (when-most 10 (leb (w * h) x) 10 (omega arith))
+
       -- a handbook first
       module _ (handbook : ℕ) where
-        pub touch-unknown : (eqb handbook 4 || eqb handbook 5) ≡ false → touchFault handbook a w h l work x ≡ 14
+        pub handbook-unknown : (eqb handbook 4 || eqb handbook 5) ≡ false → touchFault handbook a w h l work x ≡ 14
         unfolding touchFault
-        touch-unknown e = rw e
+        handbook-unknown e = rw e
 
-        pub touch-known : (eqb handbook 4 || eqb handbook 5) ≡ true → touchFault handbook a w h l work x ≡ placeFault a w h l work x
+        pub handbook-known : (eqb handbook 4 || eqb handbook 5) ≡ true → touchFault handbook a w h l work x ≡ placeFault a w h l work x
         unfolding touchFault
-        touch-known e = rw e
+        handbook-known e = rw e
 
         pub touch-enough : touchFault handbook a w h l work x ≡ 0 → (workFault a w h l work ≡ 0) × (x < w * h)
         touch-enough e =
             on-test (eqb handbook 4 || eqb handbook 5)
-            (λ t. place-enough (sym (touch-known t) ∙ e))
-            (λ t. absurd (let z = touch-unknown t in omega arith))
+            (λ t. place-enough (sym (handbook-known t) ∙ e))
+            (λ t. absurd (let z = handbook-unknown t in omega arith))
 
 -- a picture without a fault is accepted, since its pixels come from a slice of bytes
 pub faultless-accepted : (p : Picture) → pictureFaultOf p ≡ 0 → ((i : ℕ) → getD (p .pixels) i 0 ≤ 255) → isPicture p ≡ true

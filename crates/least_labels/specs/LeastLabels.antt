@@ -37,14 +37,14 @@ pub data Through (P : ℕ → ℕ) (m i a j : ℕ) : Type 0 where
 abbrev pub LeastThrough : (ℕ → ℕ) → ℕ → ℕ → (ℕ → ℕ) → (ℕ → ℕ) → Type 0
 LeastThrough P m i label labels = (a : ℕ) → a < m → LeastOf (Through P m i a) label (labels a)
 
--- after the first i nodes, none of them behind m, in every tree of which these are the fathers: each node has its least label through the first i
+-- the first i nodes have handed up: in every tree of more than m nodes with these fathers each node has its least label through them
 pub record HandedBefore (n m i : ℕ) (work after : List ℕ) : Type 0 where
   pub kept : UntouchedOutside (4 * n) n work after
   pub labels :
       (count : ℕ) → count ≤ n → m < count → FathersRise n count work →
       LeastThrough (blockEntry work n) count i (blockEntry work (4 * n)) (blockEntry after (4 * n))
 
--- r is the least label of the node m and the nodes below it, in every tree of which these are the fathers
+-- r is the least label of the node m and the nodes below it, in every tree with these fathers
 abbrev pub LeastLabel : ℕ → ℕ → List ℕ → ℕ → Type 0
 LeastLabel n m work r =
     (count : ℕ) → count ≤ n → m < count → FathersRise n count work →

@@ -58,11 +58,11 @@ pub record Numbers (n : ℕ) (work marks : List ℕ) (x r : ℕ) (after : List �
       (m : ℕ) → m < n → ((z : ℕ) → z < x → starts n work marks z ≡ true → blockEntry work (2 * n) z ≢ m) →
       blockEntry after (4 * n) m ≡ blockEntry work (4 * n) m
 
--- the fifth block holds the numbers of the nodes that are the father of no node, and else v; the other blocks are as they were
-pub record Leaves (n count v : ℕ) (work : List ℕ) (r : ℕ) (after : List ℕ) : Type 0 where
+-- the fifth block holds the numbers of the nodes that are the father of no node, and one number for all others; the other blocks are as they were
+pub record Leaves (n count others : ℕ) (work : List ℕ) (r : ℕ) (after : List ℕ) : Type 0 where
   pub marks : List ℕ
   pub filled : List ℕ
-  pub fill : Filled (4 * n) n v work filled
+  pub fill : Filled (4 * n) n others work filled
   pub mark : Marks n count work marks
   pub numbers : Numbers n filled marks n r after
 

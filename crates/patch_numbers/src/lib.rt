@@ -60,14 +60,14 @@ fn number_leaves(n: usize, work: &mut [u16], marks: &[u16]) -> usize
     r
 }
 
-// Numbers the leaves of the tree in work, of count nodes, by first place, and all other nodes with v, with the cells for marks;
-// answers how many leaves there are.
-pub fn number(n: usize, count: usize, v: u16, work: &mut [u16], cells: &mut [u16]) -> usize
+// Numbers the leaves of the tree in work, of count nodes, by first place, and gives all other nodes one number, with the cells for
+// marks; answers how many leaves there are.
+pub fn number(n: usize, count: usize, others: u16, work: &mut [u16], cells: &mut [u16]) -> usize
     requires { ⌜ FiveBlocks n (now work) (now cells) × Mapped n (now work) × (count ≤ n) ⌝ }
-    ensures { λ r. ⌜ Leaves n count v (now (work .entry)) r (now (work .exit)) ⌝ }
+    ensures { λ r. ⌜ Leaves n count others (now (work .entry)) r (now (work .exit)) ⌝ }
 {
     mark_fathers(n, count, work, cells);
-    fill(work, 4 * n, n, v);
+    fill(work, 4 * n, n, others);
     number_leaves(n, work, cells)
 }
 

@@ -27,7 +27,7 @@ pub fn patch_figures(
 }
 
 // The number of the patch that a touch at a place of a picture belongs to by a handbook, 0 for none.
-pub fn touch(
+pub fn touch_core(
     handbook: u32,
     a: u32,
     w: u32,

@@ -181,25 +181,39 @@ pub record TouchRow : Type 0 where
 abbrev touchRow : Picture → List ℕ → List ℕ → TouchRow
 touchRow p xs ys = record { picture = p; four = xs; five = ys }
 
--- equal passes; H3; the same with a deeper patch of a greater number; a patch behind fewer steps and a higher pass; both adjacencies
 abbrev pub touch-table : List TouchRow
 touch-table =
+    -- equal passes: the lowest number
     touchRow (pictureOf 4 5 1 (0 ∷ 2 ∷ 1 ∷ 9 ∷ 5 ∷ [])) (1 ∷ 0 ∷ 2 ∷ 0 ∷ 3 ∷ []) (1 ∷ 1 ∷ 2 ∷ 1 ∷ 3 ∷ []) ∷
+    -- H3: the lowest number, although another patch is deeper
     touchRow h3 (0 ∷ 1 ∷ 0 ∷ 2 ∷ 0 ∷ []) (1 ∷ 1 ∷ 1 ∷ 2 ∷ 2 ∷ []) ∷
+    -- the lowest number is not always 1
     touchRow (pictureOf 4 6 1 (0 ∷ 9 ∷ 5 ∷ 6 ∷ 3 ∷ 4 ∷ [])) (1 ∷ 0 ∷ 2 ∷ 0 ∷ 3 ∷ 0 ∷ []) (1 ∷ 1 ∷ 2 ∷ 2 ∷ 3 ∷ 3 ∷ []) ∷
+    -- a lower pass, although another patch is fewer steps away
     touchRow (pictureOf 4 6 1 (0 ∷ 9 ∷ 8 ∷ 7 ∷ 5 ∷ 1 ∷ [])) (1 ∷ 0 ∷ 0 ∷ 0 ∷ 0 ∷ 2 ∷ []) (1 ∷ 1 ∷ 2 ∷ 2 ∷ 2 ∷ 2 ∷ []) ∷
+    -- both adjacencies
     touchRow (pictureOf 4 3 3 (9 ∷ 9 ∷ 0 ∷ 0 ∷ 5 ∷ 9 ∷ 9 ∷ 9 ∷ 9 ∷ [])) (0 ∷ 0 ∷ 1 ∷ 2 ∷ 0 ∷ 0 ∷ 0 ∷ 0 ∷ 0 ∷ []) (1 ∷ 1 ∷ 1 ∷ 2 ∷ 2 ∷ 1 ∷ 1 ∷ 1 ∷ 1 ∷ []) ∷
     touchRow (pictureOf 8 3 3 (9 ∷ 9 ∷ 0 ∷ 0 ∷ 5 ∷ 9 ∷ 9 ∷ 9 ∷ 9 ∷ [])) (0 ∷ 0 ∷ 1 ∷ 2 ∷ 0 ∷ 0 ∷ 0 ∷ 0 ∷ 0 ∷ []) (1 ∷ 1 ∷ 1 ∷ 2 ∷ 1 ∷ 1 ∷ 1 ∷ 1 ∷ 1 ∷ []) ∷
+    -- the lowest number, although another patch is smaller, or its last place comes first
+    touchRow (pictureOf 4 3 2 (0 ∷ 3 ∷ 2 ∷ 0 ∷ 0 ∷ 3 ∷ [])) (1 ∷ 0 ∷ 2 ∷ 1 ∷ 1 ∷ 0 ∷ []) (1 ∷ 1 ∷ 2 ∷ 1 ∷ 1 ∷ 1 ∷ []) ∷
+    -- the lowest number, although another patch is larger
+    touchRow (pictureOf 4 5 1 (3 ∷ 1 ∷ 2 ∷ 0 ∷ 0 ∷ [])) (0 ∷ 1 ∷ 0 ∷ 2 ∷ 2 ∷ []) (1 ∷ 1 ∷ 1 ∷ 2 ∷ 2 ∷ []) ∷
+    -- one patch, and a line of the largest value
+    touchRow (pictureOf 8 1 2 (0 ∷ 255 ∷ [])) (1 ∷ 0 ∷ []) (1 ∷ 1 ∷ []) ∷
     []
 
 -- the patch number of a touch at each place under a handbook
 abbrev pub touched : ℕ → Picture → List ℕ
 touched handbook p = map (touchedPatch handbook p) (range 0 (places p))
 
+-- the picture of a row is accepted, and has the touches of the row
+abbrev pub touchesHold : TouchRow → Bool
+touchesHold r =
+    isPicture (r .picture) && (sameList (touched 4 (r .picture)) (r .four) && sameList (touched 5 (r .picture)) (r .five))
+
 -- each worked picture has the touches of its row
-pub worked-touches :
-    all (λ r. sameList (touched 4 (r .picture)) (r .four) && sameList (touched 5 (r .picture)) (r .five)) touch-table ≡ true
-unfolding adjacent componentAt components isBranch nodesAt nodes isLeaf patchNodes pass patchAt nearestPatch touchedPatch
+pub worked-touches : all touchesHold touch-table ≡ true
+unfolding adjacent isPicture componentAt components isBranch nodesAt nodes isLeaf patchNodes pass patchAt nearestPatch touchedPatch
 worked-touches = refl
 
 -- a picture filled with a least size, and the pixels then

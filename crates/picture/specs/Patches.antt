@@ -41,11 +41,12 @@ lineCount p = tally (λ x. eqb (patchAt p x) 0) (range 0 (places p))
 abbrev pub patchPasses : Picture → ℕ → List ℕ
 patchPasses p x = map (λ n. pass p x (n .first)) (patchNodes p)
 
--- the number of the patch with the lowest pass from a place, the lowest number among equals
+-- the number of the nearest patch of a place, by pass: the one with the lowest pass from it, the lowest number among equals
 unfoldable pub nearestPatch : Picture → ℕ → ℕ
 nearestPatch p x = indexFrom 0 1 (λ k. eqb k (lowest 0 (patchPasses p x))) (patchPasses p x)
 
--- the number of the patch that a touch belongs to by a handbook: under 5 a touch on the line belongs to the nearest patch; else it belongs to the patch of its place, and on the line to none, 0
+-- the number of the patch that a touch belongs to by a handbook, 0 for none
+-- under 5 a touch on the line belongs to the nearest patch; else it belongs to the patch of its place
 unfoldable pub touchedPatch : ℕ → Picture → ℕ → ℕ
 touchedPatch handbook p x = pick (eqb handbook 5 && eqb (patchAt p x) 0) (nearestPatch p x) (patchAt p x)
 

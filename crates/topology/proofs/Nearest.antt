@@ -36,6 +36,10 @@ module _ (p : Picture) (ok : Accepted p) where
       ap (map (λ n. pass p x (n .first))) (patch-nodes-are p ok) ∙
       map-map (λ n. pass p x (n .first)) (leaf p) (select (bottom p) (range 0 (places p)))
 
+  -- the node of the place where a minimum begins has it as first place
+  bottom-first : (z : ℕ) → z < places p → bottom p z ≡ true → nodeAt p (mapOf p z) .first ≡ z
+  bottom-first z b t = ap (λ (n : Node). n .first) (bottom-map p ok z b t)
+
   module _ (x : ℕ) (b : x < places p) where
     -- no pass from a place is below its value
     pass-above : (y : ℕ) → y < places p → valueAt p x ≤ pass p x y
@@ -96,15 +100,10 @@ module _ (p : Picture) (ok : Accepted p) where
       nearest-some : 1 ≤ nearestPatch p x
       nearest-some = let e = nearest-first in let n = bottom-number p ok z zb t in omega arith
 
-      m : ℕ
+      abbrev m : ℕ
       m = mapOf p z
 
-      same : nodeAt p m .first ≡ z
-      unfolding m
-      same = ap (λ (n : Node). n .first) (bottom-map p ok z zb t)
-
       first-nearest : Nearest p x (nodeAt p m)
-      unfolding m
       first-nearest =
           record {
             patch = leaf-node-patch p m (map-found p ok z zb) (bottom-leaf p ok z zb t);
@@ -118,7 +117,7 @@ module _ (p : Picture) (ok : Accepted p) where
           }
         where
           pass-here : pass p x (nodeAt p m .first) ≡ valueAt p x
-          pass-here = ap (pass p x) same ∙ own
+          pass-here = ap (pass p x) (bottom-first z zb t) ∙ own
 
           number-least :
               (n : Node) → List·Memᴰ n (patchNodes p) → pass p x (n .first) ≡ pass p x (nodeAt p m .first) →
@@ -129,7 +128,7 @@ module _ (p : Picture) (ok : Accepted p) where
               let y = nodeAt p k .first in
               let yb = node-is p k c .place .within in
               let yt = leaf-bottom p ok k c l .1 in
-              let a = ap (patchAt p) same in
+              let a = ap (patchAt p) (bottom-first z zb t) in
               let d = ap (patchAt p) begins in
               let w = first y yb yt (ap (pass p x) begins ∙ (e ∙ pass-here)) in
               by-cases (ℕ-discrete z y)
@@ -158,7 +157,7 @@ module _ (p : Picture) (ok : Accepted p) where
         first : (y : ℕ) → y < places p → bottom p y ≡ true → pass p x y ≡ valueAt p x → z ≤ y
         first y yb t e =
             let m = mapOf p y in
-            let same : nodeAt p m .first ≡ y = ap (λ (n : Node). n .first) (bottom-map p ok y yb t) in
+            let same = bottom-first y yb t in
             let ml = bottom-leaf p ok y yb t in
             let below = pass-below m (map-found p ok y yb) ml (ap (pass p x) same ∙ e) in
             let w = least m ml below in
@@ -191,11 +190,11 @@ module _ (p : Picture) (ok : Accepted p) where
 
     -- there is such a minimum, and so a first one
     found : (n : Node) × Nearest p x n × (nearestPatch p x ≡ patchAt p (n .first)) × (1 ≤ nearestPatch p x)
-    unfolding reached m
+    unfolding reached
     found = (
       nodeAt p (mapOf p z),
       first-nearest z zb t own least,
-      nearest-first z zb t own least ∙ ap (patchAt p) (sym (same z zb t own least)),
+      nearest-first z zb t own least ∙ ap (patchAt p) (sym (bottom-first z zb t)),
       nearest-some z zb t own least,
     )
       where

@@ -136,8 +136,8 @@ fn touched_rows() -> Vec<Touched> {
     vec![
         // The row of the request on depths.
         touched(four("0 2 1 9 5"), "1 0 2 0 3", "1 1 2 1 3"),
-        // The passes to all patches are equal: the first one is neither the
-        // nearest nor the deepest.
+        // At the highest places the passes to all patches are equal: the first
+        // one is neither the fewest steps away nor the deepest.
         touched(four("3 4 5 0"), "1 0 0 2", "1 1 1 2"),
         touched(four("2 6 6 6 0"), "1 0 0 0 2", "1 1 1 1 2"),
         touched(four("4 7 1 7 0"), "1 0 2 0 3", "1 1 2 1 3"),
@@ -146,7 +146,7 @@ fn touched_rows() -> Vec<Touched> {
         touched(four("255 0 255 254 255"), "0 1 0 2 0", "1 1 1 2 1"),
         // The way down on one side only.
         touched(four("0 5 4 3"), "1 0 0 2", "1 1 2 2"),
-        // The nearest patch lies behind a wall.
+        // The patch that is the fewest steps away lies behind a wall.
         touched(four("0 9 5 4 3 1"), "1 0 0 0 0 2", "1 1 2 2 2 2"),
         touched(four("1 3 4 5 9 0"), "1 0 0 0 0 2", "1 1 1 1 1 2"),
         // The last place lies above the forks at 5 and at 6; the passes to the

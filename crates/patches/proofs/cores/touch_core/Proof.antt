@@ -1,9 +1,9 @@
--- `patches::cores::touch` meets its contract: the builder leaves what the patch of a touch wants.
+-- `patches::cores::touch_core` meets its contract: the builder leaves what the patch of a touch wants.
 use borrow.Author.Needs.{needs}
 use Rattle.picture.specs.Pictures.{pictureOf}
 use Rattle.patches.proofs.FigureLaws.{built-tree, built-sizes}
-use Rattle.patches.proofs.cores.touch.Statement.{statement}
-use Rattle.patches.proofs.cores.touch.Tie as tie
+use Rattle.patches.proofs.cores.touch_core.Statement.{statement}
+use Rattle.patches.proofs.cores.touch_core.Tie as tie
 
 build-requires : tie.Need-build-requires
 build-requires c κs = search needs
@@ -27,8 +27,8 @@ same-length-2 c = search needs
 returns : tie.Need-returns
 returns c = search needs
 
-pub touch-spec : {M : Type 1} → statement M
-touch-spec =
+pub touch-core-spec : {M : Type 1} → statement M
+touch-core-spec =
     tie.close
     (tie.spec
     build-requires
