@@ -242,8 +242,9 @@ fn calls_for_the_order() -> Vec<Call> {
     calls
 }
 
-/// The numbers that an argument takes in turn, and how it takes one.
-const LIMITS: [(&[u32], &[Change<Call>]); 7] = [
+/// The numbers that an argument of every call takes in turn, and how it takes
+/// one.
+pub const LIMITS_OF_ALL: [(&[u32], &[Change<Call>]); 4] = [
     (
         &[0, 3, 4, 5, 7, 8, 9, 260, 264, 65_540, u32::MAX],
         &[|call, adjacency| call.adjacency = adjacency],
@@ -261,6 +262,14 @@ const LIMITS: [(&[u32], &[Change<Call>]); 7] = [
         &[|call, length| call.pixels.resize(length as usize, 1)],
     ),
     (
+        &[0, 1, 6, 24, 29, 30, 31, 60],
+        &[|call, length| call.work_length = length as usize],
+    ),
+];
+
+/// The same of arguments that some calls have.
+const LIMITS: [(&[u32], &[Change<Call>]); 3] = [
+    (
         &limits::LENGTHS,
         &[
             |call, length| call.question.set_length(0, length as usize),
@@ -269,10 +278,6 @@ const LIMITS: [(&[u32], &[Change<Call>]); 7] = [
             |call, length| call.question.set_length(3, length as usize),
             |call, length| call.question.set_length(4, length as usize),
         ],
-    ),
-    (
-        &[0, 1, 6, 24, 29, 30, 31, 60],
-        &[|call, length| call.work_length = length as usize],
     ),
     (
         &[0, 1, 5, 6, 7, 256, 65_536, 65_541, u32::MAX],
@@ -288,11 +293,9 @@ const LIMITS: [(&[u32], &[Change<Call>]); 7] = [
 fn calls_at_the_limits() -> Vec<Call> {
     let mut calls = Vec::new();
     for good in calls_of_h10() {
-        calls.extend(
-            LIMITS
-                .iter()
-                .flat_map(|(numbers, changes)| limits::changed(&good, numbers, changes)),
-        );
+        for (numbers, changes) in LIMITS_OF_ALL.iter().chain(&LIMITS) {
+            calls.extend(limits::changed(&good, numbers, changes));
+        }
     }
     calls
 }

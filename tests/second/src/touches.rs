@@ -210,41 +210,18 @@ fn calls_for_the_order() -> Vec<Call> {
         .collect()
 }
 
-/// The numbers that an argument takes in turn, and how it takes one.
-const LIMITS: [(&[u32], &[Change<Call>]); 5] = [
-    (
-        &[0, 3, 4, 5, 7, 8, 9, 260, 264, 65_540, u32::MAX],
-        &[|call, adjacency| call.adjacency = adjacency],
-    ),
-    (
-        &limits::SIDES,
-        &[
-            |call, side| call.sides.0 = side,
-            |call, side| call.sides.1 = side,
-            |call, side| call.sides = (side, side),
-        ],
-    ),
-    (
-        &limits::LENGTHS,
-        &[|call, length| call.pixels.resize(length as usize, 1)],
-    ),
-    (
-        &[0, 1, 6, 24, 29, 30, 31, 60],
-        &[|call, length| call.work_length = length as usize],
-    ),
-    (
-        &[0, 1, 2, 3, 4, 5, 6, 7, 256, 65_536, 65_541, u32::MAX],
-        &[|call, place| call.question.set_place(0, place)],
-    ),
-];
+/// The places that are touched in turn, at and beyond the limits of six.
+const PLACES: [u32; 12] = [0, 1, 2, 3, 4, 5, 6, 7, 256, 65_536, 65_541, u32::MAX];
 
 /// Calls with one argument at a limit each.
 fn calls_at_the_limits() -> Vec<Call> {
+    let touched: [Change<Call>; 1] = [|call, place| call.question.set_place(0, place)];
     let mut calls = Vec::new();
     for good in calls_of_h10() {
-        for (numbers, changes) in LIMITS {
+        for (numbers, changes) in calls::LIMITS_OF_ALL {
             calls.extend(limits::changed(&good, numbers, changes));
         }
+        calls.extend(limits::changed(&good, &PLACES, &touched));
     }
     calls
 }
