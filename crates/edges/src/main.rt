@@ -144,8 +144,8 @@ fn print_header(name: &[u8], header: &[u8])
     print_headed(name, header, SMALL_AREA);
 }
 
-// The case of a row of pixels, in a whole file.
-fn print_row(name: &[u8], file: &[u8])
+// The case of a whole file of few bytes.
+fn print_whole(name: &[u8], file: &[u8])
     requires { ⌜ length (now file) ≤ 64 ⌝ }
 {
     print_headed(name, file, 0);
@@ -182,11 +182,11 @@ fn print_comments() {
 
 // The cases of depths: the deepest hold first, the largest and the least depth of two, equal heights, the deepest hold last.
 fn print_rows() {
-    print_row(b"row 0 2 1 9 5\n", b"P5\n5 1\n255\n\x00\x02\x01\x09\x05");
-    print_row(b"row 0 255 0\n", b"P5\n3 1\n255\n\x00\xff\x00");
-    print_row(b"row 254 255 254\n", b"P5\n3 1\n255\n\xfe\xff\xfe");
-    print_row(b"row 2 7 2 5 2\n", b"P5\n5 1\n255\n\x02\x07\x02\x05\x02");
-    print_row(
+    print_whole(b"row 0 2 1 9 5\n", b"P5\n5 1\n255\n\x00\x02\x01\x09\x05");
+    print_whole(b"row 0 255 0\n", b"P5\n3 1\n255\n\x00\xff\x00");
+    print_whole(b"row 254 255 254\n", b"P5\n3 1\n255\n\xfe\xff\xfe");
+    print_whole(b"row 2 7 2 5 2\n", b"P5\n5 1\n255\n\x02\x07\x02\x05\x02");
+    print_whole(
         b"row 1 3 2 5 4 8 0\n",
         b"P5\n7 1\n255\n\x01\x03\x02\x05\x04\x08\x00",
     );
@@ -301,6 +301,14 @@ fn print_handbooks() {
     print_numbered(b"refused ", touch_refusal(5, 5));
 }
 
+// The case of centres at a half: a hold of four pixels, whose centre is 2.5 and 7.5 tenths.
+fn print_halves() {
+    print_whole(
+        b"centres at a half\n",
+        b"P5\n3 3\n255\n\x00\x00\x05\x00\x05\x03\x00\x05\x03",
+    );
+}
+
 fn main() {
     print_heights(0);
     print_heights(1);
@@ -320,4 +328,5 @@ fn main() {
     print_rows();
     print_arguments();
     print_handbooks();
+    print_halves();
 }

@@ -2,11 +2,11 @@
 use mathlib.Core.Path.{_≡_, ap, _∙_}
 use mathlib.Core.List.{List, [], _∷_, _++_, append-assoc}
 use Prim.Native.Nat.{ℕ, suc, _+_, _*_, _≤_, _<_}
-use native.Mathlib.Nat.{div-le-self, lt-of-le-of-lt}
 use native.Mathlib.Omega.{arith}
 use native.Mathlib.Numerals.{add-one}
 use lib.ListN.{length}
-use Rattle.picture.specs.Patches.{centre}
+use Rattle.centres.specs.Centres.{centre}
+use Rattle.centres.proofs.Rounding.{centre-most}
 use Rattle.text.specs.Decimal.{fields}
 use Rattle.hold_lines.specs.Lines.{lineOf}
 use Rattle.text.proofs.Decimals.{decimal-length, last-length, next-length}
@@ -31,8 +31,8 @@ line-length a b c d e g ha hb hc hd he hg =
     omega arith
 
 -- a centre has at most six digits
-pub centre-most : (c s : ℕ) → c ≤ 65535 → centre c s < 1000000
-centre-most c s h = let b : 10 * c < 1000000 = omega arith in lt-of-le-of-lt (div-le-self (10 * c) s) b
+pub centre-digits : (c s : ℕ) → c ≤ 65535 → centre c s < 1000000
+centre-digits c s h = omega (arith, centre-most c s)
 
 -- the numbers of a line, each equal to the figure it stands for
 pub line-is :

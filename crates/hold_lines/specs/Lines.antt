@@ -1,7 +1,7 @@
 -- The lines of the hold list, and the line of a refusal.
 use mathlib.Core.List.{List, [], _∷_, _++_}
 use Prim.Native.Nat.{ℕ}
-use Rattle.picture.specs.Patches.{centre}
+use Rattle.centres.specs.Centres.{centre}
 use Rattle.text.specs.Decimal.{decimal, fields}
 
 -- the word picture and a space

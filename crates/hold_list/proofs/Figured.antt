@@ -8,7 +8,8 @@ use lib.ListN.{length, getD, take}
 use lib.Seq.{length-take-le, getD-take}
 use Rattle.lists.specs.Lists.{range}
 use Rattle.picture.specs.Pictures.{Picture, places}
-use Rattle.picture.specs.Patches.{Patch, patches, lineCount, centre}
+use Rattle.picture.specs.Patches.{Patch, patches, lineCount}
+use Rattle.centres.specs.Centres.{centre}
 use Rattle.lists.proofs.Cuts.{from, from-at, from-length}
 use Rattle.topology.proofs.Accepted.{Accepted, places-bound}
 use Rattle.topology.proofs.PatchSums.{count-few, patch-number}

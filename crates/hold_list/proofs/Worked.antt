@@ -1,4 +1,4 @@
--- Texts by computation: H3 and an empty file without an argument, H3 with the argument 2, what names no size.
+-- Texts by computation: H3, a hold with centres at a half and an empty file without an argument, H3 with the argument 2, what names no size.
 use mathlib.Core.Path.{_≡_, refl}
 use mathlib.Core.List.{List, [], _∷_}
 use Prim.Native.Nat.{ℕ}
@@ -9,6 +9,7 @@ use Rattle.picture.specs.Watersheds.{lowerable, best, watershed}
 use Rattle.picture.specs.Passes.{pass}
 use Rattle.picture.specs.Patches.{patchNodes, deeper, climbOf, depthOf, patchOf, patches, patchAt, lineCount}
 use Rattle.picture.specs.Filling.{filledAt, filled}
+use Rattle.centres.specs.Centres.{centre}
 use Rattle.p5.specs.Headers.{gapEnd, digitsAt, numberAt, endAt, walk}
 use Rattle.p5.specs.Files.{onPixels, onHeader, readFile}
 use Rattle.text.specs.Decimal.{decimal}
@@ -33,8 +34,32 @@ h3Text =
     50 ∷ 32 ∷ 50 ∷ 32 ∷ 48 ∷ 32 ∷ 52 ∷ 32 ∷ 51 ∷ 53 ∷ 32 ∷ 48 ∷ 10 ∷ []
 
 pub worked-text : programText 1 [] h3 ≡ h3Text
-unfolding adjacent componentAt components isBranch nodesAt nodes lowerable best watershed isLeaf patchNodes pass deeper climbOf depthOf patchOf patches patchAt lineCount gapEnd digitsAt numberAt endAt walk onPixels onHeader readFile decimal patchList holdList fileFault fileText programText
+unfolding adjacent componentAt components isBranch nodesAt nodes lowerable best watershed isLeaf patchNodes pass deeper climbOf depthOf patchOf patches patchAt lineCount centre gapEnd digitsAt numberAt endAt walk onPixels onHeader readFile decimal patchList holdList fileFault fileText programText
 worked-text = refl
+
+-- 3 by 3 with largest sample 9: an L of four pixels, whose columns have the sum 1 and whose rows have the sum 3
+abbrev halves : List ℕ
+halves =
+    80 ∷ 53 ∷ 10 ∷ 51 ∷ 32 ∷ 51 ∷ 10 ∷ 57 ∷ 10 ∷
+    0 ∷ 0 ∷ 5 ∷
+    0 ∷ 5 ∷ 3 ∷
+    0 ∷ 5 ∷ 3 ∷ []
+
+-- what is printed for it: its centre is 2.5 and 7.5 tenths, each rounded to the even tenth
+abbrev halvesText : List ℕ
+halvesText =
+    -- picture 3 3
+    112 ∷ 105 ∷ 99 ∷ 116 ∷ 117 ∷ 114 ∷ 101 ∷ 32 ∷ 51 ∷ 32 ∷ 51 ∷ 10 ∷
+    -- patches 2 line 3
+    112 ∷ 97 ∷ 116 ∷ 99 ∷ 104 ∷ 101 ∷ 115 ∷ 32 ∷ 50 ∷ 32 ∷ 108 ∷ 105 ∷ 110 ∷ 101 ∷ 32 ∷ 51 ∷ 10 ∷
+    -- 1 4 0 5 2 8
+    49 ∷ 32 ∷ 52 ∷ 32 ∷ 48 ∷ 32 ∷ 53 ∷ 32 ∷ 50 ∷ 32 ∷ 56 ∷ 10 ∷
+    -- 2 2 3 2 20 15
+    50 ∷ 32 ∷ 50 ∷ 32 ∷ 51 ∷ 32 ∷ 50 ∷ 32 ∷ 50 ∷ 48 ∷ 32 ∷ 49 ∷ 53 ∷ 10 ∷ []
+
+pub worked-halves : programText 1 [] halves ≡ halvesText
+unfolding adjacent componentAt components isBranch nodesAt nodes lowerable best watershed isLeaf patchNodes pass deeper climbOf depthOf patchOf patches patchAt lineCount centre gapEnd digitsAt numberAt endAt walk onPixels onHeader readFile decimal patchList holdList fileFault fileText programText
+worked-halves = refl
 
 -- an empty file is refused with number 1
 pub worked-refusal : programText 1 [] [] ≡ 114 ∷ 101 ∷ 102 ∷ 117 ∷ 115 ∷ 101 ∷ 100 ∷ 32 ∷ 49 ∷ 10 ∷ []
@@ -54,7 +79,7 @@ h3Filled =
     50 ∷ 32 ∷ 50 ∷ 32 ∷ 50 ∷ 32 ∷ 50 ∷ 32 ∷ 51 ∷ 53 ∷ 32 ∷ 48 ∷ 10 ∷ []
 
 pub worked-filled : programText 2 (50 ∷ []) h3 ≡ h3Filled
-unfolding adjacent componentAt components isBranch nodesAt nodes lowerable best watershed isLeaf patchNodes pass deeper climbOf depthOf patchOf patches patchAt lineCount gapEnd digitsAt numberAt endAt walk onPixels onHeader readFile decimal filledAt filled patchList holdList fileFault fileText filledList namedSize programText
+unfolding adjacent componentAt components isBranch nodesAt nodes lowerable best watershed isLeaf patchNodes pass deeper climbOf depthOf patchOf patches patchAt lineCount centre gapEnd digitsAt numberAt endAt walk onPixels onHeader readFile decimal filledAt filled patchList holdList fileFault fileText filledList namedSize programText
 worked-filled = refl
 
 -- no size is named by the letter x, by no bytes, by six digits, by two arguments

@@ -12,7 +12,7 @@ use Rattle.picture.specs.Labels.{labels}
 use Rattle.picture.specs.Trees.{Tree, isBranch, nodesAt, nodes, fatherOf, mapOf, treeOf, isLeaf}
 use Rattle.picture.specs.Watersheds.{lowerable, best, watershed}
 use Rattle.picture.specs.Filling.{filledAt, filled}
-use Rattle.picture.specs.Patches.{patchNodes, nearestPatch, touchedPatch, deeper, climbOf, depthOf, Patch, patchOf, patches, patchAt, lineCount, centre}
+use Rattle.picture.specs.Patches.{patchNodes, nearestPatch, touchedPatch, deeper, climbOf, depthOf, Patch, patchOf, patches, patchAt, lineCount}
 use Rattle.picture.specs.Kept.{keepsAt, flat}
 
 -- two lists hold the same numbers
@@ -117,7 +117,7 @@ pub worked-labels : sameList (labels h3 2) (0 ∷ 1 ∷ 0 ∷ 2 ∷ 2 ∷ []) �
 unfolding adjacent componentAt components labels
 worked-labels = refl
 
--- patches worked by hand: the picture, the patch number of each place, the line, and the six figures of each patch with its centre in tenths
+-- patches worked by hand: the picture, the patch number of each place, the line, and the six figures of each patch's record
 pub record PatchRow : Type 0 where
   pub picture : Picture
   pub places : List ℕ
@@ -131,28 +131,27 @@ patchRow p xs l fs = record { picture = p; places = xs; line = l; figures = fs }
 abbrev pub patch-table : List PatchRow
 patch-table =
     patchRow (pictureOf 4 5 1 (1 ∷ 1 ∷ 4 ∷ 0 ∷ 0 ∷ [])) (1 ∷ 1 ∷ 0 ∷ 2 ∷ 2 ∷ []) 1
-    ((1 ∷ 2 ∷ 1 ∷ 3 ∷ 5 ∷ 0 ∷ []) ∷ (2 ∷ 2 ∷ 0 ∷ 4 ∷ 35 ∷ 0 ∷ []) ∷ []) ∷
+    ((1 ∷ 2 ∷ 1 ∷ 3 ∷ 1 ∷ 0 ∷ []) ∷ (2 ∷ 2 ∷ 0 ∷ 4 ∷ 7 ∷ 0 ∷ []) ∷ []) ∷
     patchRow (pictureOf 4 3 2 (0 ∷ 3 ∷ 2 ∷ 0 ∷ 0 ∷ 3 ∷ [])) (1 ∷ 0 ∷ 2 ∷ 1 ∷ 1 ∷ 0 ∷ []) 2
-    ((1 ∷ 3 ∷ 0 ∷ 3 ∷ 3 ∷ 6 ∷ []) ∷ (2 ∷ 1 ∷ 2 ∷ 1 ∷ 20 ∷ 0 ∷ []) ∷ []) ∷
+    ((1 ∷ 3 ∷ 0 ∷ 3 ∷ 1 ∷ 2 ∷ []) ∷ (2 ∷ 1 ∷ 2 ∷ 1 ∷ 2 ∷ 0 ∷ []) ∷ []) ∷
     patchRow (pictureOf 4 5 1 (0 ∷ 2 ∷ 1 ∷ 9 ∷ 5 ∷ [])) (1 ∷ 0 ∷ 2 ∷ 0 ∷ 3 ∷ []) 2
-    ((1 ∷ 1 ∷ 0 ∷ 9 ∷ 0 ∷ 0 ∷ []) ∷ (2 ∷ 1 ∷ 1 ∷ 1 ∷ 20 ∷ 0 ∷ []) ∷ (3 ∷ 1 ∷ 5 ∷ 4 ∷ 40 ∷ 0 ∷ []) ∷ []) ∷
+    ((1 ∷ 1 ∷ 0 ∷ 9 ∷ 0 ∷ 0 ∷ []) ∷ (2 ∷ 1 ∷ 1 ∷ 1 ∷ 2 ∷ 0 ∷ []) ∷ (3 ∷ 1 ∷ 5 ∷ 4 ∷ 4 ∷ 0 ∷ []) ∷ []) ∷
     patchRow (pictureOf 4 7 1 (2 ∷ 7 ∷ 5 ∷ 6 ∷ 2 ∷ 2 ∷ 9 ∷ [])) (1 ∷ 0 ∷ 2 ∷ 0 ∷ 3 ∷ 3 ∷ 0 ∷ []) 3
-    ((1 ∷ 1 ∷ 2 ∷ 7 ∷ 0 ∷ 0 ∷ []) ∷ (2 ∷ 1 ∷ 5 ∷ 1 ∷ 20 ∷ 0 ∷ []) ∷ (3 ∷ 2 ∷ 2 ∷ 5 ∷ 45 ∷ 0 ∷ []) ∷ []) ∷
+    ((1 ∷ 1 ∷ 2 ∷ 7 ∷ 0 ∷ 0 ∷ []) ∷ (2 ∷ 1 ∷ 5 ∷ 1 ∷ 2 ∷ 0 ∷ []) ∷ (3 ∷ 2 ∷ 2 ∷ 5 ∷ 9 ∷ 0 ∷ []) ∷ []) ∷
     patchRow (pictureOf 4 8 1 (2 ∷ 2 ∷ 7 ∷ 5 ∷ 6 ∷ 6 ∷ 2 ∷ 9 ∷ [])) (1 ∷ 1 ∷ 0 ∷ 2 ∷ 0 ∷ 0 ∷ 3 ∷ 0 ∷ []) 4
-    ((1 ∷ 2 ∷ 2 ∷ 7 ∷ 5 ∷ 0 ∷ []) ∷ (2 ∷ 1 ∷ 5 ∷ 1 ∷ 30 ∷ 0 ∷ []) ∷ (3 ∷ 1 ∷ 2 ∷ 5 ∷ 60 ∷ 0 ∷ []) ∷ []) ∷
+    ((1 ∷ 2 ∷ 2 ∷ 7 ∷ 1 ∷ 0 ∷ []) ∷ (2 ∷ 1 ∷ 5 ∷ 1 ∷ 3 ∷ 0 ∷ []) ∷ (3 ∷ 1 ∷ 2 ∷ 5 ∷ 6 ∷ 0 ∷ []) ∷ []) ∷
     patchRow (pictureOf 4 3 3 (2 ∷ 7 ∷ 2 ∷ 2 ∷ 3 ∷ 4 ∷ 3 ∷ 2 ∷ 9 ∷ [])) (1 ∷ 0 ∷ 2 ∷ 1 ∷ 0 ∷ 0 ∷ 0 ∷ 3 ∷ 0 ∷ []) 5
-    ((1 ∷ 2 ∷ 2 ∷ 7 ∷ 0 ∷ 5 ∷ []) ∷ (2 ∷ 1 ∷ 2 ∷ 2 ∷ 20 ∷ 0 ∷ []) ∷ (3 ∷ 1 ∷ 2 ∷ 1 ∷ 10 ∷ 20 ∷ []) ∷ []) ∷
+    ((1 ∷ 2 ∷ 2 ∷ 7 ∷ 0 ∷ 1 ∷ []) ∷ (2 ∷ 1 ∷ 2 ∷ 2 ∷ 2 ∷ 0 ∷ []) ∷ (3 ∷ 1 ∷ 2 ∷ 1 ∷ 1 ∷ 2 ∷ []) ∷ []) ∷
     patchRow (pictureOf 8 3 3 (2 ∷ 7 ∷ 2 ∷ 2 ∷ 3 ∷ 4 ∷ 3 ∷ 2 ∷ 9 ∷ [])) (1 ∷ 0 ∷ 2 ∷ 1 ∷ 0 ∷ 0 ∷ 0 ∷ 1 ∷ 0 ∷ []) 5
-    ((1 ∷ 3 ∷ 2 ∷ 7 ∷ 3 ∷ 10 ∷ []) ∷ (2 ∷ 1 ∷ 2 ∷ 1 ∷ 20 ∷ 0 ∷ []) ∷ []) ∷
+    ((1 ∷ 3 ∷ 2 ∷ 7 ∷ 1 ∷ 3 ∷ []) ∷ (2 ∷ 1 ∷ 2 ∷ 1 ∷ 2 ∷ 0 ∷ []) ∷ []) ∷
     patchRow (pictureOf 4 5 2 (2 ∷ 2 ∷ 1 ∷ 3 ∷ 1 ∷ 2 ∷ 1 ∷ 3 ∷ 0 ∷ 2 ∷ [])) (0 ∷ 0 ∷ 1 ∷ 0 ∷ 2 ∷ 0 ∷ 3 ∷ 0 ∷ 4 ∷ 0 ∷ []) 6
-    ((1 ∷ 1 ∷ 1 ∷ 2 ∷ 20 ∷ 0 ∷ []) ∷ (2 ∷ 1 ∷ 1 ∷ 1 ∷ 40 ∷ 0 ∷ []) ∷ (3 ∷ 1 ∷ 1 ∷ 1 ∷ 10 ∷ 10 ∷ []) ∷ (4 ∷ 1 ∷ 0 ∷ 3 ∷ 30 ∷ 10 ∷ []) ∷ []) ∷
+    ((1 ∷ 1 ∷ 1 ∷ 2 ∷ 2 ∷ 0 ∷ []) ∷ (2 ∷ 1 ∷ 1 ∷ 1 ∷ 4 ∷ 0 ∷ []) ∷ (3 ∷ 1 ∷ 1 ∷ 1 ∷ 1 ∷ 1 ∷ []) ∷ (4 ∷ 1 ∷ 0 ∷ 3 ∷ 3 ∷ 1 ∷ []) ∷ []) ∷
     patchRow (pictureOf 8 1 2 (0 ∷ 255 ∷ [])) (1 ∷ 0 ∷ []) 1 ((1 ∷ 1 ∷ 0 ∷ 255 ∷ 0 ∷ 0 ∷ []) ∷ []) ∷
     []
 
--- the figures of a patch: number, size, height, depth, centre column and centre row
+-- the figures of a patch: number, size, height, depth, sum of columns and sum of rows
 abbrev pub figuresOf : Patch → List ℕ
-figuresOf q =
-    q .number ∷ q .size ∷ q .height ∷ q .depth ∷ centre (q .columns) (q .size) ∷ centre (q .rows) (q .size) ∷ []
+figuresOf q = q .number ∷ q .size ∷ q .height ∷ q .depth ∷ q .columns ∷ q .rows ∷ []
 
 abbrev pub sameLists : List (List ℕ) → List (List ℕ) → Bool
 sameLists [] [] = true

@@ -3,7 +3,7 @@ use mathlib.Core.Path.{_≡_}
 use mathlib.Core.Bool.{Bool, true, false, _&&_, _||_}
 use mathlib.Core.Logic.{_≢_}
 use mathlib.Core.List.{List, [], _∷_, map, List·Memᴰ}
-use Prim.Native.Nat.{ℕ, suc, _-_, _*_, _/_, _≤_, _<_}
+use Prim.Native.Nat.{ℕ, suc, _-_, _≤_, _<_}
 use lib.Dec.{eqb, ltb}
 use lib.ListN.{length}
 use Rattle.lists.specs.Lists.{pick, tally, select, indexFrom, range, isIn, total, highest, lowest}
@@ -146,7 +146,3 @@ patchesFrom i p (n ∷ ns) = patchOf p i n ∷ patchesFrom (suc i) p ns
 -- the patches of a picture (a patch is a regional minimum), numbered from 1 by first place
 unfoldable pub patches : Picture → List Patch
 patches p = patchesFrom 1 p (patchNodes p)
-
--- a centre (standard term: centroid) in tenths: ten times a sum of columns or rows by the size, remainder dropped
-abbrev pub centre : ℕ → ℕ → ℕ
-centre sum size = 10 * sum / size

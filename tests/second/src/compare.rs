@@ -55,17 +55,17 @@ fn files(count: usize) -> Vec<(String, Vec<u8>)> {
     }
     let mut random = Random::new(20_001);
     files.extend((0..count).map(|index| generated_file(&mut random, index)));
+    for (index, (picture, _)) in worked::centres().iter().enumerate() {
+        files.push((format!("centres {}", index), worked::file_of(picture)));
+    }
     files
 }
 
-/// The pictures worked by hand for depths, with the largest sample 255.
+/// The pictures worked by hand for depths.
 pub fn files_of_depths() -> Vec<Vec<u8>> {
     let pictures = worked::depths().into_iter().chain(worked::staircases());
     pictures
-        .map(|(picture, _)| {
-            let header = format!("P5\n{} {}\n255\n", picture.width, picture.height);
-            [header.as_bytes(), &picture.pixels].concat()
-        })
+        .map(|(picture, _)| worked::file_of(&picture))
         .collect()
 }
 

@@ -1,5 +1,6 @@
 //! The edge cases: for each one a name line and what `holds` prints; then some
-//! of the handbook, with a line of patches or of a refusal.
+//! of the handbook, with a line of patches or of a refusal; then one of `holds`
+//! with centres at a half.
 
 use crate::holds::Run;
 use crate::question::{touch_query_of, Call, Question};
@@ -140,7 +141,7 @@ fn cases_of_arguments() -> Vec<(&'static str, &'static [&'static str], Vec<u8>)>
     ]
 }
 
-/// All edge cases of `holds`, in order.
+/// The edge cases of `holds` that come before those of the handbook, in order.
 pub fn edge_cases() -> Vec<Run> {
     let without = cases_of_files().into_iter().map(|(name, input)| Run {
         name,
@@ -190,16 +191,30 @@ fn text_of_touches(handbook: u32, adjacency: u32) -> String {
     patches.join(" ") + "\n"
 }
 
+/// The edge case of centres, which comes last. The first patch has 4 pixels, and
+/// its exact centre is 2.5 and 7.5 tenths.
+fn case_of_halves() -> Run {
+    Run {
+        name: "centres at a half".to_string(),
+        arguments: Vec::new(),
+        input: b"P5\n3 3\n255\n\x00\x00\x05\x00\x05\x03\x00\x05\x03".to_vec(),
+    }
+}
+
+/// The name line and what `holds` prints.
+fn text_of_run(run: Run) -> String {
+    format!("{}\n{}", run.name, run.text())
+}
+
 pub fn text() -> String {
-    let of_holds = edge_cases()
-        .into_iter()
-        .map(|run| format!("{}\n{}", run.name, run.text()));
+    let of_holds = edge_cases().into_iter().map(text_of_run);
     let of_handbooks = CASES_OF_HANDBOOKS
         .iter()
         .map(|(name, handbook, adjacency)| {
             format!("{}\n{}", name, text_of_touches(*handbook, *adjacency))
         });
-    of_holds.chain(of_handbooks).collect()
+    let last = text_of_run(case_of_halves());
+    of_holds.chain(of_handbooks).chain([last]).collect()
 }
 
 #[cfg(test)]
@@ -294,13 +309,15 @@ mod tests {
     }
 
     #[test]
-    fn edges_of_handbooks() {
+    fn edges_of_handbooks_and_of_centres() {
         let expected = "handbook 3\nrefused 14\n\
                         handbook 4\n1 0 2 0 3\n\
                         handbook 5\n1 1 2 1 3\n\
                         handbook 6\nrefused 14\n\
                         handbook 3 adjacency 5\nrefused 14\n\
-                        handbook 5 adjacency 5\nrefused 7\n";
+                        handbook 5 adjacency 5\nrefused 7\n\
+                        centres at a half\npicture 3 3\npatches 2 line 3\n\
+                        1 4 0 5 2 8\n2 2 3 2 20 15\n";
         assert!(text().ends_with(&format!("size 0 bytes 4097\nrefused 12\n{}", expected)));
         assert!(edge_cases()
             .iter()

@@ -1,5 +1,6 @@
 //! The text that the program `holds` prints.
 
+use crate::centre;
 use crate::file;
 use crate::filling;
 use crate::literal::{Adjacency, Picture};
@@ -72,8 +73,8 @@ fn list(picture: &Picture) -> String {
             patch.size,
             patch.height,
             patch.depth,
-            patch.centre_column(),
-            patch.centre_row()
+            centre::quick(patch.column_sum, patch.size),
+            centre::quick(patch.row_sum, patch.size)
         );
     }
     text

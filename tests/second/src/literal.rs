@@ -292,17 +292,6 @@ pub struct Patch {
     pub row_sum: usize,
 }
 
-impl Patch {
-    /// Ten times the sum over the size, the remainder dropped.
-    pub fn centre_column(&self) -> usize {
-        10 * self.column_sum / self.size
-    }
-
-    pub fn centre_row(&self) -> usize {
-        10 * self.row_sum / self.size
-    }
-}
-
 /// The minima, the pixels of the leaves, by first place.
 pub fn minima(picture: &Picture) -> Vec<Component> {
     let mut leaves: Vec<Component> = nodes(picture)

@@ -21,6 +21,7 @@
 mod arguments;
 mod calls;
 mod cases;
+mod centre;
 mod chalk;
 mod comments;
 mod compare;

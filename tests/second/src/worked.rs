@@ -1,5 +1,5 @@
-//! Pictures worked by hand: H1 to H10, some for the depths of patches, and some
-//! for touches.
+//! Pictures worked by hand: H1 to H10, some for the depths of patches, some for
+//! touches, and some for centres.
 
 use crate::literal::{Adjacency, Picture};
 
@@ -27,6 +27,12 @@ pub fn four(rows: &str) -> Picture {
 
 pub fn eight(rows: &str) -> Picture {
     picture(rows, Adjacency::Eight)
+}
+
+/// A picture as a P5 file with the largest sample 255.
+pub fn file_of(picture: &Picture) -> Vec<u8> {
+    let header = format!("P5\n{} {}\n255\n", picture.width, picture.height);
+    [header.as_bytes(), &picture.pixels].concat()
 }
 
 /// Mark, picture, watershed.
@@ -280,4 +286,105 @@ pub fn staircases() -> [(Picture, Vec<i32>); 2] {
         (picture(rising), [&[253], &between[..], &[255]].concat()),
         (picture(falling), [&[255], &between[..], &[253]].concat()),
     ]
+}
+
+/// A picture, and its hold list.
+pub type Listed = (Picture, &'static str);
+
+/// Pictures that are their own watersheds. Before each one is the exact centre
+/// of its first patch, in tenths.
+fn centres_from_rows() -> Vec<Listed> {
+    vec![
+        // 10 / 4 = 2.5 and 30 / 4 = 7.5: a half down and a half up.
+        (
+            four("0 0 5 / 0 5 3 / 0 5 3"),
+            "picture 3 3\npatches 2 line 3\n1 4 0 5 2 8\n2 2 3 2 20 15\n",
+        ),
+        // 50 / 3 = 16.67 and 10 / 3 = 3.33.
+        (
+            four("5 0 0 / 3 5 0"),
+            "picture 3 2\npatches 2 line 2\n1 3 0 5 17 3\n2 1 3 2 0 10\n",
+        ),
+        // 670 / 25 = 26.8 and 340 / 25 = 13.6.
+        (
+            four("0 0 0 0 0 0 0 / 0 0 0 0 0 0 0 / 0 0 0 0 0 0 5 / 0 0 0 0 0 5 3"),
+            "picture 7 4\npatches 2 line 2\n1 25 0 5 27 14\n2 1 3 2 60 30\n",
+        ),
+        // 1710 / 20 = 85.5 and 10 / 20 = 0.5: a half up and a half to 0.
+        (
+            four(
+                "0 0 0 0 0 0 0 0 0 0 0 0 0 0 0 0 0 0 0 / \
+                 0 5 5 5 5 5 5 5 5 5 5 5 5 5 5 5 5 5 5 / \
+                 5 3 3 3 3 3 3 3 3 3 3 3 3 3 3 3 3 3 3",
+            ),
+            "picture 19 3\npatches 2 line 19\n1 20 0 5 86 0\n2 18 3 2 95 20\n",
+        ),
+    ]
+}
+
+/// A picture of zeros with holds of one pixel at these columns and rows, each
+/// with four pixels of line around it. They lie inside the picture and apart. So
+/// the first patch's sums are those of all places, less 5 times the columns and
+/// 5 times the rows of the holds.
+fn with_spots(width: usize, height: usize, spots: &[(usize, usize)]) -> Picture {
+    let mut pixels = vec![0; width * height];
+    for (column, row) in spots {
+        let place = row * width + column;
+        pixels[place] = 3;
+        for beside in [place - width, place - 1, place + 1, place + width] {
+            pixels[beside] = 5;
+        }
+    }
+    Picture {
+        width,
+        height,
+        pixels,
+        adjacency: Adjacency::Four,
+    }
+}
+
+/// Columns and rows; the columns add up to 78, the rows to 234.
+const EIGHT_SPOTS: [(usize, usize); 8] = [
+    (6, 24),
+    (12, 24),
+    (6, 28),
+    (12, 28),
+    (18, 30),
+    (6, 32),
+    (12, 32),
+    (6, 36),
+];
+
+/// More pictures like those of `centres_from_rows`.
+fn centres_with_spots() -> Vec<Listed> {
+    vec![
+        // 10 (50 - 15) / 20 = 17.5 and 20: a half up.
+        (
+            with_spots(5, 5, &[(3, 2)]),
+            "picture 5 5\npatches 2 line 4\n1 20 0 5 18 20\n2 1 3 2 30 20\n",
+        ),
+        // 20 and 10 (50 - 5) / 20 = 22.5: a half down.
+        (
+            with_spots(5, 5, &[(2, 1)]),
+            "picture 5 5\npatches 2 line 4\n1 20 0 5 20 22\n2 1 3 2 20 10\n",
+        ),
+        // 10 (180 - 10) / 40 = 42.5, a half down, and 10 (90 - 15) / 40 = 18.75.
+        (
+            with_spots(9, 5, &[(2, 3)]),
+            "picture 9 5\npatches 2 line 4\n1 40 0 5 42 19\n2 1 3 2 20 30\n",
+        ),
+        // 10 (31200 - 390) / 1560 = 197.5, a half up, and
+        // 10 (31200 - 1170) / 1560 = 192.5, a half down.
+        (
+            with_spots(40, 40, &EIGHT_SPOTS),
+            "picture 40 40\npatches 9 line 32\n1 1560 0 5 198 192\n\
+             2 1 3 2 60 240\n3 1 3 2 120 240\n4 1 3 2 60 280\n5 1 3 2 120 280\n\
+             6 1 3 2 180 300\n7 1 3 2 60 320\n8 1 3 2 120 320\n9 1 3 2 60 360\n",
+        ),
+    ]
+}
+
+/// Pictures whose centres are rounded, and their hold lists.
+pub fn centres() -> Vec<Listed> {
+    [centres_from_rows(), centres_with_spots()].concat()
 }

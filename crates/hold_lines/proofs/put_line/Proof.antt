@@ -4,10 +4,10 @@ use mathlib.Core.List.{List, [], _∷_}
 use Prim.Native.Nat.{ℕ, _+_, _≤_, _<_}
 use native.Mathlib.Omega.{arith}
 use lib.ListN.{length}
-use Rattle.picture.specs.Patches.{centre}
+use Rattle.centres.specs.Centres.{centre}
 use Rattle.text.specs.Decimal.{fields}
 use Rattle.lists.specs.Writing.{Written}
-use Rattle.hold_lines.proofs.Lengths.{line-length, centre-most, line-is}
+use Rattle.hold_lines.proofs.Lengths.{line-length, centre-digits, line-is}
 use borrow.Author.Needs.{needs}
 use Rattle.hold_lines.proofs.put_line.Statement.{statement}
 use Rattle.hold_lines.proofs.put_line.Tie as tie
@@ -67,8 +67,8 @@ short c =
     let hx : x < 100000 = omega arith in
     let hy : y < 100000 = omega arith in
     let hz : z < 100000 = omega arith in
-    let hc : column .result < 1000000 = omega (arith, column .ensures, centre-most (cs .result) x (omega arith)) in
-    let hr : row .result < 1000000 = omega (arith, row .ensures, centre-most (rs .result) x (omega arith)) in
+    let hc : column .result < 1000000 = omega (arith, column .ensures, centre-digits (cs .result) x (omega arith)) in
+    let hr : row .result < 1000000 = omega (arith, row .ensures, centre-digits (rs .result) x (omega arith)) in
     line-length (s .args .i + 1) x y z (column .result) (row .result) ha hx hy hz hc hr
 
 put-fields-requires : tie.Need-put-fields-requires

@@ -1,0 +1,2 @@
+-- The centre of a patch in tenths.
+pub mod Centres
