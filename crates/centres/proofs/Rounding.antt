@@ -7,8 +7,12 @@ use native.Mathlib.Omega.{arith}
 use lib.Dec.{eqb, ltb}
 use borrow.Author.Tests.{ltb-true, ltb-false, eqb-true, eqb-false}
 use Rattle.lists.proofs.Tests.{on-pick, on-test}
+use Rattle.lists.proofs.Indices.{mem-index}
+use Rattle.picture.specs.Patches.{Patch}
 use Rattle.picture.proofs.Neighbours.{distance-is}
-use Rattle.centres.specs.Centres.{centre, CentreNear, Centres-near, Centres-only}
+use Rattle.topology.proofs.Accepted.{accepted-is}
+use Rattle.topology.proofs.PatchBounds.{size-some}
+use Rattle.centres.specs.Centres.{centre, CentreNear, Centres-near, Centres-only, Patches-near}
 
 -- the lower of the two tenths beside the exact quotient, and twice what is over it
 abbrev lower : ℕ → ℕ → ℕ
@@ -38,10 +42,10 @@ module _ (sum size : ℕ) (some : 1 ≤ size) where
 
   -- the three cases: less than a half over, more than a half, a half
   pub near-below : twice sum size < size → CentreNear sum size (lower sum size)
-  near-below less = lower-near (omega arith) (λ h. absurd (omega arith))
+  near-below less = lower-near (omega arith) (λ h. omega arith)
 
   pub near-above : size < twice sum size → CentreNear sum size (suc (lower sum size))
-  near-above more = upper-near (omega arith) (λ h. absurd (omega arith))
+  near-above more = upper-near (omega arith) (λ h. omega arith)
 
   pub near-even : twice sum size ≡ size → CentreNear sum size (lower sum size + lower sum size % 2)
   near-even half =
@@ -61,7 +65,7 @@ centres-near sum size some =
     (λ e.
     on-pick (CentreNear sum size) (ltb size t)
     (λ g. near-above sum size some (ltb-true size t g))
-    (λ g. let a = ltb-false t size e in let b = ltb-false size t g in near-even sum size some (omega arith)))
+    (λ g. near-even sum size some (le-antisymm (ltb-false size t g) (ltb-false t size e))))
   where
     t : ℕ
     t = twice sum size
@@ -78,7 +82,7 @@ none-less sum size q k some m n =
           let apart = ap (λ (z : ℕ). z * size) g in
           let even = m .half (omega (arith, m .near, n .near)) in
           let also = n .half (omega (arith, m .near, n .near)) in
-          absurd (omega arith)
+          omega arith
       | inr l ↦ omega arith
     ]
 
@@ -87,14 +91,20 @@ centres-only sum size q some n =
     let c = centres-near sum size some in
     le-antisymm (none-less sum size (centre sum size) q some c n) (none-less sum size q (centre sum size) some n c)
 
+pub patches-near : Patches-near
+patches-near p ok q m =
+    let (i, b, e) = mem-index q m in
+    let some = subst (λ (r : Patch). 1 ≤ r .size) e (size-some p (accepted-is p ok) i q b) in
+    (centres-near (q .columns) (q .size) some, centres-near (q .rows) (q .size) some)
+
 -- no centre is more than one above ten times the sum
 pub centre-most : (sum size : ℕ) → centre sum size ≤ suc (10 * sum)
 unfolding centre
 centre-most sum size =
     let d = div-le-self (10 * sum) size in
-    on-pick small (ltb (twice sum size) size) {x = lower sum size}
+    on-pick small (ltb (twice sum size) size)
     (λ e. omega arith)
-    (λ e. on-pick small (ltb size (twice sum size)) {x = suc (lower sum size)} {y = lower sum size + lower sum size % 2} (λ g. omega arith) (λ g. omega arith))
+    (λ e. on-pick small (ltb size (twice sum size)) (λ g. omega arith) (λ g. omega arith))
   where
     small : ℕ → Type 0
     small c = c ≤ suc (10 * sum)

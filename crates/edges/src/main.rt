@@ -192,6 +192,14 @@ fn print_rows() {
     );
 }
 
+// The case of centres at a half: a hold of four pixels, whose centre is 2.5 and 7.5 tenths.
+fn print_halves() {
+    print_whole(
+        b"centres at a half\n",
+        b"P5\n3 3\n255\n\x00\x00\x05\x00\x05\x03\x00\x05\x03",
+    );
+}
+
 // The case of a least size as the argument, with a picture of two sides.
 fn print_size(size: u32, w: u32, h: u32)
     requires { ⌜ (size < 100000) × (w ≤ 40) × (h ≤ 40) ⌝ }
@@ -301,14 +309,6 @@ fn print_handbooks() {
     print_numbered(b"refused ", touch_refusal(5, 5));
 }
 
-// The case of centres at a half: a hold of four pixels, whose centre is 2.5 and 7.5 tenths.
-fn print_halves() {
-    print_whole(
-        b"centres at a half\n",
-        b"P5\n3 3\n255\n\x00\x00\x05\x00\x05\x03\x00\x05\x03",
-    );
-}
-
 fn main() {
     print_heights(0);
     print_heights(1);
@@ -326,7 +326,7 @@ fn main() {
     print_bytes(4097);
     print_comments();
     print_rows();
+    print_halves();
     print_arguments();
     print_handbooks();
-    print_halves();
 }

@@ -33,10 +33,6 @@ h3Text =
     -- 2 2 0 4 35 0
     50 ∷ 32 ∷ 50 ∷ 32 ∷ 48 ∷ 32 ∷ 52 ∷ 32 ∷ 51 ∷ 53 ∷ 32 ∷ 48 ∷ 10 ∷ []
 
-pub worked-text : programText 1 [] h3 ≡ h3Text
-unfolding adjacent componentAt components isBranch nodesAt nodes lowerable best watershed isLeaf patchNodes pass deeper climbOf depthOf patchOf patches patchAt lineCount centre gapEnd digitsAt numberAt endAt walk onPixels onHeader readFile decimal patchList holdList fileFault fileText programText
-worked-text = refl
-
 -- 3 by 3 with largest sample 9: an L of four pixels, whose columns have the sum 1 and whose rows have the sum 3
 abbrev halves : List ℕ
 halves =
@@ -57,9 +53,9 @@ halvesText =
     -- 2 2 3 2 20 15
     50 ∷ 32 ∷ 50 ∷ 32 ∷ 51 ∷ 32 ∷ 50 ∷ 32 ∷ 50 ∷ 48 ∷ 32 ∷ 49 ∷ 53 ∷ 10 ∷ []
 
-pub worked-halves : programText 1 [] halves ≡ halvesText
+pub worked-text : (programText 1 [] h3 ≡ h3Text) × (programText 1 [] halves ≡ halvesText)
 unfolding adjacent componentAt components isBranch nodesAt nodes lowerable best watershed isLeaf patchNodes pass deeper climbOf depthOf patchOf patches patchAt lineCount centre gapEnd digitsAt numberAt endAt walk onPixels onHeader readFile decimal patchList holdList fileFault fileText programText
-worked-halves = refl
+worked-text = (refl, refl)
 
 -- an empty file is refused with number 1
 pub worked-refusal : programText 1 [] [] ≡ 114 ∷ 101 ∷ 102 ∷ 117 ∷ 115 ∷ 101 ∷ 100 ∷ 32 ∷ 49 ∷ 10 ∷ []

@@ -1,27 +1,24 @@
 //! The centre of a patch in tenths: ten times the sum of its columns, or of its
 //! rows, over its size, to the nearest tenth, a half to the even tenth.
 
-use std::cmp::Ordering;
+/// The last column and the last row of a picture of 40 by 40.
+const LAST: usize = 39;
 
-/// The largest centre in tenths, that of a patch in the last of 40 columns.
-#[cfg(test)]
-const LARGEST: usize = 390;
+/// The largest centre, in tenths.
+const LARGEST_CENTRE: usize = 10 * LAST;
 
 /// How far a number of tenths is from the exact quotient, times the size.
-#[cfg(test)]
 fn distance(tenths: usize, sum: usize, size: usize) -> usize {
     (tenths * size).abs_diff(10 * sum)
 }
 
-/// By the letter: of all whole numbers of tenths the nearest to the exact
-/// quotient, of two nearest the even one. The quotient is 0 to 390, so no other
-/// number is nearer than 0 or 390.
-#[cfg(test)]
-fn literal(sum: usize, size: usize) -> usize {
-    let least = (0..=LARGEST)
-        .map(|tenths| distance(tenths, sum, size))
-        .min();
-    let nearest: Vec<usize> = (0..=LARGEST)
+/// Of all whole numbers of tenths the nearest to the exact quotient, of two
+/// nearest the even one. The quotient is 0 to 390, so no other number is nearer
+/// than 0 or 390.
+pub fn tenths(sum: usize, size: usize) -> usize {
+    let all = 0..=LARGEST_CENTRE;
+    let least = all.clone().map(|tenths| distance(tenths, sum, size)).min();
+    let nearest: Vec<usize> = all
         .filter(|tenths| Some(distance(*tenths, sum, size)) == least)
         .collect();
     match nearest[..] {
@@ -32,17 +29,6 @@ fn literal(sum: usize, size: usize) -> usize {
     }
 }
 
-/// The same by one division.
-pub fn quick(sum: usize, size: usize) -> usize {
-    let quotient = 10 * sum / size;
-    let remainder = 10 * sum % size;
-    match (2 * remainder).cmp(&size) {
-        Ordering::Less => quotient,
-        Ordering::Equal => quotient + quotient % 2,
-        Ordering::Greater => quotient + 1,
-    }
-}
-
 #[cfg(test)]
 mod tests {
     use super::*;
@@ -50,11 +36,13 @@ mod tests {
     /// The pixels of a 40 by 40 picture.
     const MOST_PIXELS: usize = 1600;
 
-    /// Asserts that both ways give these tenths for a sum over a size.
+    /// How many halves of each direction the sums below must have at least.
+    const MANY_HALVES: usize = 1000;
+
+    /// Asserts the tenths of a sum over a size, for each entry of a table.
     fn assert_centres(table: &[(usize, usize, usize)]) {
-        for (sum, size, tenths) in table {
-            assert_eq!(literal(*sum, *size), *tenths, "{} over {}", sum, size);
-            assert_eq!(quick(*sum, *size), *tenths, "{} over {}", sum, size);
+        for (sum, size, expected) in table {
+            assert_eq!(tenths(*sum, *size), *expected, "{} over {}", sum, size);
         }
     }
 
@@ -105,8 +93,8 @@ mod tests {
     /// Sums for a size: the least, the largest and, for every 13th tenth, those
     /// around the half above it.
     fn sums(size: usize) -> Vec<usize> {
-        let largest = 39 * size;
-        let around = (0..LARGEST).step_by(13).flat_map(|tenths| {
+        let largest = LAST * size;
+        let around = (0..LARGEST_CENTRE).step_by(13).flat_map(|tenths| {
             let half = (2 * tenths + 1) * size / 20;
             [half.saturating_sub(1), half, half + 1]
         });
@@ -116,36 +104,6 @@ mod tests {
             .collect()
     }
 
-    #[test]
-    fn literal_and_quick_agree_for_every_size() {
-        for size in 1..=MOST_PIXELS {
-            for sum in sums(size) {
-                assert_eq!(
-                    quick(sum, size),
-                    literal(sum, size),
-                    "{} over {}",
-                    sum,
-                    size
-                );
-            }
-        }
-    }
-
-    #[test]
-    fn literal_and_quick_agree_for_every_sum_of_small_sizes() {
-        for size in 1..=40 {
-            for sum in 0..=39 * size {
-                assert_eq!(
-                    quick(sum, size),
-                    literal(sum, size),
-                    "{} over {}",
-                    sum,
-                    size
-                );
-            }
-        }
-    }
-
     /// Twice the distance from the exact quotient is at most one tenth, and one
     /// tenth at an even number of tenths only; all times the size.
     #[test]
@@ -153,12 +111,12 @@ mod tests {
         let (mut halves_down, mut halves_up) = (0, 0);
         for size in 1..=MOST_PIXELS {
             for sum in sums(size) {
-                let tenths = quick(sum, size);
-                let twice = 2 * distance(tenths, sum, size);
+                let centre = tenths(sum, size);
+                let twice = 2 * distance(centre, sum, size);
                 assert!(twice <= size, "{} over {}", sum, size);
                 if twice == size {
-                    assert_eq!(tenths % 2, 0, "{} over {}", sum, size);
-                    if tenths * size > 10 * sum {
+                    assert_eq!(centre % 2, 0, "{} over {}", sum, size);
+                    if centre * size > 10 * sum {
                         halves_up += 1;
                     } else {
                         halves_down += 1;
@@ -166,6 +124,6 @@ mod tests {
                 }
             }
         }
-        assert!(halves_down >= 1000 && halves_up >= 1000);
+        assert!(halves_down >= MANY_HALVES && halves_up >= MANY_HALVES);
     }
 }

@@ -53,11 +53,11 @@ fn files(count: usize) -> Vec<(String, Vec<u8>)> {
     for (index, file) in files_of_depths().into_iter().enumerate() {
         files.push((format!("depths {}", index), file));
     }
-    let mut random = Random::new(20_001);
-    files.extend((0..count).map(|index| generated_file(&mut random, index)));
     for (index, (picture, _)) in worked::centres().iter().enumerate() {
         files.push((format!("centres {}", index), worked::file_of(picture)));
     }
+    let mut random = Random::new(20_001);
+    files.extend((0..count).map(|index| generated_file(&mut random, index)));
     files
 }
 

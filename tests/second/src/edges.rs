@@ -1,9 +1,9 @@
 //! The edge cases: for each one a name line and what `holds` prints; then some
-//! of the handbook, with a line of patches or of a refusal; then one of `holds`
-//! with centres at a half.
+//! of the handbook, with a line of patches or of a refusal.
 
 use crate::holds::Run;
 use crate::question::{touch_query_of, Call, Question};
+use crate::worked::{centres, file_of};
 
 /// Pixel number `index` of an edge file.
 fn edge_pixel(index: usize, largest: usize) -> u8 {
@@ -118,6 +118,8 @@ fn cases_of_files() -> Vec<(String, Vec<u8>)> {
     }
     cases.extend(cases_of_comments());
     cases.extend(ROWS.iter().map(|row| case_of_row(row)));
+    let (halves, _) = &centres()[0];
+    cases.push(("centres at a half".to_string(), file_of(halves)));
     cases
 }
 
@@ -141,7 +143,7 @@ fn cases_of_arguments() -> Vec<(&'static str, &'static [&'static str], Vec<u8>)>
     ]
 }
 
-/// The edge cases of `holds` that come before those of the handbook, in order.
+/// All edge cases of `holds`, in order.
 pub fn edge_cases() -> Vec<Run> {
     let without = cases_of_files().into_iter().map(|(name, input)| Run {
         name,
@@ -191,30 +193,16 @@ fn text_of_touches(handbook: u32, adjacency: u32) -> String {
     patches.join(" ") + "\n"
 }
 
-/// The edge case of centres, which comes last. The first patch has 4 pixels, and
-/// its exact centre is 2.5 and 7.5 tenths.
-fn case_of_halves() -> Run {
-    Run {
-        name: "centres at a half".to_string(),
-        arguments: Vec::new(),
-        input: b"P5\n3 3\n255\n\x00\x00\x05\x00\x05\x03\x00\x05\x03".to_vec(),
-    }
-}
-
-/// The name line and what `holds` prints.
-fn text_of_run(run: Run) -> String {
-    format!("{}\n{}", run.name, run.text())
-}
-
 pub fn text() -> String {
-    let of_holds = edge_cases().into_iter().map(text_of_run);
+    let of_holds = edge_cases()
+        .into_iter()
+        .map(|run| format!("{}\n{}", run.name, run.text()));
     let of_handbooks = CASES_OF_HANDBOOKS
         .iter()
         .map(|(name, handbook, adjacency)| {
             format!("{}\n{}", name, text_of_touches(*handbook, *adjacency))
         });
-    let last = text_of_run(case_of_halves());
-    of_holds.chain(of_handbooks).chain([last]).collect()
+    of_holds.chain(of_handbooks).collect()
 }
 
 #[cfg(test)]
@@ -288,6 +276,12 @@ mod tests {
     }
 
     #[test]
+    fn edge_of_centres() {
+        let (_, expected) = centres()[0];
+        assert_eq!(text_of("centres at a half"), expected);
+    }
+
+    #[test]
     fn edges_of_arguments() {
         for (name, number) in [
             ("size 0", 13),
@@ -309,15 +303,13 @@ mod tests {
     }
 
     #[test]
-    fn edges_of_handbooks_and_of_centres() {
+    fn edges_of_handbooks() {
         let expected = "handbook 3\nrefused 14\n\
                         handbook 4\n1 0 2 0 3\n\
                         handbook 5\n1 1 2 1 3\n\
                         handbook 6\nrefused 14\n\
                         handbook 3 adjacency 5\nrefused 14\n\
-                        handbook 5 adjacency 5\nrefused 7\n\
-                        centres at a half\npicture 3 3\npatches 2 line 3\n\
-                        1 4 0 5 2 8\n2 2 3 2 20 15\n";
+                        handbook 5 adjacency 5\nrefused 7\n";
         assert!(text().ends_with(&format!("size 0 bytes 4097\nrefused 12\n{}", expected)));
         assert!(edge_cases()
             .iter()

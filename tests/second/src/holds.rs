@@ -73,8 +73,8 @@ fn list(picture: &Picture) -> String {
             patch.size,
             patch.height,
             patch.depth,
-            centre::quick(patch.column_sum, patch.size),
-            centre::quick(patch.row_sum, patch.size)
+            centre::tenths(patch.column_sum, patch.size),
+            centre::tenths(patch.row_sum, patch.size)
         );
     }
     text
