@@ -65,7 +65,7 @@ centres-near sum size some =
     (λ e.
     on-pick (CentreNear sum size) (ltb size t)
     (λ g. near-above sum size some (ltb-true size t g))
-    (λ g. near-even sum size some (le-antisymm (ltb-false size t g) (ltb-false t size e))))
+    (λ g. subst (CentreNear sum size) (omega arith) (near-even sum size some (le-antisymm (ltb-false size t g) (ltb-false t size e)))))
   where
     t : ℕ
     t = twice sum size

@@ -1,8 +1,6 @@
 -- `centres::centre` meets its contract: each return is one case of rounding.
-use mathlib.Core.Path.{_∙_}
 use Prim.Native.Nat.{_*_}
 use native.Mathlib.Nat.{div-le-self, mod-le, le-antisymm}
-use native.Mathlib.Numerals.{add-one}
 use native.Mathlib.Omega.{arith}
 use borrow.Author.Needs.{needs}
 use Rattle.centres.proofs.Rounding.{near-below, near-above, near-even, centres-only}
@@ -25,7 +23,9 @@ mul-twice-2 : tie.Need-mul-twice-2
 mul-twice-2 c = omega (arith, mod-le (10 * c .args .sum) (c .args .size))
 
 returns : tie.Need-returns
-returns c = let some = c .before .pre .0 in centres-only _ _ _ some (near-below _ _ some (c .if1 .taken))
+returns c =
+    let some = c .before .pre .0 in
+    omega (arith, centres-only _ _ _ some (near-below _ _ some (c .if1 .taken)))
 
 add-result : tie.Need-add-result
 add-result c = let s = c .before .before in omega (arith, div-le-self (10 * s .args .sum) (s .args .size))
@@ -33,7 +33,7 @@ add-result c = let s = c .before .before in omega (arith, div-le-self (10 * s .a
 returns-2 : tie.Need-returns-2
 returns-2 c =
     let some = c .before .before .pre .0 in
-    add-one _ ∙ centres-only _ _ _ some (near-above _ _ some (c .if2 .taken))
+    omega (arith, centres-only _ _ _ some (near-above _ _ some (c .if2 .taken)))
 
 add-result-2 : tie.Need-add-result-2
 add-result-2 c = let s = c .before .before in omega (arith, div-le-self (10 * s .args .sum) (s .args .size))
@@ -41,7 +41,7 @@ add-result-2 c = let s = c .before .before in omega (arith, div-le-self (10 * s 
 returns-3 : tie.Need-returns-3
 returns-3 c =
     let some = c .before .before .pre .0 in
-    centres-only _ _ _ some (near-even _ _ some (le-antisymm (c .if2 .left) (c .before .if1 .left)))
+    omega (arith, centres-only _ _ _ some (near-even _ _ some (le-antisymm (c .if2 .left) (c .before .if1 .left))))
 
 pub centre-spec : {M : Type 1} → statement M
 centre-spec =
