@@ -1,5 +1,6 @@
 // The picture that a program is asked for: that of the file that it is handed, as it is or filled with the least size that its
 // argument names; or the refusal.
+#![tactic(auto)]
 use argument::asked_size;
 use faults::size_after;
 use file_text::read_handed;

@@ -1,4 +1,5 @@
 // The calls for firmware in C: numbers, bytes and 16-bit memory as they are lent, the answer as one number.
+#![tactic(auto)]
 ghost use Rattle.picture.specs.Pictures.{picture_of};
 ghost use Rattle.board.specs.Calls.{LabelsSay, LowerableSays, WatershedSays, FillSays, QuerySays, TouchSays};
 ghost use Rattle.board.specs.Trees.{TreeSays, CheckSays, PassSays};

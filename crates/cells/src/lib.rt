@@ -1,4 +1,6 @@
 // Memory of 16-bit cells: a cell or a pixel as a number, filling, clearing, copying.
+#![tactic(auto)]
+
 ghost use Rattle.std.specs.Prelude.{◌≡◌, ◌+◌, ◌≤◌, length, replicate};
 ghost use Rattle.lists.specs.Lists.{over};
 ghost use Rattle.lists.specs.Blocks.{Filled, Copied};

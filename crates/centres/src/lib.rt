@@ -1,4 +1,5 @@
 // The centre of a patch in tenths.
+#![tactic(auto)]
 ghost use Rattle.std.specs.Prelude.{◌≡◌, ◌≤◌};
 ghost use Rattle.centres.specs.Centres.{centre};
 

@@ -1,4 +1,5 @@
 // The figures of a picture's holds: the patches of its watershed under adjacency 4.
+#![tactic(auto)]
 ghost use mathlib.Core.Path.{◌≡◌};
 ghost use mathlib.Core.Bool.{true};
 ghost use Prim.Native.Nat.{◌*◌};

@@ -1,4 +1,5 @@
 // The text for a whole file: its refusal, or the hold list of the picture that is asked for.
+#![tactic(auto)]
 ghost use Rattle.std.specs.Prelude.{◌≡◌, true, ◌*◌, ◌≤◌, ◌<◌, length, take};
 ghost use Rattle.lists.specs.Writing.{Written};
 ghost use Rattle.picture.specs.Pictures.{is_picture, picture_of};

@@ -1,1 +1,2 @@
 // No code: the laws behind floods, labels and minima, in proofs/.
+#![tactic(auto)]

@@ -14,7 +14,8 @@ and_left false b e = e
 
 pub and_right : (a b : Bool) → (a && b) ≡ true → b ≡ true
 and_right true b e = e
-and_right false b e = let z : false ≡ true = e in elim b [ true ↦ refl | false ↦ z ]
+and_right false true e = refl
+and_right false false e = e
 
 pub and_both : {a b : Bool} → a ≡ true → b ≡ true → (a && b) ≡ true
 and_both p q = rw (p, q)

@@ -1,1 +1,2 @@
 // No code: functions on lists in specs/, laws of tests and lists in proofs/.
+#![tactic(auto)]

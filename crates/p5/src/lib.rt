@@ -1,4 +1,5 @@
 // Reading one P5 file.
+#![tactic(auto)]
 pub mod characters;
 pub mod field;
 pub mod file;

@@ -1,4 +1,5 @@
 // Pictures: the definitions are in specs/, and here the step that they share with the code.
+#![tactic(auto)]
 
 // A step to a neighbour.
 #[derive(Drop)]

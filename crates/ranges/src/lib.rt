@@ -1,4 +1,5 @@
 // Numbers in a range or one of two, the lesser of two, and the sides of a picture.
+#![tactic(auto)]
 ghost use Rattle.std.specs.Prelude.{◌≡◌, ◌&&◌, ◌||◌, min, eqb, leb};
 ghost use Rattle.picture.specs.Pictures.{side_fits};
 

@@ -1,4 +1,5 @@
 // The answer for a file as one record.
+#![tactic(auto)]
 ghost use Rattle.reading.specs.Reads.{ReadIs, RefusedRead, ReadSays};
 
 use p5::file::Outcome;

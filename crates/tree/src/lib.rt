@@ -1,4 +1,5 @@
 // The component tree.
+#![tactic(auto)]
 pub mod buckets;
 pub mod build;
 pub mod joins;
