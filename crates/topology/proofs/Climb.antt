@@ -25,12 +25,12 @@ pub data Up (P : ℕ → ℕ) (m c : ℕ) : ℕ → Type 0 where
   rise : {a : ℕ} → a < m → P a < m → Up P m c (P a) → Up P m c a
 
 module _ {P : ℕ → ℕ} {m : ℕ} where
-  pub up-trans : {a b c : ℕ} → Up P m c b → Up P m b a → Up P m c a
+  pub up-trans : {b c a : ℕ} → Up P m c b → Up P m b a → Up P m c a
   up-trans u stay = u
   up-trans u (rise h f v) = rise h f (up-trans u v)
 
   -- of two ancestors of one node, one is the other or lies above it
-  pub up-chain : {a c d : ℕ} → Up P m c a → Up P m d a → Up P m c d ⊎ Up P m d c
+  pub up-chain : {c d a : ℕ} → Up P m c a → Up P m d a → Up P m c d ⊎ Up P m d c
   up-chain stay v = inr v
   up-chain (rise h f u) stay = inl (rise h f u)
   up-chain (rise h f u) (rise g e v) = up-chain u v
