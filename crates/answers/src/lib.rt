@@ -8,7 +8,7 @@ ghost use Rattle.answers.specs.Steps.{IsRefusal, IsValue, Finished};
 use cells::clear;
 
 // The number of a refusal, or 0 with the number of components, nodes or patches, the pass, 1 for yes, or 0 where nothing is counted.
-#[derive(Drop)]
+#[derive(Clone, Copy)]
 pub struct Answer {
     pub number: u8,
     pub value: u32,

@@ -10,7 +10,7 @@ use answers::clear_work;
 use patches::cores::touch_core;
 
 // Where a place lies: on the line, or in the patch of a number.
-#[derive(Drop)]
+#[derive(Clone, Copy)]
 pub enum Ground {
     Line,
     Patch(u16),
@@ -27,7 +27,7 @@ pub fn patch_number(ground: Ground) -> u16
 }
 
 // The number of a refusal, or 0 with the pixel's value and where it lies.
-#[derive(Drop)]
+#[derive(Clone, Copy)]
 pub struct Queried {
     pub number: u8,
     pub value: u8,

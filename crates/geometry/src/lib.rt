@@ -1,6 +1,7 @@
 // The neighbours of a place, from a table of eight steps. Columns, rows and places have 32 bits inside: a 64-bit one takes two registers of
 // the controller, and a library function for each product and quotient.
 #![tactic(auto)]
+
 ghost use Rattle.std.specs.Prelude.{◌≡◌, true, ◌&&◌, [], ◌∷◌, ◌+◌, ◌-◌, ◌*◌, ◌≤◌, ◌<◌, leb, length, set};
 ghost use Rattle.lists.specs.Writing.{Written};
 ghost use Rattle.picture.specs.Geometry.{plus_one, reached, neighbours_of};

@@ -1,2 +1,3 @@
 -- The text of the hold list.
 pub mod HoldText
+pub mod Steps

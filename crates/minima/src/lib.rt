@@ -16,7 +16,7 @@ const NEW: u16 = 65535;
 const BOTTOM: u16 = 65534;
 
 // A stack whose places are linked in the cells: its top, its height, and whether a lower neighbour was seen.
-#[derive(Drop)]
+#[derive(Clone, Copy)]
 pub struct Stack {
     pub top: u16,
     pub height: usize,

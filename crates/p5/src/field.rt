@@ -7,7 +7,7 @@ ghost use Rattle.p5.specs.Steps.{field_end};
 use crate::characters::{ends_line, is_digit, is_white, white_at};
 
 // A number with the position after it, or the unfit position.
-#[derive(Drop)]
+#[derive(Clone, Copy)]
 pub enum Field {
     Number(u32, usize),
     Unfit(usize),

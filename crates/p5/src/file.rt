@@ -11,7 +11,7 @@ use ranges::sides_fit;
 pub const P5: [u8; 2] = *b"P5";
 
 // An accepted file with its header, or why the file is refused.
-#[derive(Drop)]
+#[derive(Clone, Copy)]
 pub enum Outcome {
     Accepted(Header),
     NotP5,

@@ -8,7 +8,7 @@ use crate::field::{Field, field_end};
 use crate::reader::Reader;
 
 // The numbers of a header, and where the pixels begin.
-#[derive(Drop)]
+#[derive(Clone, Copy)]
 pub struct Header {
     pub width: u32,
     pub height: u32,
@@ -17,7 +17,7 @@ pub struct Header {
 }
 
 // A whole header, or the unfit position where the walk stopped.
-#[derive(Drop)]
+#[derive(Clone, Copy)]
 pub enum Walk {
     Walked(Header),
     Stopped(usize),

@@ -6,7 +6,7 @@ use crate::field::{Field, number_at};
 use crate::header::{Walk, header_end, stopped};
 
 // A file and a position in it.
-#[derive(Drop)]
+#[derive(Clone, Copy)]
 pub struct Reader<'a> {
     pub file: &'a [u8],
     pub at: usize,

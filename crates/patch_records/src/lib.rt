@@ -6,7 +6,7 @@ ghost use Rattle.patch_records.specs.Records.{Entry, Entries, record_at, records
 
 // The number of a patch from 1, its size in pixels, its height, its depth, and the sums of its columns and of its rows.
 // A sum is at most 31,200, that of a patch of 40 by 40 places.
-#[derive(Drop)]
+#[derive(Clone, Copy)]
 pub struct Patch {
     pub number: u16,
     pub size: u16,

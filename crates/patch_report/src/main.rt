@@ -20,7 +20,7 @@ const ENTRIES_A_PIXEL: u32 = 5;
 const TOO_LONG: u32 = 41;
 
 // What a call answers, and the list whose first records were lent to it.
-#[derive(Drop)]
+#[derive(Clone, Copy)]
 struct Listed {
     answer: Answer,
     list: [Patch; 801],

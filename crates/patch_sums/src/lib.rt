@@ -7,7 +7,7 @@ use cells::{fill, wide};
 
 // Places of one row and one patch, with none of another patch between them: the number, how many there are, the sum of their columns.
 // It is stored as a whole, since each store waits for the one before it.
-#[derive(Drop)]
+#[derive(Clone, Copy)]
 pub struct Run {
     pub number: usize,
     pub size: u16,

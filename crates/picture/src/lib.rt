@@ -2,7 +2,7 @@
 #![tactic(auto)]
 
 // A step to a neighbour.
-#[derive(Drop)]
+#[derive(Clone, Copy)]
 pub struct Step {
     pub column: i8,
     pub row: i8,

@@ -1,5 +1,6 @@
 // Numbers in a range or one of two, the lesser of two, and the sides of a picture.
 #![tactic(auto)]
+
 ghost use Rattle.std.specs.Prelude.{◌≡◌, ◌&&◌, ◌||◌, min, eqb, leb};
 ghost use Rattle.picture.specs.Pictures.{side_fits};
 

@@ -5,7 +5,7 @@ ghost use Rattle.reading.specs.Reads.{ReadIs, RefusedRead, ReadSays};
 use p5::file::Outcome;
 
 // The number of a refusal, or 0, with the refusal's place; of an accepted file the sides, the largest sample and the offset of the pixels.
-#[derive(Drop)]
+#[derive(Clone, Copy)]
 pub struct Read {
     pub number: u8,
     pub place: usize,

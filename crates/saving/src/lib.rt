@@ -17,7 +17,7 @@ use text::{put, put_bytes, put_fields};
 const HEADER_MOST: usize = 13;
 
 // The number of a refusal, of 6 with the first place above the largest sample; or 0 with the count of bytes written.
-#[derive(Drop)]
+#[derive(Clone, Copy)]
 pub struct Saved {
     pub number: u8,
     pub place: u16,

@@ -1,5 +1,6 @@
 // Numbers and bytes written as text.
 #![tactic(auto)]
+
 ghost use Rattle.std.specs.Prelude.{[], ◌∷◌, ◌++◌, suc, ◌+◌, ◌<◌, ◌≤◌, length};
 ghost use Rattle.text.specs.Decimal.{decimal, fields};
 ghost use Rattle.text.specs.Little.{little_endian};
