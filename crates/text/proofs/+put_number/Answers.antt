@@ -1,0 +1,28 @@
+-- The digits but the last, then the last.
+use native.Mathlib.Omega.{arith}
+use Prim.Native.Nat.{◌<◌, ◌≤◌}
+use Rattle.lists.proofs.Writings.{written-length}
+use Rattle.text.proofs.NumbersWritten.{number-one, number_more, number-room, number-some, number-fewer}
+use Rattle.text.proofs.+put_number.Goals as goal
+
+pub put-requires : goal.put-requires
+put-requires t c =
+    let l = number-some c.args.n c.if-n-lt10.true in
+    omega arith
+
+pub returns-then-n-lt10 : goal.returns-then-n-lt10
+returns-then-n-lt10 t c = number-one c.args.n c.if-n-lt10.true c.put.ensures
+
+pub put_number-next-requires : goal.put_number-next-requires
+put_number-next-requires t c = let l = number-fewer c.args.n in (omega arith, omega arith)
+
+pub put-requires-2 : goal.put-requires-2
+put-requires-2 t c =
+    let l = number-room c.args.n c.if-n-lt10.false in
+    let w = c.put_number-next.ensures in
+    let e = w.end in
+    let k = written-length (omega arith) w in
+    omega arith
+
+pub returns : goal.returns
+returns t c = number_more c.args.n (omega arith) (omega arith) c.put_number-next.ensures c.put-2.ensures
