@@ -1,5 +1,6 @@
 // The fault of a call's arguments, from numbers and lengths alone; 0 for none.
 #![tactic(auto)]
+
 use crate::picture_fault::picture_fault;
 pub use crate::picture_fault::sides_fault;
 use ranges::{either, lesser};

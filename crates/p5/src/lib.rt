@@ -1,5 +1,6 @@
 // Reading one P5 file.
 #![tactic(auto)]
+
 pub mod characters;
 pub mod field;
 pub mod file;

@@ -1,5 +1,6 @@
 // 16-bit entries packed in bytes, two bytes an entry, the lowest first.
 #![tactic(auto)]
+
 ghost use Rattle.std.specs.Prelude.{◌≡◌, ◌+◌, ◌*◌, ◌≤◌, length, take};
 ghost use Rattle.lists.specs.Lists.{over};
 ghost use Rattle.packing.specs.Packing.{entries, packed};

@@ -1,5 +1,6 @@
 // Records of patches in a lent list, from their figures in five blocks of n 16-bit entries: sizes, column sums, row sums, depths, heights.
 #![tactic(auto)]
+
 ghost use Rattle.std.specs.Prelude.{◌≡◌, ◌≤◌, length};
 ghost use Rattle.lists.specs.Lists.{over};
 ghost use Rattle.patch_records.specs.Records.{Entry, Entries, record_at, records};
