@@ -9,7 +9,7 @@ use native.Mathlib.Omega.{arith}
 use lib.ListN.{length, get_or, set, length-set}
 use lib.Seq.{get_or-set_same, get_or-set_other}
 use Rattle.picture.specs.Pictures.{Picture, places, value_at}
-use Rattle.picture.specs.Trees.{nodes, map_of}
+use Rattle.picture.specs.Trees.{map_of}
 use Rattle.topology.proofs.Accepted.{Accepted, places-bound}
 use Rattle.topology.proofs.Descent.{under, map-under}
 use Rattle.tree_laws.proofs.Levels.{Upto, upto_before, upto_all, upto_next}

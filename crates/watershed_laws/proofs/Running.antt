@@ -18,7 +18,7 @@ use Rattle.topology.proofs.Keeping.{Lowers, Fallen}
 use Rattle.topology.proofs.Adjacency.{Adj, adj-sym, adj-dec}
 use Rattle.topology.proofs.Bridge.{lowerable-above, lowerable-lowers, lowers-lowerable}
 use Rattle.topology.proofs.Climb.{Meet, meet-same}
-use Rattle.topology.proofs.Water.{less, set-fallen}
+use Rattle.topology.proofs.Water.{set-fallen}
 use Rattle.watershed_laws.proofs.Oracle.{Oracle, Stops, Drops, stops-drops, stops-there, drops-lowerable, drops-oracle}
 use Rattle.watershed_laws.proofs.Falls.{First, fall-water}
 use Rattle.watershed_laws.proofs.WinnerTree.{Winner, winner-fallen, candidates}
