@@ -1,5 +1,6 @@
 // The answer of a call, its refusal, and its end: what is the same in every call.
 #![tactic(auto)]
+
 ghost use Rattle.std.specs.Prelude.{◌≡◌, ◌*◌, ◌≤◌, length};
 ghost use Rattle.lists.specs.Lists.{pick};
 ghost use Rattle.answers.specs.Answers.{after_call, cleared};

@@ -52,7 +52,7 @@ module _ (f : List ℕ) (p : ℕ) where
 -- one digit more behind the others
 pub decimal-snoc : (v : ℕ) (s : List ℕ) (b : ℕ) → decimal_from v (s ++ b ∷ []) ≡ decimal_from v s * 10 + (b - 48)
 decimal-snoc v [] b = refl
-decimal-snoc v (a ∷ s) b = decimal-snoc _ s b
+decimal-snoc v (a ∷ s) b = decimal-snoc (v * 10 + (a - 48)) s b
 
 -- digits behind a value of at most l digits
 decimal-from : (v : ℕ) (s : List ℕ) (l : ℕ) → all is_digit s ≡ true → v < 10 ^ l → decimal_from v s < 10 ^ (l + length s)

@@ -1,5 +1,6 @@
 // Union-find in cells: a cell below FIRST_NODE is a parent, a smaller place; one from FIRST_NODE on marks a root with its state.
 #![tactic(auto)]
+
 ghost use Rattle.std.specs.Prelude.{◌≢◌, ◌<◌, ◌≤◌, ◌+◌, ◌*◌, length, get_or};
 ghost use Rattle.tree_laws.proofs.Chains.{Comes};
 ghost use Rattle.tree_laws.proofs.Forests.{Parents, Split, Found, Linked};

@@ -1,5 +1,6 @@
 // The winner tree over the candidates: cell n + x is the leaf of the place x, cell i below n the better of the cells 2 i and 2 i + 1.
 #![tactic(auto)]
+
 ghost use Rattle.std.specs.Prelude.{◌≡◌, ◌⊎◌, ◌+◌, ◌*◌, ◌≤◌, ◌<◌, length, get_or};
 ghost use Rattle.watershed_laws.proofs.WinnerTree.{Better, Candidate, Played};
 ghost use Rattle.watershed_laws.proofs.WinnerSteps.{WinnerReady, Replaying, Assigned, Filling, Building, MadeCandidate, MakingCandidates};

@@ -13,23 +13,21 @@ returns-then-not-begins_p5 c = read-other _ (sym c.begins_p5.ensures ∙ c.if-no
 
 pub returns-in_default : goal.returns-in_default
 returns-in_default c =
-    let told = c.enum_told-1.given in
     let f = c.args.file.now in
-    ap Malformed (c.walk_end.ensures ∙ ap walk_end told.1)
-    ∙ sym (ap (on_walk f) (sym c.walk_header-walk.ensures ∙ told.1))
+    ap Malformed (c.walk_end.ensures ∙ ap walk_end c.in_default.is)
+    ∙ sym (ap (on_walk f) (sym c.walk_header-walk.ensures ∙ c.in_default.is))
     ∙ read-p5 f (sym c.begins_p5.ensures ∙ c.if-not-begins_p5.false)
 
 pub slice_bounds-on_header-count : goal.slice_bounds-on_header-count
-slice_bounds-on_header-count c = offset-within _ (sym c.walk_header-walk.ensures ∙ c.walk-1.given.1)
+slice_bounds-on_header-count c = offset-within _ (sym c.walk_header-walk.ensures ∙ c.in-Walked.is)
 
 pub slice_bounds-on_header-start : goal.slice_bounds-on_header-start
-slice_bounds-on_header-start c = ?
+slice_bounds-on_header-start c = offset-within _ (sym c.walk_header-walk.ensures ∙ c.in-Walked.is)
 
 pub returns : goal.returns
 returns c =
-    let told = c.walk-1.given in
     let f = c.args.file.now in
-    let h = told.0.0 in
+    let h = c.in-Walked.header in
     c.on_header.ensures ∙ ap (on_header h) (take_rest h.offset f)
-    ∙ sym (ap (on_walk f) (sym c.walk_header-walk.ensures ∙ told.1))
+    ∙ sym (ap (on_walk f) (sym c.walk_header-walk.ensures ∙ c.in-Walked.is))
     ∙ read-p5 f (sym c.begins_p5.ensures ∙ c.if-not-begins_p5.false)
