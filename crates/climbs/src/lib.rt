@@ -1,5 +1,6 @@
 // The climb from each leaf of a tree in cells to a leaf of a smaller number, put in the place of the leaf's father.
 #![tactic(auto)]
+
 ghost use Rattle.std.specs.Prelude.{◌≡◌, ◌*◌, ◌≤◌, ◌<◌, length};
 ghost use Rattle.lists.specs.Blocks.{block_entry};
 ghost use Rattle.least_labels.specs.LeastLabels.{FathersRise};

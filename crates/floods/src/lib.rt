@@ -1,5 +1,6 @@
 // The flood of one component of a section.
 #![tactic(auto)]
+
 ghost use Rattle.std.specs.Prelude.{◌≡◌, ◌≢◌, [], ◌*◌, ◌<◌, leb, length};
 ghost use Rattle.picture.specs.Geometry.{neighbours_of};
 ghost use Rattle.picture.proofs.Neighbours.{Placed};

@@ -1,5 +1,6 @@
 // The least labels below the nodes of a tree in cells: each node hands its label to its father.
 #![tactic(auto)]
+
 ghost use Rattle.std.specs.Prelude.{◌≡◌, ◌*◌, ◌≤◌, ◌<◌, length};
 ghost use Rattle.least_labels.specs.LeastLabels.{Handed, LeastLabel};
 

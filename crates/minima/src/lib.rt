@@ -1,5 +1,6 @@
 // The number of minima, by floods of the flat zones, with one cell for each place.
 #![tactic(auto)]
+
 ghost use Rattle.std.specs.Prelude.{◌≡◌, true, ◌≢◌, ◌+◌, ◌*◌, ◌≤◌, ◌<◌, length, get_or};
 ghost use Rattle.picture.specs.Pictures.{is_picture, picture_of};
 ghost use Rattle.picture.proofs.Neighbours.{Placed};

@@ -1,5 +1,6 @@
 // The patch of a place, from the tree: leaves are numbered by first place, and a pixel of its leaf's height is in its patch.
 #![tactic(auto)]
+
 ghost use Rattle.std.specs.Prelude.{◌≡◌, ℕ, ◌+◌, ◌*◌, ◌≤◌, ◌<◌, eqb, length, get_or};
 ghost use Rattle.lists.specs.Lists.{pick};
 ghost use Rattle.patch_numbers.specs.Numbers.{FiveBlocks, Mapped, Mark, Marks, Number, Numbers, Leaves, patch_in};

@@ -1,5 +1,6 @@
 // Sums over the places of each patch: sizes, columns, rows.
 #![tactic(auto)]
+
 ghost use Rattle.std.specs.Prelude.{◌≡◌, ◌+◌, ◌*◌, ◌≤◌, length};
 ghost use Rattle.patch_sums.specs.Sums.{raised, Raisable, terms, SumsRoom, Added, RunAfter, NumberedRows, Sums};
 

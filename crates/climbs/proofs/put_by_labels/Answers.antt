@@ -1,0 +1,23 @@
+-- `climbs::put_by_labels` meets its contract. The invariant: the climbs and labels after the first i nodes; the measure: the nodes left.
+use Prim.Native.Nat.{◌-◌}
+use native.Mathlib.Omega.{arith}
+use Rattle.climbs.proofs.Climbs.{handed-size, handed-leaf, climbs-more}
+use borrow.Author.Rules.{rules}
+use Rattle.climbs.proofs.put_by_labels.Goals as goal
+
+pub put_climb-requires : goal.put_climb-requires
+put_climb-requires c =
+    let h = c.loop-i-test.taken in
+    let i = c.loop-i.inv.1 in (
+      c.pre.0,
+      handed-size _ _ _ _ c.pre.2 c.pre.1 c.pre.3 _ _ _ h i c.hand_up.ensures,
+      omega (arith, c.pre.2),
+      handed-leaf _ _ _ _ c.pre.2 c.pre.1 c.pre.3 _ _ _ h i c.hand_up.ensures,
+    )
+
+pub loop-i-preserved : goal.loop-i-preserved
+loop-i-preserved c =
+    let h = c.loop-i-test.taken in (
+      search rules,
+      climbs-more _ _ _ _ c.pre.2 c.pre.1 c.pre.3 _ _ _ h c.loop-i.inv.1 c.hand_up.ensures c.put_climb.ensures,
+    )

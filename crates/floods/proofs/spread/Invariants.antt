@@ -1,0 +1,13 @@
+-- `floods::spread` meets its contract. The invariant: the edges to the neighbours from index i on are left to follow.
+use Prim.Native.Nat.{◌-◌, ◌≤◌}
+use lib.ListN.{drop}
+use Rattle.picture.specs.Geometry.{neighbours_of}
+use Rattle.picture.specs.Pictures.{picture_of}
+use Rattle.floods.specs.Floods.{Spread}
+use Rattle.floods.proofs.spread.Given as goal
+
+abbrev pub invariant-loop-i : goal.invariant-loop-i
+invariant-loop-i l = (l.i ≤ l.count) × Spread (picture_of l.a l.w l.h l.pixels) l.k l.c l.x (neighbours_of l.a l.w l.h l.x) (drop l.i (neighbours_of l.a l.w l.h l.x)) l.initial.labels l.initial.stack l.top l.labels l.stack l.t
+
+abbrev pub decreases-loop-i : goal.decreases-loop-i
+decreases-loop-i l = l.count - l.i
