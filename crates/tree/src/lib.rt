@@ -1,5 +1,6 @@
 // The component tree.
 #![tactic(auto)]
+
 pub mod buckets;
 pub mod build;
 pub mod joins;
