@@ -1,5 +1,6 @@
 // The pass between two places: the largest of both values and the height of their nodes' nearest common ancestor in a lent tree.
 #![tactic(auto)]
+
 ghost use Rattle.std.specs.Prelude.{◌≡◌, max};
 ghost use Rattle.lent_tree.specs.Passes.{PassReady, PassOf};
 
