@@ -1,5 +1,6 @@
 // The nearest common ancestor of two nodes of a tree, found by the list of fathers.
 #![tactic(auto)]
+
 ghost use Rattle.std.specs.Prelude.{get_or};
 ghost use Rattle.topology.proofs.Climb.{Meet};
 ghost use Rattle.ancestors.specs.Ancestors.{Climbing};

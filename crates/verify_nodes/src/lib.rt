@@ -1,5 +1,6 @@
 // The lent nodes of one height against the new roots, and the lent map against their numbers.
 #![tactic(auto)]
+
 ghost use Rattle.std.specs.Prelude.{◌<◌, ◌≤◌, ◌+◌, length};
 ghost use Rattle.tree_laws.proofs.Forests.{Parents};
 ghost use Rattle.verify_nodes.specs.NodeChecks.{SameHeights, FitAnswer, CountReady, NodesChecked, LentMapReady, MapChecked};

@@ -1,5 +1,6 @@
 // The pixels of one height join the classes; at each link the lent fathers are compared.
 #![tactic(auto)]
+
 ghost use Rattle.std.specs.Prelude.{◌≢◌, ◌<◌, ◌≤◌, ◌+◌, ◌*◌, length, get_or};
 ghost use Rattle.tree_laws.proofs.Marks.{Names};
 ghost use Rattle.tree_laws.proofs.Checks.{Agrees, Joint, EdgeCheckReady, EdgeChecked, Checking};
