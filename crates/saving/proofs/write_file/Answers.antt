@@ -25,18 +25,18 @@ put_header-end-requires c =
 
 pub returns-then-fault-ne0 : goal.returns-then-fault-ne0
 returns-then-fault-ne0 c =
-    save-short ((sym (ap (λ (r : Saved). r.number) (c).content-refusal.ensures) ∙ (c).if1.false)) ((let it : let a = (((c))).args in c.short_after-fault.result ≡ saving_fault a.width a.height a.largest a.pixels.now (length a.out.now) = let a = (((c))).args in c.short_after-fault.ensures ∙ ap (λ (l : ℕ). when (ltb (length a.out.now) l) 9) ((let it : let a = (((c))).args in c.put_header-end.result + length a.pixels.now ≡ length (file_of a.width a.height a.largest a.pixels.now) = let a = (((c))).args in omega (arith, file-length a.width a.height a.largest a.pixels.now, c.put_header-end.ensures.0.end) in it)) ∙ sym (room-fault a.width a.height a.largest a.pixels.now (length a.out.now) ((sym (ap (λ (r : Saved). r.number) (c).content-refusal.ensures) ∙ (c).if1.false))) in it)) c.if-fault-ne0.true c.answer_saving.ensures
+    save-short ((sym (ap (λ (r : Saved). r.number) c.content-refusal.ensures) ∙ c.if1.false)) ((let it : let a = (((c))).args in c.short_after-fault.result ≡ saving_fault a.width a.height a.largest a.pixels.now (length a.out.now) = let a = (((c))).args in c.short_after-fault.ensures ∙ ap (λ (l : ℕ). when (ltb (length a.out.now) l) 9) ((let it : let a = (((c))).args in c.put_header-end.result + length a.pixels.now ≡ length (file_of a.width a.height a.largest a.pixels.now) = let a = (((c))).args in omega (arith, file-length a.width a.height a.largest a.pixels.now, c.put_header-end.ensures.0.end) in it)) ∙ sym (room-fault a.width a.height a.largest a.pixels.now (length a.out.now) ((sym (ap (λ (r : Saved). r.number) c.content-refusal.ensures) ∙ c.if1.false))) in it)) c.if-fault-ne0.true c.answer_saving.ensures
 
 -- a header of 13 bytes and 1,600 pixels: the count fits 16 bits
 pub overflow_cast-count : goal.overflow_cast-count
 overflow_cast-count c =
-    record { fits = omega (arith, c.put_header-end.ensures.1, few-pixels (savable ((sym (ap (λ (r : Saved). r.number) (c).content-refusal.ensures) ∙ (c).if1.false)))) }
+    record { fits = omega (arith, c.put_header-end.ensures.1, few-pixels (savable ((sym (ap (λ (r : Saved). r.number) c.content-refusal.ensures) ∙ c.if1.false)))) }
 
 pub returns : goal.returns
 returns c =
     let a = (((c))).args in
     let header = c.put_header-end.ensures.0 in
-    save-done (sym ((let it : let a = (((c))).args in c.short_after-fault.result ≡ saving_fault a.width a.height a.largest a.pixels.now (length a.out.now) = let a = (((c))).args in c.short_after-fault.ensures ∙ ap (λ (l : ℕ). when (ltb (length a.out.now) l) 9) ((let it : let a = (((c))).args in c.put_header-end.result + length a.pixels.now ≡ length (file_of a.width a.height a.largest a.pixels.now) = let a = (((c))).args in omega (arith, file-length a.width a.height a.largest a.pixels.now, c.put_header-end.ensures.0.end) in it)) ∙ sym (room-fault a.width a.height a.largest a.pixels.now (length a.out.now) ((sym (ap (λ (r : Saved). r.number) (c).content-refusal.ensures) ∙ (c).if1.false))) in it)) ∙ c.if-fault-ne0.false) ((let it : let a = (((c))).args in c.put_header-end.result + length a.pixels.now ≡ length (file_of a.width a.height a.largest a.pixels.now) = let a = (((c))).args in omega (arith, file-length a.width a.height a.largest a.pixels.now, c.put_header-end.ensures.0.end) in it)) c.answer_saving-2.ensures
+    save-done (sym ((let it : let a = (((c))).args in c.short_after-fault.result ≡ saving_fault a.width a.height a.largest a.pixels.now (length a.out.now) = let a = (((c))).args in c.short_after-fault.ensures ∙ ap (λ (l : ℕ). when (ltb (length a.out.now) l) 9) ((let it : let a = (((c))).args in c.put_header-end.result + length a.pixels.now ≡ length (file_of a.width a.height a.largest a.pixels.now) = let a = (((c))).args in omega (arith, file-length a.width a.height a.largest a.pixels.now, c.put_header-end.ensures.0.end) in it)) ∙ sym (room-fault a.width a.height a.largest a.pixels.now (length a.out.now) ((sym (ap (λ (r : Saved). r.number) c.content-refusal.ensures) ∙ c.if1.false))) in it)) ∙ c.if-fault-ne0.false) ((let it : let a = (((c))).args in c.put_header-end.result + length a.pixels.now ≡ length (file_of a.width a.height a.largest a.pixels.now) = let a = (((c))).args in omega (arith, file-length a.width a.height a.largest a.pixels.now, c.put_header-end.ensures.0.end) in it)) c.answer_saving-2.ensures
     (c.put_file.ensures
     ∙ ap (λ (l : List ℕ). over l a.out.now)
     (ap (λ (l : List ℕ). l ++ a.pixels.now) (text-front header) ∙ file-parts a.width a.height a.largest a.pixels.now))
