@@ -1,5 +1,6 @@
 // The centre of a patch in tenths.
 #![tactic(auto)]
+
 ghost use Rattle.std.specs.Prelude.{◌≡◌, ◌≤◌};
 ghost use Rattle.centres.specs.Centres.{centre};
 

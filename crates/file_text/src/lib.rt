@@ -1,5 +1,6 @@
 // A file that a program is handed: refused if it is too long, else read.
 #![tactic(auto)]
+
 ghost use Rattle.file_text.specs.Handed.{HandedSays};
 
 use reading::{Read, read_file, refused};

@@ -1,5 +1,6 @@
 // The answer for a file as one record.
 #![tactic(auto)]
+
 ghost use Rattle.reading.specs.Reads.{ReadIs, RefusedRead, ReadSays};
 
 use p5::file::Outcome;

@@ -1,5 +1,6 @@
 // A picture saved as a P5 file with the shortest header.
 #![tactic(auto)]
+
 ghost use Rattle.std.specs.Prelude.{◌≡◌, ◌++◌, ◌+◌, ◌<◌, ◌≤◌, length};
 ghost use Rattle.lists.specs.Lists.{over};
 ghost use Rattle.lists.specs.Writing.{Written};

@@ -1,5 +1,6 @@
 // The rows of a picture as they are stored, the even ones first and each pixel by its difference from its left neighbour, and the way back.
 #![tactic(auto)]
+
 use answers::{Answer, accepted, refused};
 use faults::{short_after, sides_fault};
 use rows::put_rows;

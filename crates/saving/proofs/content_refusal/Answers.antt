@@ -1,0 +1,53 @@
+-- `saving::content_refusal` meets its contract: each return is one law of the fault.
+use mathlib.Core.Path.{sym, ◌∙◌}
+use mathlib.Core.Bool.{true}
+use Prim.Native.Nat.{◌*◌}
+use native.Mathlib.Omega.{arith}
+use borrow.Author.Tests.{eq-eqb, ne_eqb, eqb-true}
+use lib.ListN.{length}
+use Rattle.p5.specs.Files.{largest_fits, at_most}
+use Rattle.picture.proofs.Sides.{sides-area}
+use Rattle.p5.proofs.Leading.{leading_le}
+use Rattle.saving.proofs.Contents.{fault-sides, fault-largest, fault-count, fault-above, fault-none, content-number, content-above}
+use Rattle.saving.proofs.content_refusal.Goals as goal
+
+pub returns-then-not-sides_fit : goal.returns-then-not-sides_fit
+returns-then-not-sides_fit c =
+    content-number _ _ _ _
+    (fault-sides _ _ _ _ (sym c.sides_fit.ensures ∙ c.if-not-sides_fit.true))
+    (λ z. omega arith) c.answer_saving.ensures
+
+pub returns-then-not-largest_fits : goal.returns-then-not-largest_fits
+returns-then-not-largest_fits c =
+    content-number _ _ _ _
+    (fault-largest _ _ _ _ ((sym c.sides_fit.ensures ∙ c.if-not-sides_fit.false)) (sym c.largest_fits.ensures ∙ c.if-not-largest_fits.true))
+    (λ z. omega arith) c.answer_saving-then-not-largest_fits.ensures
+
+pub returns-then-not-count_fits : goal.returns-then-not-count_fits
+returns-then-not-count_fits c =
+    content-number _ _ _ _
+    (fault-count _ _ _ _ ((sym c.sides_fit.ensures ∙ c.if-not-sides_fit.false)) ((sym c.largest_fits.ensures ∙ c.if-not-largest_fits.false)) (sym c.count_fits.ensures ∙ c.if-not-count_fits.true))
+    (λ z. omega arith) c.answer_saving-then-not-count_fits.ensures
+
+-- a place of at most 1,600 fits 16 bits
+pub overflow_cast-place : goal.overflow_cast-place
+overflow_cast-place c =
+    let a = c.args in
+    let few = sides-area a.width a.height ((sym c.sides_fit.ensures ∙ c.if-not-sides_fit.false)) in
+    let l = leading_le (at_most a.largest) a.pixels.now in
+    record { fits = omega (arith, few, l, eqb-true (length a.pixels.now) (a.width * a.height) ((sym c.count_fits.ensures ∙ c.if-not-count_fits.false)), c.first_above-place.ensures) }
+
+pub returns-then-place-pixels : goal.returns-then-place-pixels
+returns-then-place-pixels c =
+    let place = c.first_above-place.ensures in
+    content-above _ _ _ _
+    (fault-above _ _ _ _ ((sym c.sides_fit.ensures ∙ c.if-not-sides_fit.false)) ((sym c.largest_fits.ensures ∙ c.if-not-largest_fits.false)) ((sym c.count_fits.ensures ∙ c.if-not-count_fits.false))
+    (ne_eqb _ _ (λ e. c.if-place-pixels.true (place ∙ e))))
+    place c.answer_saving-then-place-pixels.ensures
+
+pub returns : goal.returns
+returns c =
+    content-number _ _ _ _
+    (fault-none _ _ _ _ ((sym c.sides_fit.ensures ∙ c.if-not-sides_fit.false)) ((sym c.largest_fits.ensures ∙ c.if-not-largest_fits.false)) ((sym c.count_fits.ensures ∙ c.if-not-count_fits.false))
+    (eq-eqb _ _ (sym c.first_above-place.ensures ∙ c.if-place-pixels.false)))
+    (λ z. omega arith) c.answer_saving-2.ensures
