@@ -3,7 +3,7 @@ use Rattle.picture.specs.Pictures.{picture_of}
 use Rattle.tree_laws.proofs.Decided.{yes, never}
 use Rattle.tree_laws.proofs.Joins.{Edge}
 use Rattle.tree_laws.proofs.PixelChecks.{checked-start, checked-turn, checked-differs, checked-end, checked-pass}
-use Rattle.picture.proofs.Neighbours.{listed_at}
+use Rattle.picture.proofs.Neighbours.{Listed, listed_at}
 use mathlib.Core.Path.{sym, ◌∙◌}
 use native.Mathlib.Omega.{arith}
 use mathlib.Core.Path.{◌≡◌}
@@ -20,6 +20,12 @@ returns-then-value-k c = yes (checked-pass _ _ _ _ _ _ c.requires.checking.0 (λ
 pub loop-i-init : goal.loop-i-init
 loop-i-init c =
     checked-start _ _ _ _ _ _ _ _ c.requires.checking.0 c.requires.checking.1 (sym c.value.ensures ∙ c.if-value-k.false) c.find-root.ensures
+
+-- the neighbour that the loop has come to
+edge :
+    {a w h x r i y : ℕ} {pixels cells near : List ℕ} → Listed (neighbours_of a w h x) cells r near → i < r → y ≡ get_or near i 0 →
+    Edge (picture_of a w h pixels) x i y
+edge l b e = let n = l.count in record { listed = omega arith; is = e ∙ listed_at _ _ _ _ l _ b }
 
 -- the neighbour that the loop has come to
 edge :
