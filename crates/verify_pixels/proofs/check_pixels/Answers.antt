@@ -2,7 +2,6 @@
 use Rattle.tree_laws.proofs.Decided.{yes, never, decided-yes, decided-never}
 use Rattle.tree_laws.proofs.PixelChecks.{checking-end}
 use native.Mathlib.Omega.{arith}
-use Prim.Native.Nat.{◌-◌}
 use Rattle.verify_pixels.proofs.check_pixels.Goals as goal
 
 pub returns-then-not-check_pixel : goal.returns-then-not-check_pixel
