@@ -1,5 +1,6 @@
 // The list of patches before its records are written: the refusal, and the figures in work.
 #![tactic(auto)]
+
 ghost use Rattle.std.specs.Prelude.{◌≡◌, true, ◌*◌, ◌≤◌, length};
 ghost use Rattle.picture.specs.Pictures.{is_picture, picture_of};
 ghost use Rattle.picture.specs.Patches.{patches};
