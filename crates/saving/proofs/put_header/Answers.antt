@@ -10,7 +10,7 @@ put_fields-next-requires c =
     let few = c.requires in
     let letters = c.put_bytes-next.ensures in
     let byte = c.put-next.ensures in
-    (omega arith, sides-room _ _ _ _ few.0 few.1 (omega arith))
+    (omega arith, sides-room _ _ _ _ (omega arith) (omega arith) (omega arith))
 
 -- the sides end at 9 at most
 pub put_fields-requires : goal.put_fields-requires
@@ -18,7 +18,7 @@ put_fields-requires c =
     let few = c.requires in
     let letters = c.put_bytes-next.ensures in
     let byte = c.put-next.ensures in
-    let e = sides-end c.put_fields-next.ensures few.0 few.1 in
+    let e = sides-end c.put_fields-next.ensures (omega arith) (omega arith) in
     (omega arith, omega (arith, one-length 2 c.args.largest few.2))
 
 pub returns : goal.returns
@@ -28,7 +28,7 @@ returns c =
     let byte = c.put-next.ensures in
     let sides = c.put_fields-next.ensures in
     let last = c.put_fields.ensures in
-    let e = sides-end sides few.0 few.1 in (
+    let e = sides-end sides (omega arith) (omega arith) in (
       rw (← header-parts c.args.width c.args.height c.args.largest)
           (written_then (omega arith) (written_then (omega arith) (written_then (omega arith) letters byte) sides) last),
       omega (arith, one-length 2 c.args.largest few.2),

@@ -15,6 +15,6 @@ loop-i-preserved c = rows-turn c.loop-i.invariant c.loop-i-test.true c.put_row.e
 
 pub returns : goal.returns
 returns c =
-    let a = (c).args in
+    let a = c.args in
     rows_end c.loop-i.invariant c.loop-i-test.false
     ∙ ap (λ (l : List ℕ). over l a.out.now) (converted-rows a.back a.w a.h a.bytes.now)
