@@ -1,5 +1,6 @@
 // The figures of patches as lists of numbers, copied from blocks of n entries: sizes, column sums, row sums, depths, heights.
 #![tactic(auto)]
+
 ghost use Rattle.std.specs.Prelude.{◌≡◌, map};
 ghost use Rattle.lists.specs.Lists.{over};
 ghost use Rattle.picture.specs.Pictures.{picture_of};
