@@ -7,17 +7,17 @@ use Rattle.climbs.proofs.put_by_labels.Goals as goal
 
 pub put_climb-requires : goal.put_climb-requires
 put_climb-requires c =
-    let h = c.loop-i-test.taken in
-    let i = c.loop-i.inv.1 in (
-      c.pre.0,
-      handed-size _ _ _ _ c.pre.2 c.pre.1 c.pre.3 _ _ _ h i c.hand_up.ensures,
-      omega (arith, c.pre.2),
-      handed-leaf _ _ _ _ c.pre.2 c.pre.1 c.pre.3 _ _ _ h i c.hand_up.ensures,
+    let h = c.loop-i-test.true in
+    let i = c.loop-i.invariant.1 in (
+      c.requires.0,
+      handed-size _ _ _ _ c.requires.2 c.requires.1 c.requires.3 _ _ _ h i c.hand_up.ensures,
+      omega (arith, c.requires.2),
+      handed-leaf _ _ _ _ c.requires.2 c.requires.1 c.requires.3 _ _ _ h i c.hand_up.ensures,
     )
 
 pub loop-i-preserved : goal.loop-i-preserved
 loop-i-preserved c =
-    let h = c.loop-i-test.taken in (
+    let h = c.loop-i-test.true in (
       search rules,
-      climbs-more _ _ _ _ c.pre.2 c.pre.1 c.pre.3 _ _ _ h c.loop-i.inv.1 c.hand_up.ensures c.put_climb.ensures,
+      climbs-more _ _ _ _ c.requires.2 c.requires.1 c.requires.3 _ _ _ h c.loop-i.invariant.1 c.hand_up.ensures c.put_climb.ensures,
     )
