@@ -1,5 +1,4 @@
 -- `climbs::put_by_labels` meets its contract. The invariant: the climbs and labels after the first i nodes; the measure: the nodes left.
-use Prim.Native.Nat.{◌-◌}
 use native.Mathlib.Omega.{arith}
 use Rattle.climbs.proofs.Climbs.{handed-size, handed-leaf, climbs-more}
 use borrow.Author.Rules.{rules}

@@ -1,5 +1,5 @@
 -- `floods::flood` meets its contract. The invariant is FloodRun; twice the unmarked places with the stack's height fall.
-use Prim.Native.Nat.{◌+◌, ◌*◌, ◌-◌}
+use Prim.Native.Nat.{◌+◌, ◌*◌}
 use lib.ListN.{set}
 use Rattle.picture.specs.Pictures.{picture_of}
 use Rattle.labelling_laws.proofs.Flood.{unmarked}

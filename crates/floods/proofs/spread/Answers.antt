@@ -1,6 +1,5 @@
 -- `floods::spread` meets its contract. The invariant: the edges to the neighbours from index i on are left to follow.
 use borrow.Author.Rules.{rules}
-use Prim.Native.Nat.{◌-◌}
 use native.Mathlib.Omega.{arith}
 use mathlib.Core.Path.{◌∙◌}
 use Rattle.picture.proofs.Neighbours.{neighbour-at, listed_at}

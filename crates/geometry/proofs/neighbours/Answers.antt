@@ -1,6 +1,5 @@
 -- `geometry::neighbours` meets its contract. The invariant is Front: what stands in front of the cells.
 use mathlib.Core.List.{[], ◌∷◌}
-use Prim.Native.Nat.{◌-◌}
 use borrow.Author.Rules.{rules}
 use Rattle.geometry.specs.Steps.{step_at}
 use Rattle.geometry.proofs.Front.{front-start, front-turn, put-digits}

@@ -1,5 +1,4 @@
 -- `least_labels::least_label` meets its contract. The invariant: the labels of the first i nodes are handed up; the measure: the nodes left before m.
-use Prim.Native.Nat.{◌-◌}
 use Rattle.least_labels.proofs.Labels.{handed-more, handed-least}
 use borrow.Author.Rules.{rules}
 use Rattle.least_labels.proofs.least_label.Goals as goal

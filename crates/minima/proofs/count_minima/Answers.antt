@@ -1,5 +1,4 @@
 -- `minima::count_minima` meets its contract. The invariant is Counting.
-use Prim.Native.Nat.{◌-◌}
 use native.Mathlib.Omega.{arith}
 use borrow.Author.Rules.{rules}
 use Rattle.topology.proofs.Accepted.{accepted-is}

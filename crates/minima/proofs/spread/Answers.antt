@@ -1,6 +1,5 @@
 -- `minima::spread` meets its contract. The invariant: the edges to the neighbours from index i on are left to follow.
 use mathlib.Core.Path.{◌∙◌}
-use Prim.Native.Nat.{◌-◌}
 use native.Mathlib.Omega.{arith}
 use borrow.Author.Rules.{rules}
 use Rattle.picture.proofs.Neighbours.{neighbour-at, listed_at}

@@ -1,5 +1,4 @@
 -- `packing::pack` meets its contract. The invariant: the first i cells are written.
-use Prim.Native.Nat.{◌-◌}
 use native.Mathlib.Omega.{arith}
 use borrow.Author.Rules.{rules}
 use Rattle.packing.proofs.Packed.{packed-next}

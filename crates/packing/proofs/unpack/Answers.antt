@@ -1,5 +1,4 @@
 -- `packing::unpack` meets its contract. The invariant: the first i cells are entries and the others as they were.
-use Prim.Native.Nat.{◌-◌}
 use native.Mathlib.Omega.{arith}
 use lib.ListN.{length-set}
 use borrow.Author.Rules.{rules}

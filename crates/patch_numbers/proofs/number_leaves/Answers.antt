@@ -1,5 +1,4 @@
 -- `patch_numbers::number_leaves` meets its contract. The invariant is Numbers.
-use Prim.Native.Nat.{◌-◌}
 use native.Mathlib.Omega.{arith}
 use borrow.Author.Rules.{rules}
 use Rattle.patch_numbers.proofs.Numbering.{numbers-few, numbers-mapped, numbers_more}

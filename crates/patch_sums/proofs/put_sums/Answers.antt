@@ -1,6 +1,5 @@
 -- `patch_sums::put_sums` meets its contract. The invariant is Sums over the rows so far.
 use mathlib.Core.Path.{sym}
-use Prim.Native.Nat.{◌-◌}
 use native.Mathlib.Nat.{zero-mul}
 use borrow.Author.Rules.{rules}
 use Rattle.patch_sums.proofs.Summing.{sums-start, sums-to}

@@ -1,5 +1,4 @@
 -- `patch_sums::sum_row` meets its contract. The invariant is RowSummed.
-use Prim.Native.Nat.{◌-◌}
 use borrow.Author.Rules.{rules}
 use Rattle.patch_sums.proofs.Summing.{row-few, running-room, running_more}
 use Rattle.patch_sums.proofs.sum_row.Goals as goal

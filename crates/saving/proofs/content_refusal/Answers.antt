@@ -1,11 +1,10 @@
 -- `saving::content_refusal` meets its contract: each return is one law of the fault.
 use mathlib.Core.Path.{sym, ◌∙◌}
-use mathlib.Core.Bool.{true}
 use Prim.Native.Nat.{◌*◌}
 use native.Mathlib.Omega.{arith}
 use borrow.Author.Tests.{eq-eqb, ne_eqb, eqb-true}
 use lib.ListN.{length}
-use Rattle.p5.specs.Files.{largest_fits, at_most}
+use Rattle.p5.specs.Files.{at_most}
 use Rattle.picture.proofs.Sides.{sides-area}
 use Rattle.p5.proofs.Leading.{leading_le}
 use Rattle.saving.proofs.Contents.{fault-sides, fault-largest, fault-count, fault-above, fault-none, content-number, content-above}

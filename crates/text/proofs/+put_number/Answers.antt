@@ -1,6 +1,5 @@
 -- The digits but the last, then the last.
 use native.Mathlib.Omega.{arith}
-use Prim.Native.Nat.{◌<◌, ◌≤◌}
 use Rattle.lists.proofs.Writings.{written-length}
 use Rattle.text.proofs.NumbersWritten.{number-one, number_more, number-room, number-some, number-fewer}
 use Rattle.text.proofs.+put_number.Goals as goal

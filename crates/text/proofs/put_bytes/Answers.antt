@@ -1,5 +1,4 @@
 -- `text::put_bytes` meets its contract. The loop's invariant: the first i bytes are written.
-use Prim.Native.Nat.{◌-◌}
 use native.Mathlib.Omega.{arith}
 use Rattle.lists.proofs.Writings.{written_next}
 use Rattle.text.proofs.put_bytes.Goals as goal

@@ -1,6 +1,5 @@
 -- `text::put_fields` meets its contract. The loop's invariant: the numbers before i are written, each with a space.
 use mathlib.Core.Path.{refl}
-use Prim.Native.Nat.{◌-◌}
 use native.Mathlib.Omega.{arith}
 use borrow.Author.Rules.{rules}
 use Rattle.text.proofs.NumbersWritten.{spaced-more, fields-done, field_room}

@@ -1,7 +1,6 @@
 -- `verify_nodes::check_map` meets its contract.
 use Rattle.verify_nodes.proofs.NodeChecks.{map-ready, map-turn, map-fails, map-end}
 use native.Mathlib.Omega.{arith}
-use Prim.Native.Nat.{◌-◌}
 use Rattle.verify_nodes.proofs.check_map.Goals as goal
 
 pub check_map_one-requires : goal.check_map_one-requires
@@ -9,7 +8,7 @@ check_map_one-requires c =
     let s = c.requires in
     let i = c.loop-x.invariant in
     let b = c.loop-x-test.true in
-    (map-ready _ _ _ _ _ _ s.0 i, b, omega (arith, i.size, s.1.1), omega (arith, i.size, s.1.0))
+    (map-ready _ _ _ _ _ _ s.lent_map_ready i, b, omega (arith, i.size, s.cells_in_bounds.1), omega (arith, i.size, s.cells_in_bounds.0))
 
 pub returns-then-not-check_map_one : goal.returns-then-not-check_map_one
 returns-then-not-check_map_one c =

@@ -2,19 +2,16 @@
 use Rattle.tree_laws.proofs.Decided.{yes, never, decided-yes, decided-never}
 use Rattle.tree_laws.proofs.PixelChecks.{checking-end}
 use native.Mathlib.Omega.{arith}
-use Prim.Native.Nat.{◌-◌}
 use Rattle.verify_pixels.proofs.check_pixels.Goals as goal
 
 pub returns-then-not-check_pixel : goal.returns-then-not-check_pixel
 returns-then-not-check_pixel c =
-    let t = c.check_pixel in
-    never (decided-never c.if-not-check_pixel.true t.ensures)
+    never (decided-never c.if-not-check_pixel.true c.check_pixel.ensures)
 
 pub loop-x-preserved : goal.loop-x-preserved
 loop-x-preserved c =
-    let t = c.check_pixel in
     let i = c.loop-x.invariant in
-    (decided-yes c.if-not-check_pixel.false t.ensures, omega (arith, i.0.classes.size, c.loop-x-test.true))
+    (decided-yes c.if-not-check_pixel.false c.check_pixel.ensures, omega (arith, i.0.classes.size, c.loop-x-test.true))
 
 pub returns : goal.returns
 returns c =

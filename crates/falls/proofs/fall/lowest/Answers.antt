@@ -1,5 +1,4 @@
 -- `falls::fall::lowest` meets its contract. The invariant is Lowest among the neighbours passed.
-use Prim.Native.Nat.{◌-◌}
 use Rattle.watershed_laws.proofs.Stopping.{lowest-turn}
 use borrow.Author.Rules.{rules}
 use Rattle.falls.proofs.fall.lowest.Goals as goal

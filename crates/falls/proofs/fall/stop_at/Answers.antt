@@ -1,5 +1,4 @@
 -- `falls::fall::stop_at` meets its contract. The invariant is Stopped among the neighbours passed.
-use Prim.Native.Nat.{◌-◌}
 use Rattle.watershed_laws.proofs.Stopping.{stop-turn}
 use borrow.Author.Rules.{rules}
 use Rattle.falls.proofs.fall.stop_at.Goals as goal

@@ -1,6 +1,5 @@
 -- `labels::scan::label` meets its contract. The invariant: the scan has come to the place x.
 use borrow.Author.Rules.{rules}
-use Prim.Native.Nat.{◌-◌}
 use native.Mathlib.Omega.{arith}
 use Rattle.picture.specs.Pictures.{picture_of}
 use Rattle.topology.proofs.Accepted.{accepted-is}

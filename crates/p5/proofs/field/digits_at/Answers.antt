@@ -1,7 +1,6 @@
 -- `p5::field::digits_at` meets its contract.
 use mathlib.Core.Path.{sym}
 use mathlib.Core.Path.{◌∙◌}
-use Prim.Native.Nat.{◌-◌}
 use Rattle.p5.specs.Headers.{is_digit}
 use Rattle.p5.proofs.Digits.{digits-turn, digits-small, digits-stop, digits-sixth}
 use Rattle.p5.proofs.Leading.{leading-stop, leading-past}

@@ -1,6 +1,5 @@
 -- `p5::file::on_header` meets its contract.
 use mathlib.Core.Path.{sym}
-use mathlib.Core.Bool.{true}
 use mathlib.Core.Path.{◌∙◌}
 use Rattle.p5.proofs.Answers.{sides-outside, largest-outside, count-differs, count_same}
 use Rattle.p5.proofs.file.on_header.Goals as goal

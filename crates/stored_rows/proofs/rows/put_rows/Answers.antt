@@ -1,7 +1,7 @@
 -- `stored_rows::rows::put_rows` meets its contract. The invariant is RowsBegun: the first i rows are written. The rows that are left fall.
 use mathlib.Core.Path.{ap, ◌∙◌}
 use mathlib.Core.List.{List}
-use Prim.Native.Nat.{ℕ, ◌-◌}
+use Prim.Native.Nat.{ℕ}
 use Rattle.lists.specs.Lists.{over}
 use Rattle.stored_rows.proofs.Conversions.{converted-rows}
 use Rattle.stored_rows.proofs.RowWrites.{rows_start, rows-turn, rows_end}

@@ -1,6 +1,5 @@
 -- `tree::build::resolve_fathers` meets its contract.
 use Rattle.tree_laws.proofs.Resolving.{resolve-bounds, resolve-turn}
-use Prim.Native.Nat.{◌-◌}
 use Rattle.tree.proofs.build.resolve_fathers.Goals as goal
 
 pub resolve_father-requires : goal.resolve_father-requires

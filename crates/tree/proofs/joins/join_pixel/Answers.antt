@@ -4,7 +4,7 @@ use Rattle.tree_laws.proofs.Walks.{joining-start, joining-turn, joining-end}
 use lib.ListN.{get_or}
 use mathlib.Core.Path.{ap, ◌∙◌}
 use native.Mathlib.Omega.{arith}
-use Prim.Native.Nat.{ℕ, ◌-◌, ◌+◌, ◌*◌}
+use Prim.Native.Nat.{ℕ, ◌+◌, ◌*◌}
 use Rattle.tree.proofs.joins.join_pixel.Goals as goal
 
 pub loop-i-init : goal.loop-i-init
@@ -14,7 +14,12 @@ loop-i-init c =
 
 pub loop-i-preserved : goal.loop-i-preserved
 loop-i-preserved c =
-    joining-turn _ _ _ _ _ _ _ _ _ _ _ _ c.loop-i.invariant ((let s = c.neighbours-count.ensures in let b = c.loop-i-test.true in let e = s.count in record { listed = omega arith; is = c.wide.ensures ∙ listed_at _ _ _ _ s _ b })) c.join_edge-root.ensures
+    let s = c.neighbours-count.ensures in
+    let b = c.loop-i-test.true in
+    let e = s.count in
+    joining-turn _ _ _ _ _ _ _ _ _ _ _ _ c.loop-i.invariant
+    (record { listed = omega arith; is = c.wide.ensures ∙ listed_at _ _ _ _ s _ b })
+    c.join_edge-root.ensures
 
 pub returns : goal.returns
 returns c =

@@ -1,21 +1,36 @@
 -- `tree::levels::level` meets its contract.
-use Rattle.tree_laws.proofs.Mapped.{between-list, list-ready, name-ready, name-map, map-from-ready}
+use mathlib.Core.List.{List}
 use mathlib.Core.Path.{refl}
+use Prim.Native.Nat.{ℕ, ◌<◌}
 use native.Mathlib.Omega.{arith}
+use Rattle.picture.specs.Pictures.{Picture, places}
+use Rattle.lists.specs.Blocks.{UntouchedOutside}
+use Rattle.tree_laws.proofs.Chains.{NextOfValue}
+use Rattle.tree_laws.proofs.Walks.{WalkReady}
+use Rattle.tree_laws.proofs.ListWalks.{ListFrom}
+use Rattle.tree_laws.proofs.Mapped.{Between, between-list, list-ready, name-ready, name-map, map-from-ready}
 use Rattle.tree.proofs.levels.level.Goals as goal
 
+-- the pixels have joined: the list of the new roots begins
+begun :
+    {p : Picture} {k c x : ℕ} {l w m v : List ℕ} → Between p k c l w × NextOfValue p k 0 x × (k < 256) →
+    WalkReady p k (places p) m v × UntouchedOutside (places p) (places p) w v → ListFrom p k c c x m v
+begun b e = let low = b.2 in between-list _ _ _ _ _ _ _ _ (omega arith) b.0 b.1 e.0 e.1
+
 pub list_level-d-requires : goal.list_level-d-requires
-list_level-d-requires c =
-    list-ready ((let s = (c).requires in let e = c.join_pixels.ensures in between-list _ _ _ _ _ _ _ _ (omega (arith, s.2)) s.0 s.1 e.0 e.1))
+list_level-d-requires c = list-ready (begun c.requires c.join_pixels.ensures)
 
 pub number_level-requires : goal.number_level-requires
 number_level-requires c =
-    (name-ready ((c.list_level-d.ensures.whole _ _ ((let s = (c).requires in let e = c.join_pixels.ensures in between-list _ _ _ _ _ _ _ _ (omega (arith, s.2)) s.0 s.1 e.0 e.1)))) refl, (c).requires.2)
+    (name-ready (c.list_level-d.ensures.whole _ _ (begun c.requires c.join_pixels.ensures)) refl, c.requires.2)
 
+-- the list is whole, and then the numbers are known
 pub map_level-requires : goal.map_level-requires
 map_level-requires c =
-    map-from-ready ((name-map _ _ _ _ _ _ _ _ _ ((c.list_level-d.ensures.whole _ _ ((let s = (c).requires in let e = c.join_pixels.ensures in between-list _ _ _ _ _ _ _ _ (omega (arith, s.2)) s.0 s.1 e.0 e.1)))) c.number_level.ensures (c).requires.1))
+    let whole = c.list_level-d.ensures.whole _ _ (begun c.requires c.join_pixels.ensures) in
+    map-from-ready (name-map _ _ _ _ _ _ _ _ _ whole c.number_level.ensures c.requires.1)
 
 pub returns : goal.returns
 returns c =
-    c.map_level.ensures.between _ _ _ ((name-map _ _ _ _ _ _ _ _ _ ((c.list_level-d.ensures.whole _ _ ((let s = (c).requires in let e = c.join_pixels.ensures in between-list _ _ _ _ _ _ _ _ (omega (arith, s.2)) s.0 s.1 e.0 e.1)))) c.number_level.ensures (c).requires.1))
+    let whole = c.list_level-d.ensures.whole _ _ (begun c.requires c.join_pixels.ensures) in
+    c.map_level.ensures.between _ _ _ (name-map _ _ _ _ _ _ _ _ _ whole c.number_level.ensures c.requires.1)

@@ -1,6 +1,5 @@
 -- `tree::levels::number_level` meets its contract.
 use Rattle.tree_laws.proofs.Mapped.{name-start, name-bounds, name-turn}
-use Prim.Native.Nat.{◌-◌}
 use Rattle.tree.proofs.levels.number_level.Goals as goal
 
 pub loop-i-init : goal.loop-i-init
