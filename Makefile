@@ -2,7 +2,7 @@
 # Builds `holds` and prints hold lists: of the example wall, and of the wall with chalk smears, without and with filling.
 # What the build says goes to standard error.
 run:
-	@rt check holds >&2
+	@tools/build holds
 	target/bin/holds < examples/wall.pgm
 	target/bin/holds < examples/chalk.pgm
 	target/bin/holds 5 < examples/chalk.pgm

@@ -18,7 +18,7 @@ import headers
 
 LAYOUT = "e-m:e-p:32:32-Fi8-i64:64-v128:64:128-a:0:32-n32-S64"
 TRIPLE = "thumbv6m-unknown-none-eabi"
-FOR_X86 = ' "probe-stack"="inline-asm" "target-cpu"="x86-64"'
+FOR_X86 = r' "(probe-stack|stack-probe-size|target-cpu)"="[^"]*"'
 REFUSED = r"\b(ptrtoint|ptrtoaddr|inttoptr|addrspace|i128|asm)\b"
 BYTES = r"getelementptr( inbounds| nuw| nusw)* i8, ptr"
 EXPORTED = r"define (?!internal).*(i\d+) @(\w+)\((.*)\)"
@@ -65,7 +65,7 @@ def retarget(lines, declared):
         elif line.startswith("target triple"):
             line = 'target triple = "%s"' % TRIPLE
         elif line.startswith("attributes "):
-            line = line.replace(FOR_X86, "")
+            line = re.sub(FOR_X86, "", line)
             assert "x86" not in line, line
         elif head:
             check_function(*head.groups(), declared)
