@@ -5,7 +5,6 @@ use Rattle.faults.specs.PictureFault.{first_of, when}
 use Rattle.faults.specs.Faults.{work_fault_of}
 use Rattle.picture.specs.Patches.{Patch, patches}
 use Rattle.patch_records.specs.declared.Patch.{Patch as PatchRecord}
-use Rattle.patch_records.specs.Records.{records}
 
 -- the fault of a call that lends a list of so many records and work of so many entries: that of the picture and work, then 9 for fewer records than patches
 unfoldable pub list_fault : Picture → ℕ → ℕ → ℕ
