@@ -1,5 +1,6 @@
 // The text for a file that is to be saved again: its shortest form, or its refusal.
 #![tactic(auto)]
+
 ghost use Rattle.std.specs.Prelude.{◌≡◌, ◌≤◌, ◌<◌, length, take};
 ghost use Rattle.lists.specs.Writing.{Written};
 ghost use Rattle.hold_lines.specs.Lines.{refused_line};
