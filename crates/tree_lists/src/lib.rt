@@ -1,5 +1,6 @@
 // The component tree as lists: built in blocks of work, then copied.
 #![tactic(auto)]
+
 ghost use Rattle.std.specs.Prelude.{◌≡◌, true, ◌≤◌, ◌*◌, length};
 ghost use Rattle.picture.specs.Pictures.{is_picture, picture_of};
 ghost use Rattle.picture.specs.Trees.{tree_of};

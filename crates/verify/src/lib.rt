@@ -1,5 +1,6 @@
 // A lent tree is the tree of a picture: the heights one after the other, with n cells for the union-find.
 #![tactic(auto)]
+
 ghost use Rattle.std.specs.Prelude.{◌≡◌, true, ◌<◌, ◌≤◌, ◌+◌, ◌*◌, length};
 ghost use Rattle.picture.specs.Pictures.{is_picture, picture_of};
 ghost use Rattle.verify.specs.Checked.{IsTreeAnswer};

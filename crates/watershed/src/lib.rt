@@ -1,4 +1,5 @@
 // The watershed: the run of falls, and the whole.
 #![tactic(auto)]
+
 pub mod run;
 pub mod whole;

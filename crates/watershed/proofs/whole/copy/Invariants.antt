@@ -1,0 +1,11 @@
+-- `watershed::whole::copy` meets its contract. The invariant is Copied: the bytes passed are equal.
+use Prim.Native.Nat.{◌-◌, ◌≤◌}
+use lib.ListN.{length}
+use Rattle.lists.specs.Blocks.{Copied}
+use Rattle.watershed.proofs.whole.copy.Given as goal
+
+abbrev pub invariant-loop-i : goal.invariant-loop-i
+invariant-loop-i l = Copied l.from 0 l.i l.initial.to l.to × (l.i ≤ length l.from)
+
+abbrev pub decreases-loop-i : goal.decreases-loop-i
+decreases-loop-i l = length l.from - l.i
