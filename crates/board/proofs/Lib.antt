@@ -7,6 +7,4 @@ pub mod LentTrees
 pub mod Demands
 pub mod FilledDemands
 pub mod Answers
-pub mod ListTypes
-pub mod Lending
 pub mod PatchLists

@@ -1,0 +1,76 @@
+-- `board::label_section` meets its contract: a refusal leaves all as it was, and else the core and the end leave what is said.
+use mathlib.Core.Path.{sym, ◌∙◌}
+use Prim.Native.Nat.{ℕ, ◌*◌, ◌≤◌}
+use native.Mathlib.Omega.{arith}
+use lib.ListN.{length, get_or}
+use Rattle.picture.specs.Pictures.{Picture, picture_of}
+use Rattle.topology.proofs.ComponentNumbers.{length-labels}
+use Rattle.answers.proofs.Calls.{lent_length, back-room, behind-lent, output-done}
+use Rattle.board.proofs.Outputs.{OutputLent, output-lent}
+use Rattle.board.proofs.label_section.Goals as goal
+
+pub slice_bounds-label-end : goal.slice_bounds-label-end
+slice_bounds-label-end c =
+    let pictured : Picture = picture_of c.args.adjacency c.args.width c.args.height c.args.pixels.now in
+    let bytes : (i : ℕ) → get_or c.args.pixels.now i 0 ≤ 255 = λ i. let q = c.type_inv.pixels i in omega arith in
+    let lends : OutputLent pictured c.args.out.now c.args.work.now = output-lent _ _ _ (sym c.output_fault-fault.ensures ∙ c.if-fault-ne0.false) bytes in
+    omega (arith, lends.core.faultless.size, lends.out)
+
+pub slice_bounds-label-end-2 : goal.slice_bounds-label-end-2
+slice_bounds-label-end-2 c =
+    let pictured : Picture = picture_of c.args.adjacency c.args.width c.args.height c.args.pixels.now in
+    let bytes : (i : ℕ) → get_or c.args.pixels.now i 0 ≤ 255 = λ i. let q = c.type_inv.pixels i in omega arith in
+    let lends : OutputLent pictured c.args.out.now c.args.work.now = output-lent _ _ _ (sym c.output_fault-fault.ensures ∙ c.if-fault-ne0.false) bytes in
+    lent_length _ _ (omega (arith, lends.core.faultless.size, lends.out))
+
+pub slice_bounds-label-end-3 : goal.slice_bounds-label-end-3
+slice_bounds-label-end-3 c =
+    let pictured : Picture = picture_of c.args.adjacency c.args.width c.args.height c.args.pixels.now in
+    let bytes : (i : ℕ) → get_or c.args.pixels.now i 0 ≤ 255 = λ i. let q = c.type_inv.pixels i in omega arith in
+    let lends : OutputLent pictured c.args.out.now c.args.work.now = output-lent _ _ _ (sym c.output_fault-fault.ensures ∙ c.if-fault-ne0.false) bytes in
+    omega (arith, lends.core.faultless.room)
+
+pub slice_bounds-label-end-4 : goal.slice_bounds-label-end-4
+slice_bounds-label-end-4 c =
+    let pictured : Picture = picture_of c.args.adjacency c.args.width c.args.height c.args.pixels.now in
+    let bytes : (i : ℕ) → get_or c.args.pixels.now i 0 ≤ 255 = λ i. let q = c.type_inv.pixels i in omega arith in
+    let lends : OutputLent pictured c.args.out.now c.args.work.now = output-lent _ _ _ (sym c.output_fault-fault.ensures ∙ c.if-fault-ne0.false) bytes in
+    lent_length _ _ (omega (arith, lends.core.faultless.room))
+
+pub label-count-requires : goal.label-count-requires
+label-count-requires c =
+    let pictured : Picture = picture_of c.args.adjacency c.args.width c.args.height c.args.pixels.now in
+    let size : ℕ = length c.args.pixels.now in
+    let bytes : (i : ℕ) → get_or c.args.pixels.now i 0 ≤ 255 = λ i. let q = c.type_inv.pixels i in omega arith in
+    let lends : OutputLent pictured c.args.out.now c.args.work.now = output-lent _ _ _ (sym c.output_fault-fault.ensures ∙ c.if-fault-ne0.false) bytes in
+    let a = lends.core in
+    
+    let n = lent_length size c.args.out.now (omega (arith, a.faultless.size, lends.out)) in
+    let m = lent_length size c.args.work.now (omega (arith, a.faultless.room)) in
+    record { accepted = a.picture; label = omega (arith, a.faultless.size, n); cells = omega (arith, a.faultless.size, m) }
+
+pub finish-requires : goal.finish-requires
+finish-requires c =
+    let pictured : Picture = picture_of c.args.adjacency c.args.width c.args.height c.args.pixels.now in
+    let size : ℕ = length c.args.pixels.now in
+    let bytes : (i : ℕ) → get_or c.args.pixels.now i 0 ≤ 255 = λ i. let q = c.type_inv.pixels i in omega arith in
+    let lends : OutputLent pictured c.args.out.now c.args.work.now = output-lent _ _ _ (sym c.output_fault-fault.ensures ∙ c.if-fault-ne0.false) bytes in
+    let a = lends.core in (
+      omega (arith, a.faultless.size, a.faultless.few),
+      back-room size (5 * size) c.label-count.new.stack c.args.work.now c.label-count.auto.stack a.faultless.room,
+    )
+
+pub returns : goal.returns
+returns c =
+    let pictured : Picture = picture_of c.args.adjacency c.args.width c.args.height c.args.pixels.now in
+    let size : ℕ = length c.args.pixels.now in
+    let bytes : (i : ℕ) → get_or c.args.pixels.now i 0 ≤ 255 = λ i. let q = c.type_inv.pixels i in omega arith in
+    let lends : OutputLent pictured c.args.out.now c.args.work.now = output-lent _ _ _ (sym c.output_fault-fault.ensures ∙ c.if-fault-ne0.false) bytes in
+    let a = lends.core in
+    output-done _ _ _ _ _ _ _ _ _ _ _ _ (sym c.output_fault-fault.ensures ∙ c.if-fault-ne0.false) c.label-count.ensures.count a.faultless.size
+    (length-labels pictured _ ∙ sym a.faultless.size)
+    c.label-count.ensures.labels
+    (behind-lent size (5 * size) c.label-count.new.stack c.args.work.now c.label-count.auto.stack
+    (omega arith)
+    a.faultless.room)
+    c.finish.ensures
