@@ -1,5 +1,6 @@
 // Answers packed into one number, for C.
 #![tactic(auto)]
+
 ghost use Rattle.std.specs.Prelude.{◌≡◌};
 ghost use Rattle.packed_answers.specs.Packed.{answer_in, queried_in, ground_by_number, saved_in};
 
