@@ -33,7 +33,7 @@ build_lists-count-requires c =
     let lengths : ℕ = tree_fault_of pictured c.args.heights.now c.args.fathers.now c.args.firsts.now c.args.map.now c.args.work.now in
     let found : c.output_fault-fault.result ≡ lengths = lists-fault _ _ _ _ _ _ _ _ c.least-shortest.ensures c.output_fault-fault.ensures in
     let none : lengths ≡ 0 = sym found ∙ c.if-fault-ne0.false in
-    let lends : Admitted pictured (length c.args.work.now) × (places pictured ≤ shortest c.args.heights.now c.args.fathers.now c.args.firsts.now c.args.map.now) = let known = c.shared_slice_known-1 in tree-admitted _ _ _ _ _ _ (λ i. let q = known.given i in omega arith) none in
+    let lends : Admitted pictured (length c.args.work.now) × (places pictured ≤ shortest c.args.heights.now c.args.fathers.now c.args.firsts.now c.args.map.now) = tree-admitted _ _ _ _ _ _ (λ i. let q = c.type_inv.pixels i in omega arith) none in
     let a = lends in (a.0.picture, tree-rooms _ _ _ _ _ _ a.0 a.1)
 
 pub overflow_cast-count : goal.overflow_cast-count
@@ -42,7 +42,7 @@ overflow_cast-count c =
     let lengths : ℕ = tree_fault_of pictured c.args.heights.now c.args.fathers.now c.args.firsts.now c.args.map.now c.args.work.now in
     let found : c.output_fault-fault.result ≡ lengths = lists-fault _ _ _ _ _ _ _ _ c.least-shortest.ensures c.output_fault-fault.ensures in
     let none : lengths ≡ 0 = sym found ∙ c.if-fault-ne0.false in
-    let lends : Admitted pictured (length c.args.work.now) × (places pictured ≤ shortest c.args.heights.now c.args.fathers.now c.args.firsts.now c.args.map.now) = let known = c.shared_slice_known-1 in tree-admitted _ _ _ _ _ _ (λ i. let q = known.given i in omega arith) none in
+    let lends : Admitted pictured (length c.args.work.now) × (places pictured ≤ shortest c.args.heights.now c.args.fathers.now c.args.firsts.now c.args.map.now) = tree-admitted _ _ _ _ _ _ (λ i. let q = c.type_inv.pixels i in omega arith) none in
     let a = lends.0 in
     let t = c.build_lists-count.ensures.tree_handed in
     let few = nodes-few pictured in
@@ -54,7 +54,7 @@ finish-requires c =
     let lengths : ℕ = tree_fault_of pictured c.args.heights.now c.args.fathers.now c.args.firsts.now c.args.map.now c.args.work.now in
     let found : c.output_fault-fault.result ≡ lengths = lists-fault _ _ _ _ _ _ _ _ c.least-shortest.ensures c.output_fault-fault.ensures in
     let none : lengths ≡ 0 = sym found ∙ c.if-fault-ne0.false in
-    let lends : Admitted pictured (length c.args.work.now) × (places pictured ≤ shortest c.args.heights.now c.args.fathers.now c.args.firsts.now c.args.map.now) = let known = c.shared_slice_known-1 in tree-admitted _ _ _ _ _ _ (λ i. let q = known.given i in omega arith) none in
+    let lends : Admitted pictured (length c.args.work.now) × (places pictured ≤ shortest c.args.heights.now c.args.fathers.now c.args.firsts.now c.args.map.now) = tree-admitted _ _ _ _ _ _ (λ i. let q = c.type_inv.pixels i in omega arith) none in
     let a = lends.0 in
     let t = c.build_lists-count.ensures.tree_handed in
     (omega (arith, a.faultless.size, a.faultless.few), omega (arith, a.faultless.room, t.room))
@@ -65,18 +65,18 @@ returns c =
     let lengths : ℕ = tree_fault_of pictured c.args.heights.now c.args.fathers.now c.args.firsts.now c.args.map.now c.args.work.now in
     let found : c.output_fault-fault.result ≡ lengths = lists-fault _ _ _ _ _ _ _ _ c.least-shortest.ensures c.output_fault-fault.ensures in
     let none : lengths ≡ 0 = sym found ∙ c.if-fault-ne0.false in
-    let lends : Admitted pictured (length c.args.work.now) × (places pictured ≤ shortest c.args.heights.now c.args.fathers.now c.args.firsts.now c.args.map.now) = let known = c.shared_slice_known-1 in tree-admitted _ _ _ _ _ _ (λ i. let q = known.given i in omega arith) none in
+    let lends : Admitted pictured (length c.args.work.now) × (places pictured ≤ shortest c.args.heights.now c.args.fathers.now c.args.firsts.now c.args.map.now) = tree-admitted _ _ _ _ _ _ (λ i. let q = c.type_inv.pixels i in omega arith) none in
     let z = none in
     let a = lends.0 in
     let t = c.build_lists-count.ensures in
     let f = c.finish in
     record {
       call =
-          work-done _ _ _ _ pictured _ _ _ _ z t.0.count a.faultless.size
-          (drop_more (4 * places pictured) (5 * length c.args.pixels.now) _ _ (omega (arith, a.faultless.size)) t.0.beyond)
+          work-done _ _ _ _ pictured _ _ _ _ z t.tree_handed.count a.faultless.size
+          (drop_more (4 * places pictured) (5 * length c.args.pixels.now) _ _ (omega (arith, a.faultless.size)) t.tree_handed.beyond)
           f.ensures;
-      heights = t.1.0 ∙ written-left _ _ _ z;
-      fathers = t.1.1.0 ∙ written-left _ _ _ z;
-      firsts = t.1.1.1.0 ∙ written-left _ _ _ z;
-      map = t.1.1.1.1 ∙ written-left _ _ _ z;
+      heights = t.heights_after ∙ written-left _ _ _ z;
+      fathers = t.fathers_after ∙ written-left _ _ _ z;
+      firsts = t.firsts_after ∙ written-left _ _ _ z;
+      map = t.map_after ∙ written-left _ _ _ z;
     }

@@ -13,7 +13,7 @@ pub slice_bounds-result-count : goal.slice_bounds-result-count
 slice_bounds-result-count c = omega (arith, c.read_file-answer.ensures.offset, answer-within c.args.file.now)
 
 pub slice_bounds-result-start : goal.slice_bounds-result-start
-slice_bounds-result-start c = ?
+slice_bounds-result-start c = omega (arith, c.read_file-answer.ensures.offset, answer-within c.args.file.now)
 
 pub returns-then-number-eq0 : goal.returns-then-number-eq0
 returns-then-number-eq0 c =

@@ -64,12 +64,14 @@ fill_core-requires c =
     let sizes : (output_fault_of pictured c.args.out.now c.args.work.now ≡ 0) × (1 ≤ c.args.s) × (c.args.s ≤ c.args.width * c.args.height) = size-enough c.args.adjacency c.args.width c.args.height size (length c.args.work.now) (length c.args.out.now) c.args.s (sym c.size_fault-fault.ensures ∙ c.if-fault-ne0.false) in
     let lends : OutputLent pictured c.args.out.now c.args.work.now = output-lent _ _ _ sizes.0 bytes in
     let a = lends.core in
-    
     let n = lent_length size c.args.out.now (omega (arith, a.faultless.size, lends.out)) in
     let m = lent_length (5 * size) c.args.work.now a.faultless.room in
     let z = sizes in
     let f = a.faultless in
-    ((a.picture, omega (arith, z.1, z.2, f.size), omega (arith, z.1, z.2, f.size)), (omega (arith, a.faultless.size, n), omega (arith, a.faultless.size, m)))
+    record {
+      pixels_value = (a.picture, omega (arith, z.1, z.2, f.size), omega (arith, z.1, z.2, f.size));
+      out_len = (omega (arith, a.faultless.size, n), omega (arith, a.faultless.size, m));
+    }
 
 pub finish-requires : goal.finish-requires
 finish-requires c =

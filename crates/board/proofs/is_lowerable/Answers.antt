@@ -40,7 +40,6 @@ lowerable-yes-requires c =
     let enough : (work_fault_of pictured (length c.args.work.now) ≡ 0) × (c.args.place < places pictured) = place-enough _ _ _ _ _ _ none in
     let lends : Admitted pictured (length c.args.work.now) = let known = c.shared_slice_known-1 in admitted pictured _ enough.0 (λ i. let q = known.given i in omega arith) in
     let a = lends in
-    
     let n = lent_length size c.args.work.now (omega (arith, a.faultless.room)) in
     (a.picture, omega (arith, a.faultless.size, n), enough.1)
 
@@ -67,9 +66,6 @@ returns c =
     let enough : (work_fault_of pictured (length c.args.work.now) ≡ 0) × (c.args.place < places pictured) = place-enough _ _ _ _ _ _ none in
     let lends : Admitted pictured (length c.args.work.now) = let known = c.shared_slice_known-1 in admitted pictured _ enough.0 (λ i. let q = known.given i in omega arith) in
     let f = c.finish in
-    
-    
-    
     let a = lends in
     work-done fault _ _ size pictured _ _ _ _ none
     (c.one_if.ensures ∙ ap (λ (yes : Bool). pick yes 1 0) c.lowerable-yes.ensures)

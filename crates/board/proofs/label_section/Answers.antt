@@ -44,7 +44,6 @@ label-count-requires c =
     let bytes : (i : ℕ) → get_or c.args.pixels.now i 0 ≤ 255 = λ i. let q = c.type_inv.pixels i in omega arith in
     let lends : OutputLent pictured c.args.out.now c.args.work.now = output-lent _ _ _ (sym c.output_fault-fault.ensures ∙ c.if-fault-ne0.false) bytes in
     let a = lends.core in
-    
     let n = lent_length size c.args.out.now (omega (arith, a.faultless.size, lends.out)) in
     let m = lent_length size c.args.work.now (omega (arith, a.faultless.room)) in
     record { accepted = a.picture; label = omega (arith, a.faultless.size, n); cells = omega (arith, a.faultless.size, m) }

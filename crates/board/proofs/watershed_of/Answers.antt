@@ -51,7 +51,6 @@ watershed_core-requires c =
     let bytes : (i : ℕ) → get_or c.args.pixels.now i 0 ≤ 255 = λ i. let q = c.type_inv.pixels i in omega arith in
     let lends : OutputLent pictured c.args.out.now c.args.work.now = output-lent _ _ _ (sym c.output_fault-fault.ensures ∙ c.if-fault-ne0.false) bytes in
     let a = lends.core in
-    
     let n = lent_length size c.args.out.now (omega (arith, a.faultless.size, lends.out)) in
     let m = lent_length (5 * size) c.args.work.now a.faultless.room in
     (a.picture, omega (arith, a.faultless.size, n), omega (arith, a.faultless.size, m))
