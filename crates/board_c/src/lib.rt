@@ -1,5 +1,6 @@
 // The calls for C: numbers and byte memory only.
 #![tactic(auto)]
+
 ghost use Rattle.std.specs.Prelude.{◌+◌, ◌≤◌, length};
 ghost use Rattle.picture.specs.Pictures.{picture_of};
 ghost use Rattle.lists.specs.Writing.{Written};

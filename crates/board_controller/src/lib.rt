@@ -1,5 +1,6 @@
 // The calls for firmware in C: numbers, bytes and 16-bit memory as they are lent, the answer as one number.
 #![tactic(auto)]
+
 ghost use Rattle.picture.specs.Pictures.{picture_of};
 ghost use Rattle.board.specs.Calls.{LabelsSay, LowerableSays, WatershedSays, FillSays, QuerySays, TouchSays};
 ghost use Rattle.board.specs.Trees.{TreeSays, CheckSays, PassSays};

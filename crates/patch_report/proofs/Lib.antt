@@ -1,4 +1,3 @@
 -- Laws that the proofs of the functions cite.
-pub mod LentFront
 pub mod Lending
 pub mod FilePixels

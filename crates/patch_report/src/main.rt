@@ -1,6 +1,7 @@
 // Prints what `list_patches` answers for the picture on standard input, and what it leaves in the lent list and work: calls
 // that list its patches, then calls that are refused. Prints nothing for a refused file.
 #![tactic(auto)]
+
 ghost use Rattle.std.specs.Prelude.{◌≤◌, length};
 ghost use Rattle.picture.specs.Pictures.{picture_of};
 ghost use Rattle.patch_report.specs.Lending.{LentSay};

@@ -1,5 +1,6 @@
 // Prints what reading answers for the first 65,536 bytes of standard input: number, place, width, height, largest sample, offset.
 #![tactic(auto)]
+
 ghost use Rattle.std.specs.Prelude.{take};
 ghost use Rattle.io.specs.Counts.{IsPrefixLen};
 ghost use Rattle.text.specs.Decimal.{fields};
