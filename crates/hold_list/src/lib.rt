@@ -1,5 +1,6 @@
 // The text for a whole file: its refusal, or the hold list of its picture or of the filled one.
 #![tactic(auto)]
+
 use argument::asked_size;
 use faults::size_after;
 use file_text::read_handed;

@@ -1,5 +1,6 @@
 // Prints the file on standard input in its shortest form, or its refusal.
 #![tactic(auto)]
+
 use resaving::put_text;
 
 fn main() {
