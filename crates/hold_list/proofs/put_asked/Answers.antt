@@ -12,8 +12,8 @@ use Rattle.hold_list.proofs.put_asked.Goals as goal
 pub returns-then-words-lt2 : goal.returns-then-words-lt2
 returns-then-words-lt2 c =
     let pictured : Picture = picture_of 4 c.args.w c.args.h c.args.pixels.now in
-    let p = c.Put-Holds in
-    subst (λ (xs : List ℕ). Written 0 xs c.args.out.now p.result p.new.1.1.1.0)
+    let p = c.put_holds in
+    subst (λ (xs : List ℕ). Written 0 xs c.args.out.now p.result p.new.out)
     (sym (asked-holds c.args.words c.args.argument.now pictured (omega (arith, c.if-words-lt2.true))))
     p.ensures
 

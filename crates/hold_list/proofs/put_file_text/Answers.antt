@@ -31,14 +31,17 @@ slice_bounds-put_asked-count c =
     omega (arith, answered.offset, answer-within c.args.file.now)
 
 pub slice_bounds-put_asked-start : goal.slice_bounds-put_asked-start
-slice_bounds-put_asked-start c = ?
+slice_bounds-put_asked-start c =
+    let none : file_fault c.args.file.now ≡ 0 = sym (handed-number _ _ c.read_handed-answer.ensures) ∙ c.if-number-ne0.false in
+    let answered : ReadSays c.args.file.now c.read_handed-answer.result = handed-read _ _ c.read_handed-answer.ensures none in
+    omega (arith, answered.offset, answer-within c.args.file.now)
 
 pub put_asked-requires : goal.put_asked-requires
 put_asked-requires c =
     let none : file_fault c.args.file.now ≡ 0 = sym (handed-number _ _ c.read_handed-answer.ensures) ∙ c.if-number-ne0.false in
     let answered : ReadSays c.args.file.now c.read_handed-answer.result = handed-read _ _ c.read_handed-answer.ensures none in
     let lent : picture_of 4 c.read_handed-answer.result.width c.read_handed-answer.result.height (from c.read_handed-answer.result.offset c.args.file.now) ≡ picture_in c.args.file.now = let r = c.read_handed-answer.result in let says = answered in read-picture c.args.file.now r.width r.height r.offset says.width says.height says.offset in
-    (ap is_picture lent ∙ file-picture c.args.file.now (fault-none _ none).1 (λ i. let q = c.type_inv.pixels i in omega arith), omega (arith, c.requires))
+    (ap is_picture lent ∙ file-picture c.args.file.now (fault-none _ none).1 (λ i. let q = c.type_inv.file i in omega arith), omega (arith, c.requires))
 
 pub returns : goal.returns
 returns c =

@@ -10,6 +10,7 @@ use Rattle.lists.specs.Writing.{Written}
 use Rattle.faults.specs.PictureFault.{when}
 use Rattle.faults.specs.Faults.{size_unfit}
 use Rattle.hold_list.specs.HoldText.{hold_list}
+use Rattle.answers.proofs.Calls.{lent_length}
 use Rattle.hold_list.proofs.Rooms.{places-few, one_lent, five-lent}
 use Rattle.hold_list.proofs.FilledTexts.{size-refused, size_fits, size_holds, filled-front, front-picture}
 use Rattle.hold_list.proofs.put_filled.Goals as goal
@@ -27,87 +28,84 @@ pub overflow_mul-whole : goal.overflow_mul-whole
 overflow_mul-whole c =
     let pictured : Picture = picture_of 4 c.args.w c.args.h c.args.pixels.now in
     let size : ℕ = length c.args.pixels.now in
-    let origin : tie.Start = c in
-    let few : size origin ≤ 1600 = (places-few (pictured origin) origin.requires.0).1 in
+    let few : size ≤ 1600 = (places-few pictured c.requires.0).1 in
     omega (arith, few)
 
 pub slice_bounds-bytes-end : goal.slice_bounds-bytes-end
 slice_bounds-bytes-end c =
     let pictured : Picture = picture_of 4 c.args.w c.args.h c.args.pixels.now in
     let size : ℕ = length c.args.pixels.now in
-    let origin : tie.Start = c in
-    let few : size origin ≤ 1600 = (places-few (pictured origin) origin.requires.0).1 in
-    few
+    (places-few pictured c.requires.0).1
 
 pub slice_bounds-fill_core-end : goal.slice_bounds-fill_core-end
 slice_bounds-fill_core-end c =
     let pictured : Picture = picture_of 4 c.args.w c.args.h c.args.pixels.now in
-    let origin : tie.Start = c in
-    let s = origin in one_lent (pictured s) s.requires.0
+    one_lent pictured c.requires.0
 
 pub slice_bounds-work-end : goal.slice_bounds-work-end
 slice_bounds-work-end c =
     let pictured : Picture = picture_of 4 c.args.w c.args.h c.args.pixels.now in
     let size : ℕ = length c.args.pixels.now in
-    let origin : tie.Start = c in
-    let few : size origin ≤ 1600 = (places-few (pictured origin) origin.requires.0).1 in
+    let few : size ≤ 1600 = (places-few pictured c.requires.0).1 in
     omega (arith, few)
 
 pub slice_bounds-fill_core-end-2 : goal.slice_bounds-fill_core-end-2
 slice_bounds-fill_core-end-2 c =
     let pictured : Picture = picture_of 4 c.args.w c.args.h c.args.pixels.now in
-    let origin : tie.Start = c in
-    let s = origin in five-lent (pictured s) s.requires.0
+    five-lent pictured c.requires.0
 
 pub fill_core-requires : goal.fill_core-requires
 fill_core-requires c =
     let pictured : Picture = picture_of 4 c.args.w c.args.h c.args.pixels.now in
     let decided : c.size_after-fault.result ≡ when (size_unfit (c.args.w * c.args.h) c.args.s) 13 = c.size_after-fault.ensures ∙ ap (λ (n : ℕ). when (size_unfit n c.args.s) 13) (places-few pictured c.requires.0).0 in
-    let origin : tie.Start = c in
-    let fits : (1 ≤ origin.args.s) × (origin.args.s ≤ origin.args.w * origin.args.h) = let s = origin in size_fits (pictured s) s.args.s _ decided c.if-fault-ne0.false in
-    let s = origin in
-    let n = (places-few (pictured s) s.requires.0).0 in
-    ((s.requires.0, fits.0, fits.1), (omega (arith, n, one_lent (pictured s) s.requires.0), omega (arith, n, five-lent (pictured s) s.requires.0)))
+    let fits : (1 ≤ c.args.s) × (c.args.s ≤ c.args.w * c.args.h) = size_fits pictured c.args.s _ decided c.if-fault-ne0.false in
+    let n = (places-few pictured c.requires.0).0 in
+    record {
+      pixels_value = (c.requires.0, fits.0, fits.1);
+      out_len = (omega (arith, n, one_lent pictured c.requires.0), omega (arith, n, five-lent pictured c.requires.0));
+    }
 
 pub slice_bounds-bytes-end-2 : goal.slice_bounds-bytes-end-2
 slice_bounds-bytes-end-2 c =
     let pictured : Picture = picture_of 4 c.args.w c.args.h c.args.pixels.now in
     let size : ℕ = length c.args.pixels.now in
-    let origin : tie.Start = c in
     let filling : List ℕ = c.fill_core.new.out in
-    let rest : List ℕ = drop (size origin) (replicate {A = ℕ} 1600 0) in
-    let long : length filling ≡ size origin = let s = origin in c.fill_core.auto.out ∙ sym (one_lent (pictured s) s.requires.0) in
-    let within : size origin ≤ length (filling ++ rest) = omega (arith, long, length-append filling rest) in
+    let rest : List ℕ = drop size (replicate {A = ℕ} 1600 0) in
+    let long : length filling ≡ size = c.fill_core.auto.out ∙ sym (one_lent pictured c.requires.0) in
+    let within : size ≤ length (filling ++ rest) = omega (arith, long, length-append filling rest) in
     within
 
 pub slice_bounds-put_holds-end : goal.slice_bounds-put_holds-end
-slice_bounds-put_holds-end c = ?
+slice_bounds-put_holds-end c =
+    let pictured : Picture = picture_of 4 c.args.w c.args.h c.args.pixels.now in
+    let size : ℕ = length c.args.pixels.now in
+    let filling : List ℕ = c.fill_core.new.out in
+    let rest : List ℕ = drop size (replicate {A = ℕ} 1600 0) in
+    let long : length filling ≡ size = c.fill_core.auto.out ∙ sym (one_lent pictured c.requires.0) in
+    let within : size ≤ length (filling ++ rest) = omega (arith, long, length-append filling rest) in
+    lent_length size (filling ++ rest) within
 
 pub put_holds-requires : goal.put_holds-requires
 put_holds-requires c =
     let pictured : Picture = picture_of 4 c.args.w c.args.h c.args.pixels.now in
     let size : ℕ = length c.args.pixels.now in
     let decided : c.size_after-fault.result ≡ when (size_unfit (c.args.w * c.args.h) c.args.s) 13 = c.size_after-fault.ensures ∙ ap (λ (n : ℕ). when (size_unfit n c.args.s) 13) (places-few pictured c.requires.0).0 in
-    let origin : tie.Start = c in
-    let fits : (1 ≤ origin.args.s) × (origin.args.s ≤ origin.args.w * origin.args.h) = let s = origin in size_fits (pictured s) s.args.s _ decided c.if-fault-ne0.false in
+    let fits : (1 ≤ c.args.s) × (c.args.s ≤ c.args.w * c.args.h) = size_fits pictured c.args.s _ decided c.if-fault-ne0.false in
     let filling : List ℕ = c.fill_core.new.out in
-    let rest : List ℕ = drop (size origin) (replicate {A = ℕ} 1600 0) in
-    let long : length filling ≡ size origin = let s = origin in c.fill_core.auto.out ∙ sym (one_lent (pictured s) s.requires.0) in
-    let s = origin in
-    (front-picture (pictured s) s.args.s (size s) filling rest long c.fill_core.ensures s.requires.0 fits.1, omega (arith, s.requires.1))
+    let rest : List ℕ = drop size (replicate {A = ℕ} 1600 0) in
+    let long : length filling ≡ size = c.fill_core.auto.out ∙ sym (one_lent pictured c.requires.0) in
+    (front-picture pictured c.args.s size filling rest long c.fill_core.ensures c.requires.0 fits.1, omega (arith, c.requires.1))
 
 pub returns : goal.returns
 returns c =
     let pictured : Picture = picture_of 4 c.args.w c.args.h c.args.pixels.now in
     let size : ℕ = length c.args.pixels.now in
     let decided : c.size_after-fault.result ≡ when (size_unfit (c.args.w * c.args.h) c.args.s) 13 = c.size_after-fault.ensures ∙ ap (λ (n : ℕ). when (size_unfit n c.args.s) 13) (places-few pictured c.requires.0).0 in
-    let origin : tie.Start = c in
     let filling : List ℕ = c.fill_core.new.out in
-    let rest : List ℕ = drop (size origin) (replicate {A = ℕ} 1600 0) in
-    let long : length filling ≡ size origin = let s = origin in c.fill_core.auto.out ∙ sym (one_lent (pictured s) s.requires.0) in
-    let lent : picture_of 4 origin.args.w origin.args.h (take (size origin) (filling ++ rest)) ≡ filled (pictured origin) origin.args.s = let s = origin in filled-front (pictured s) s.args.s (size s) filling rest long c.fill_core.ensures in
-    let s = origin in
-    let p = c.Put-Holds in
-    subst (λ (xs : List ℕ). Written 0 xs s.args.out.now p.result p.new.1.1.1.0)
-    (ap hold_list lent ∙ size_holds (pictured s) s.args.s _ decided c.if-fault-ne0.left)
+    let rest : List ℕ = drop size (replicate {A = ℕ} 1600 0) in
+    let long : length filling ≡ size = c.fill_core.auto.out ∙ sym (one_lent pictured c.requires.0) in
+    let lent : picture_of 4 c.args.w c.args.h (take size (filling ++ rest)) ≡ filled pictured c.args.s = filled-front pictured c.args.s size filling rest long c.fill_core.ensures in
+    let p = c.put_holds in
+    subst (λ (xs : List ℕ). Written 0 xs c.args.out.now p.result p.new.out)
+    (ap hold_list lent ∙ size_holds pictured c.args.s _ decided c.if-fault-ne0.false)
     p.ensures

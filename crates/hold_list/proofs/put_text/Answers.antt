@@ -12,9 +12,10 @@ use Rattle.hold_list.proofs.put_text.Goals as goal
 pub returns : goal.returns
 returns c =
     let input = c.args.input.now in
-    let p = c.put_file_text in (
-      subst (λ (file : List ℕ). Written 0 (program_text c.args.words c.args.argument.now file) c.args.out.now p.result p.new.out)
+    let p = c.put_file_text in
+    record {
+      written = subst (λ (file : List ℕ). Written 0 (program_text c.args.words c.args.argument.now file) c.args.out.now p.result p.new.out)
           (take_counted input c.args.count c.lesser-length.result (omega (arith, c.lesser-length.ensures, c.bytes-1.given)))
-          p.ensures,
-      λ h. words-counted c.args.words c.args.argument.now c.args.count input h (omega (arith, c.bytes-1.given)),
-    )
+          p.ensures;
+      input_value = λ h. words-counted c.args.words c.args.argument.now c.args.count input h (omega (arith, c.bytes-1.given));
+    }
