@@ -1,5 +1,6 @@
 // Prints for each edge case its name, then what `holds` prints for its file and argument; of a handbook what a touch answers.
 #![tactic(auto)]
+
 use board::{Queried, patch_number, touch_place};
 use files::{put_file, put_headed};
 use hold_list::put_text;

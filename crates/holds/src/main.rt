@@ -1,6 +1,7 @@
 // Prints the hold list of the file on standard input, or its refusal. An argument is a least size:
 // the list is that of the picture filled with it.
 #![tactic(auto)]
+
 use hold_list::put_text;
 use std::env::{Env, FillError};
 

@@ -1,0 +1,12 @@
+-- `edges::files::put_spaces` meets its contract.
+use mathlib.Core.Path.{subst}
+use mathlib.Core.List.{List}
+use Prim.Native.Nat.{ℕ}
+use Rattle.lists.specs.Writing.{Written}
+use Rattle.edges.proofs.Sizes.{take-replicate}
+use Rattle.edges.proofs.files.put_spaces.Goals as goal
+
+pub returns : goal.returns
+returns c =
+    let p = c.put_bytes in
+    subst (λ (xs : List ℕ). Written c.args.at xs c.args.out.now p.result p.new.out) (take-replicate c.args.count 2500 32 c.requires.0) p.ensures
