@@ -62,7 +62,7 @@ patch_number (G.Patch n) = n
 
 -- the record of a place query: number, value, and the line or the patch
 abbrev pub QueryIs : ℕ → ℕ → ℕ → Queried → Type 0
-QueryIs f v n r = r ≡ record { number = f; value = v; ground = ground_of n }
+QueryIs f v n r = let ground : Ground = ground_of n in r ≡ record { number = f; value = v; ground = ground }
 
 -- a call with the fault f that answers the value v and the patch number n, 0 for the line; on a refusal the value is 0 and the ground the line
 pub record QueriedSays (f v n : ℕ) (p : Picture) (q q' : List ℕ) (r : Queried) : Type 0 where
