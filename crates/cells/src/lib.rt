@@ -9,21 +9,21 @@ ghost use Rattle.lists.specs.Blocks.{Filled, Copied};
 pub fn wide(x: u16) -> usize
     ensures { result ≡ x }
 {
-    x as usize
+    usize::from(x)
 }
 
 // A byte, as a pixel, as a number.
 pub fn value(pixel: u8) -> usize
     ensures { result ≡ pixel }
 {
-    pixel as usize
+    usize::from(pixel)
 }
 
 // A pixel's value as a cell.
 pub fn cell_of(x: u8) -> u16
     ensures { result ≡ x }
 {
-    x as u16
+    u16::from(x)
 }
 
 // The n entries from b on become v.
@@ -31,11 +31,7 @@ pub fn fill(cells: &mut [u16], b: usize, n: usize, v: u16)
     requires { b + n ≤ length cells.old }
     ensures { Filled b n v cells.old cells.new }
 {
-    let mut i = 0;
-    while i < n {
-        cells[b + i] = v;
-        i += 1;
-    }
+    cells[b..b + n].fill(v);
 }
 
 // The first m entries become 0.
@@ -51,9 +47,5 @@ pub fn copy(from: &[u16], b: usize, to: &mut [u16], m: usize)
     requires { (b + m ≤ length from.now) × (m ≤ length to.old) }
     ensures { Copied from.now b m to.old to.new }
 {
-    let mut i = 0;
-    while i < m {
-        to[i] = from[b + i];
-        i += 1;
-    }
+    to[..m].copy_from_slice(&from[b..b + m]);
 }

@@ -2,14 +2,13 @@
 #![tactic(auto)]
 
 ghost use Rattle.std.specs.Prelude.{◌≡◌, ◌≢◌, [], ◌*◌, ◌<◌, leb, length};
-ghost use Rattle.picture.specs.Geometry.{neighbours_of};
-ghost use Rattle.picture.proofs.Neighbours.{Placed};
+ghost use Rattle.picture.specs.Geometry.{neighbours_in};
+ghost use Rattle.picture.specs.Pictures.{places};
+ghost use Rattle.geometry.specs.Rasters.{picture, IsPlace};
 ghost use Rattle.floods.specs.Floods.{Room, Visited, Spread, Seed};
 ghost use Rattle.labelling_laws.proofs.Flood.{Flooded};
-ghost use Rattle.picture.specs.Pictures.{picture_of};
 
-use cells::wide;
-use geometry::neighbours;
+use geometry::raster::Raster;
 
 // A pixel lies in the section at height k.
 pub fn in_section(pixel: u8, k: u8) -> bool
@@ -31,10 +30,7 @@ fn visit(
     requires { Room (length pixels.now) pixels.now labels.old stack.old t × (y < length pixels.now) }
     ensures { Visited pixels.now k y c labels.old stack.old t labels.new stack.new result }
 {
-    if !in_section(pixels[y], k) {
-        return t;
-    }
-    if labels[y] != 0 {
+    if !in_section(pixels[y], k) || labels[y] != 0 {
         return t;
     }
     labels[y] = c;
@@ -44,10 +40,7 @@ fn visit(
 
 // Visits the neighbours of the place x, which came off the stack; answers the stack's height.
 fn spread(
-    a: u32,
-    w: u32,
-    h: u32,
-    pixels: &[u8],
+    raster: &Raster,
     k: u8,
     x: usize,
     c: u16,
@@ -55,46 +48,31 @@ fn spread(
     stack: &mut [u16],
     top: usize,
 ) -> usize
-    requires { Placed w h x × Room (w * h) pixels.now labels.old stack.old top × (c ≢ 0) }
-    ensures { Spread (picture_of a w h pixels.now) k c x (neighbours_of a w h x) [] labels.old stack.old top labels.new stack.new result }
+    requires { IsPlace raster.now.grid x × Room (places (picture raster.now)) raster.now.pixels.now labels.old stack.old top × (c ≢ 0) }
+    ensures { Spread (picture raster.now) k c x (neighbours_in (picture raster.now) x) [] labels.old stack.old top labels.new stack.new result }
 {
     let mut near = [0u16; 8];
-    let count = neighbours(a, w, h, x, &mut near);
+    let count = raster.grid.neighbours(x, &mut near);
     let mut t = top;
-    let mut i = 0;
-    while i < count {
-        t = visit(pixels, k, wide(near[i]), c, labels, stack, t);
-        i += 1;
+    for y in &near[..count] {
+        t = visit(raster.pixels, k, usize::from(*y), c, labels, stack, t);
     }
     t
 }
 
 // Marks the component of the place x with the number c.
-pub fn flood(
-    a: u32,
-    w: u32,
-    h: u32,
-    pixels: &[u8],
-    k: u8,
-    x: usize,
-    c: u16,
-    labels: &mut [u16],
-    stack: &mut [u16],
-)
-    requires { Placed w h x × Room (w * h) pixels.now labels.old stack.old 0 × Seed (picture_of a w h pixels.now) k x c labels.old }
-    ensures { Flooded (picture_of a w h pixels.now) k x c labels.old labels.new }
+pub fn flood(raster: &Raster, k: u8, x: usize, c: u16, labels: &mut [u16], stack: &mut [u16])
+    requires { IsPlace raster.now.grid x × Room (places (picture raster.now)) raster.now.pixels.now labels.old stack.old 0 × Seed (picture raster.now) k x c labels.old }
+    ensures { Flooded (picture raster.now) k x c labels.old labels.new }
 {
     labels[x] = c;
     stack[0] = x as u16;
     let mut t = 1;
     while 0 < t {
         t = spread(
-            a,
-            w,
-            h,
-            pixels,
+            raster,
             k,
-            wide(stack[t - 1]),
+            usize::from(stack[t - 1]),
             c,
             labels,
             stack,

@@ -1,6 +1,6 @@
 -- What stands in front of the cells while the neighbours are put there.
 use mathlib.Core.Path.{◌≡◌, refl, sym, ap, ap₂, subst, ◌∙◌}
-use mathlib.Core.Bool.{Bool, true, false, ◌&&◌}
+use mathlib.Core.Bool.{Bool, true, false, ◌&&◌, ◌||◌}
 use mathlib.Core.List.{List, [], ◌∷◌, ◌++◌, append_assoc, append-nil}
 use Prim.Native.Nat.{ℕ, ◌+◌, ◌-◌, ◌*◌, ◌/◌, ◌%◌, ◌≤◌, ◌<◌}
 use native.Mathlib.Nat.{zero-add, div-add-mod'}
@@ -26,32 +26,24 @@ module _ (w h x : ℕ) (s : Step) (c r : ℕ) (to : StepsTo (x % w) (x / w) s c 
   stays-is : stays w h x (offset s) ≡ (within w c && within h r)
   stays-is = ap₂ (λ d e. within w d && within h e) (sym to.column) (sym to.row)
 
-  put-none : (within w c && within h r) ≡ false → Written m (reached w h x (s ∷ [])) cells m cells
+  pub put-none : (within w c && within h r) ≡ false → Written m (reached w h x (s ∷ [])) cells m cells
   put-none e =
       rw (reached-none w h x s (stays-is ∙ e))
       (written_none cells m)
 
-  pub put-beside : within w c ≡ false → Written m (reached w h x (s ∷ [])) cells m cells
-  put-beside e = put-none (rw e)
-
-  pub put-beyond : within w c ≡ true → within h r ≡ false → Written m (reached w h x (s ∷ [])) cells m cells
-  put-beyond d e = put-none (rw (d, e))
-
-  pub put_one :
-      within w c ≡ true → within h r ≡ true → m < length cells →
-      Written m (reached w h x (s ∷ [])) cells (m + 1) (set cells m ((r - 1) * w + (c - 1)))
-  put_one d e l =
+  put_one : (within w c && within h r) ≡ true → m < length cells → Written m (reached w h x (s ∷ [])) cells (m + 1) (set cells m ((r - 1) * w + (c - 1)))
+  put_one e l =
       let at : (r - 1) * w + (c - 1) ≡ place_by w x (offset s) =
       ap₂ (λ k n. (n - 1) * w + (k - 1)) to.column to.row in
-      rw (reached-one w h x s (stays-is ∙ and_both d e), at)
+      rw (reached-one w h x s (stays-is ∙ e), at)
       (written_byte cells m (place_by w x (offset s)) l)
 
   pub put_written :
-      (n : ℕ) (after : List ℕ) → within w c ≡ true → within h r ≡ true → m < length cells → n ≡ m + 1 → after ≡ set cells m ((r - 1) * w + (c - 1)) →
-      Written m (reached w h x (s ∷ [])) cells n after
-  put_written n after d e l p q =
-      subst (λ (k : ℕ). Written m (reached w h x (s ∷ [])) cells k after) (sym p)
-      (subst (λ (k : List ℕ). Written m (reached w h x (s ∷ [])) cells (m + 1) k) (sym q) (put_one d e l))
+      (n : ℕ) (after : List ℕ) → (within w c && within h r) ≡ true → m < length cells →
+      (n ≡ m + 1) × (after ≡ set cells m ((r - 1) * w + (c - 1))) → Written m (reached w h x (s ∷ [])) cells n after
+  put_written n after e l p =
+      subst (λ (k : ℕ). Written m (reached w h x (s ∷ [])) cells k after) (sym p.0)
+      (subst (λ (k : List ℕ). Written m (reached w h x (s ∷ [])) cells (m + 1) k) (sym p.1) (put_one e l))
 
 -- a step as the machine reads it
 abbrev read : ℤ → ℤ
@@ -102,6 +94,13 @@ module _ (w h column row : ℕ) (s : Step) (m : ℕ) (cells : List ℕ) (go : St
       off-edge-within w column r (and_left (off_edge w column) _ e) (let b = unit-column s go.unit in omega (arith, b, right_is)),
       off-edge-within h row d (and_right (off_edge w column) _ e) (let b = unit_row s go.unit in omega (arith, b, down_is)),
     )
+
+    -- so the test for a step adds nothing to that of its target
+    pub stays-inside :
+        (inner : Bool) → inner ≡ is_inner w h column row →
+        (inner || (within w (column + r) && within h (row + d))) ≡ (within w (column + r) && within h (row + d))
+    stays-inside true e = let i = inner-target (sym e) in sym (and_both i.0 i.1)
+    stays-inside false e = refl
 
 -- a place by its row and column
 pub place-digits : (w h x : ℕ) → Placed w h x → Placed w h (x / w * w + x % w)

@@ -1,2 +1,4 @@
--- What the functions behind the neighbours say.
+-- Rasters and their grids, and what the functions behind the neighbours say.
+pub mod Adjacencies
+pub mod Rasters
 pub mod Steps

@@ -8,38 +8,26 @@ ghost use Rattle.picture.specs.Pictures.{side_fits};
 pub fn between(low: usize, x: usize, high: usize) -> bool
     ensures { result ≡ leb low x && leb x high }
 {
-    if x < low {
-        return false;
-    }
-    x <= high
+    (low..=high).contains(&x)
 }
 
 // A number is one of two.
 pub fn either(x: u32, a: u32, b: u32) -> bool
     ensures { result ≡ (eqb x a || eqb x b) }
 {
-    if x == a {
-        return true;
-    }
-    x == b
+    x == a || x == b
 }
 
 // The lesser of two numbers.
 pub fn lesser(a: usize, b: usize) -> usize
     ensures { result ≡ min a b }
 {
-    if a < b {
-        return a;
-    }
-    b
+    a.min(b)
 }
 
 // Both sides are 1 to 40.
 pub fn sides_fit(width: u32, height: u32) -> bool
     ensures { result ≡ side_fits width && side_fits height }
 {
-    if !between(1, width as usize, 40) {
-        return false;
-    }
-    between(1, height as usize, 40)
+    between(1, width as usize, 40) && between(1, height as usize, 40)
 }

@@ -2,36 +2,36 @@
 use mathlib.Core.Path.{◌≡◌}
 use Prim.Native.Nat.{suc, ◌-◌}
 use native.Mathlib.Omega.{arith}
-use Rattle.picture.specs.Pictures.{picture_of}
+use Rattle.geometry.specs.Rasters.{picture}
 use Rattle.picture.proofs.Neighbours.{placed-other}
 use Rattle.floods.proofs.Floods.{seed-some, run-start, run-top, run_room, run-turn, run_end}
 use Rattle.floods.proofs.flood.Goals as goal
 
 pub loop-t-init : goal.loop-t-init
 loop-t-init c =
-    run-start (picture_of c.args.a c.args.w c.args.h c.args.pixels.now) _ _ _ _ _ c.requires.1 c.requires.2
+    run-start (picture c.args.raster.now) _ _ _ _ _ c.requires.1 c.requires.2
 
 pub spread-t-requires : goal.spread-t-requires
 spread-t-requires c =
     let t = c.loop-t.t in
     let e : t ≡ suc (t - 1) = omega arith in
-    let below = run-top ((picture_of c.args.a c.args.w c.args.h c.args.pixels.now)) _ _ _ _ _ _ _ t (t - 1) e c.loop-t.invariant in
-    let b = c.wide.ensures in (
+    let below = run-top ((picture c.args.raster.now)) _ _ _ _ _ _ _ t (t - 1) e c.loop-t.invariant in
+    let b = c.from.ensures in (
       placed-other c.requires.0 (omega arith),
-      run_room ((picture_of c.args.a c.args.w c.args.h c.args.pixels.now)) _ _ _ _ _ _ _ t (t - 1) e c.loop-t.invariant,
-      seed-some ((picture_of c.args.a c.args.w c.args.h c.args.pixels.now)) _ _ _ _ c.requires.2,
+      run_room ((picture c.args.raster.now)) _ _ _ _ _ _ _ t (t - 1) e c.loop-t.invariant,
+      seed-some ((picture c.args.raster.now)) _ _ _ _ c.requires.2,
     )
 
 pub loop-t-preserved : goal.loop-t-preserved
 loop-t-preserved c =
     let t = c.loop-t.t in
     let e : t ≡ suc (t - 1) = omega arith in
-    run-turn ((picture_of c.args.a c.args.w c.args.h c.args.pixels.now)) _ _ _ _ _ _ _ t (t - 1) e c.loop-t.invariant _ _ _ _
+    run-turn ((picture c.args.raster.now)) _ _ _ _ _ _ _ t (t - 1) e c.loop-t.invariant _ _ _ _
     c.requires.0.some
-    c.wide.ensures
+    c.from.ensures
     c.spread-t.ensures
 
 pub returns : goal.returns
 returns c =
     let e : c.loop-t.t ≡ 0 = omega arith in
-    run_end ((picture_of c.args.a c.args.w c.args.h c.args.pixels.now)) _ _ _ _ _ _ _ _ c.requires.2 e c.loop-t.invariant
+    run_end ((picture c.args.raster.now)) _ _ _ _ _ _ _ _ c.requires.2 e c.loop-t.invariant

@@ -1,13 +1,11 @@
--- `floods::spread` meets its contract. The invariant: the edges to the neighbours from index i on are left to follow.
-use Prim.Native.Nat.{◌-◌, ◌≤◌}
-use lib.ListN.{drop}
-use Rattle.picture.specs.Geometry.{neighbours_of}
-use Rattle.picture.specs.Pictures.{picture_of}
+-- `floods::spread` meets its contract. The invariant: the edges to the neighbours from the index on are left to follow.
+use Rattle.std.proofs.Common.{drop}
+use Rattle.picture.specs.Geometry.{neighbours_in}
+use Rattle.geometry.specs.Rasters.{picture}
 use Rattle.floods.specs.Floods.{Spread}
 use Rattle.floods.proofs.spread.Given as goal
 
-abbrev pub invariant-loop-i : goal.invariant-loop-i
-invariant-loop-i l = (l.i ≤ l.count) × Spread (picture_of l.a l.w l.h l.pixels) l.k l.c l.x (neighbours_of l.a l.w l.h l.x) (drop l.i (neighbours_of l.a l.w l.h l.x)) l.initial.labels l.initial.stack l.top l.labels l.stack l.t
-
-abbrev pub decreases-loop-i : goal.decreases-loop-i
-decreases-loop-i l = l.count - l.i
+abbrev pub invariant-loop-y : goal.invariant-loop-y
+invariant-loop-y l =
+    let p = picture l.raster in
+    Spread p l.k l.c l.x (neighbours_in p l.x) (drop l.y-index (neighbours_in p l.x)) l.initial.labels l.initial.stack l.top l.labels l.stack l.t

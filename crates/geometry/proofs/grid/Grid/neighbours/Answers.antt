@@ -1,16 +1,15 @@
 -- `geometry::neighbours` meets its contract. The invariant is Front: what stands in front of the cells.
-use mathlib.Core.List.{[], ◌∷◌}
-use borrow.Author.Rules.{rules}
+use Rattle.std.proofs.Common.{rules, [], ◌∷◌}
 use Rattle.geometry.specs.Steps.{step_at}
 use Rattle.geometry.proofs.Front.{front-start, front-turn, put-digits}
-use Rattle.geometry.proofs.neighbours.Goals as goal
+use Rattle.geometry.proofs.grid.Grid.neighbours.Goals as goal
 
 pub loop-i-init : goal.loop-i-init
 loop-i-init c = front-start _ _ _ _ _ (search rules)
 
 pub loop-i-preserved : goal.loop-i-preserved
 loop-i-preserved c =
-    let s = c.args in
+    let grid = c.args.self in
     rw c.stride-next.ensures
     (front-turn _ _ _ _ _ _ _ _ c.loop-i.invariant _ _ c.loop-i-test.true
-    (put-digits s.w s.h s.x (step_at c.loop-i.i ∷ []) _ _ _ _ c.put_step-m.ensures))
+    (put-digits grid.width grid.height c.args.x (step_at c.loop-i.i ∷ []) _ _ _ _ c.put_step-m.ensures))

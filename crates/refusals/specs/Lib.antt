@@ -1,0 +1,2 @@
+-- The refusals of files and calls.
+pub mod Refusals
