@@ -22,7 +22,7 @@ use Rattle.topology.proofs.Fathers.{father-found}
 use Rattle.topology.proofs.Accepted.{accepted-is}
 use Rattle.topology.proofs.Tree.{one-root}
 use Rattle.topology.proofs.TreeLists.{length-heights, length-fathers, length-firsts, heights-at, fathers-at, firsts_at}
-use Rattle.answers.specs.declared.Answer.{Answer}
+use Rattle.answers.specs.Answers.{Answer}
 use Rattle.answers.specs.Answers.{after_call}
 use Rattle.board.specs.Trees.{begins, is_tree, tree_fault_of, places_fault_of, checked_fault, TreeSays, PassSays}
 use Rattle.board.specs.Demands.{left_by, answered_node, TreesKept, Trees-of-calls, Passes-of-calls}

@@ -12,7 +12,7 @@ use Rattle.picture.specs.Kept.{Kept, OthersFail}
 use Rattle.topology.proofs.Accepted.{byte_at, accepted-is}
 use Rattle.topology.proofs.Water.{watershed-shape, watershed-watered}
 use Rattle.topology.proofs.Demand.{demand-3, other-fails}
-use Rattle.answers.specs.declared.Answer.{Answer}
+use Rattle.answers.specs.Answers.{Answer}
 use Rattle.answers.proofs.Calls.{written-left}
 use Rattle.board.specs.Calls.{output_fault_of, WatershedSays}
 use Rattle.board.specs.Demands.{left_by, Demand-3-of-call}

@@ -12,7 +12,7 @@ use Rattle.patch_records.specs.declared.Patch.{Patch as PatchRecord}
 use Rattle.patch_records.specs.Records.{records}
 use Rattle.patch_lists.specs.PatchLists.{list_fault, record_of}
 use Rattle.patch_lists.specs.Steps.{Gathered}
-use Rattle.answers.specs.declared.Answer.{Answer}
+use Rattle.answers.specs.Answers.{Answer}
 use Rattle.answers.specs.Answers.{after_call, work_after, cleared}
 use Rattle.board.specs.PatchLists.{PatchesSay}
 

@@ -11,8 +11,13 @@ use Rattle.picture.specs.Pictures.{Picture, places}
 use Rattle.answers.specs.Answers.{cleared}
 use Rattle.answers.proofs.Calls.{refused-left, cleared-left}
 use Rattle.board.specs.declared.query.Ground.TheVariants as G
+use Rattle.std.proofs.Common.{Ok, Err, arith}
+use Rattle.refusals.specs.declared.Refusal.{Refusal}
+use Rattle.refusals.specs.Refusals.{number_of}
+use Rattle.refusals.proofs.Numbers.{number-some}
+use Rattle.board.specs.declared.query.Ground.{Ground}
 use Rattle.board.specs.declared.query.Queried.{Queried}
-use Rattle.board.specs.Calls.{ground_of, QueryIs, QueriedSays}
+use Rattle.board.specs.Calls.{QueryAnswer, queried_of, ground_of, QueryIs, QueriedSays}
 
 -- the ground of a patch number that is not 0
 pub ground-patch : (n : ℕ) → n ≢ 0 → G.Patch n ≡ ground_of n
@@ -22,28 +27,26 @@ ground-patch (suc n) d = refl
 -- a refused query, and an answered one: of the fault f, the value v and the patch number m
 module _ (f v m : ℕ) (p : Picture) (q : List ℕ) where
   -- the answer by whether there is a fault
-  abbrev answer : Bool → Queried
+  abbrev answer : Bool → QueryAnswer
   answer t = record { number = f; value = pick t v 0; ground = ground_of (pick t m 0) }
 
-  pub refused-query : (g : ℕ) (r : Queried) → g ≡ f → g ≢ 0 → QueryIs g 0 0 r → QueriedSays f v m p q q r
-  refused-query g r e d w =
+  pub refused-query : (e : Refusal) → number_of e ≡ f → QueriedSays f v m p q q (queried_of (Err e))
+  refused-query e n =
       record {
         answer =
-            w ∙
-            (ap (λ (k : ℕ). record { number = k; value = 0; ground = ground_of 0 }) e ∙
-            sym (ap answer (ne_eqb f 0 (λ z. d (e ∙ z)))));
-        work = refused-left f g e d _ q;
+            ap (λ (k : ℕ). record { number = k; value = 0; ground = ground_of 0 }) n ∙
+            sym (ap answer (ne_eqb f 0 (λ z. let some = number-some e in absurd (omega arith))));
+        work = refused-left f e n _ q;
       }
 
   pub answered-query :
-      (q' : List ℕ) (a b : ℕ) (r : Queried) → f ≡ 0 → length p.pixels ≡ places p →
-      a ≡ v → b ≡ m → q' ≡ cleared (length p.pixels) q → QueryIs 0 a b r → QueriedSays f v m p q q' r
-  answered-query q' a b r z n ev em c w =
+      (q' : List ℕ) (u : Queried) → f ≡ 0 → length p.pixels ≡ places p →
+      u.value ≡ v → u.ground ≡ ground_of m → q' ≡ cleared (length p.pixels) q → QueriedSays f v m p q q' (queried_of (Ok u))
+  answered-query q' u z n ev eg c =
       record {
         answer =
-            w ∙
-            (ap₂ (λ (a b : ℕ). record { number = 0; value = a; ground = ground_of b }) ev em ∙
+            ap₂ (λ (a : ℕ) (g : Ground). let ground : Ground = g in record { number = 0; value = a; ground = ground }) ev eg ∙
             (ap (λ (k : ℕ). record { number = k; value = v; ground = ground_of m }) (sym z) ∙
-            sym (ap answer (eq-eqb f 0 z))));
+            sym (ap answer (eq-eqb f 0 z)));
         work = cleared-left f (length p.pixels) p q q q' z n refl c;
       }

@@ -14,7 +14,7 @@ use Rattle.lists.proofs.Tests.{or-fails, or-neither, test-false, pick-in, pick_o
 use Rattle.topology.proofs.Accepted.{byte_at}
 use Rattle.topology.proofs.Nearest.{nearest-patch, touched-five, touched-else}
 use Rattle.faults.proofs.Faults.{place-most, handbook-unknown, handbook-known, touch-enough, admitted}
-use Rattle.board.specs.declared.query.Queried.{Queried}
+use Rattle.board.specs.Calls.{QueryAnswer}
 use Rattle.board.specs.Calls.{place_fault_of, touch_fault_of, ground_of, QueriedSays}
 use Rattle.board.specs.Touches.{Touch-unknown, Touch-four, Touch-inside, Touch-five}
 use Rattle.board.proofs.Queries.{ground-patch}
@@ -45,7 +45,7 @@ touch-unknown handbook p x q q' r says = (
 )
   where
     number : r.number ≡ touch_fault_of handbook p q x
-    number = ap (λ (a : Queried). a.number) says.answer
+    number = ap (λ (a : QueryAnswer). a.number) says.answer
 
 -- under handbook 4 a touch belongs to the patch of its place, and inside a patch under handbook 5 too
 touched-four : (p : Picture) (x : ℕ) → touched_patch 4 p x ≡ patch_at p x
@@ -57,7 +57,7 @@ touched-inside p x h = pick_out (patch_at p x) 0 (nearest_patch p x) (patch_at p
 
 -- the same fault and the same patch number, the same promise
 same-says :
-    {f g m n v : ℕ} {p : Picture} {q q' : List ℕ} {r : Queried} → f ≡ g → m ≡ n → QueriedSays f v m p q q' r ↔ QueriedSays g v n p q q' r
+    {f g m n v : ℕ} {p : Picture} {q q' : List ℕ} {r : QueryAnswer} → f ≡ g → m ≡ n → QueriedSays f v m p q q' r ↔ QueriedSays g v n p q q' r
 same-says {f} {g} {m} {n} {v} {p} {q} {q'} {r} e d = (
   λ s. subst (λ (k : ℕ). QueriedSays k v n p q q' r) e (subst (λ (k : ℕ). QueriedSays f v k p q q' r) d s),
   λ s. subst (λ (k : ℕ). QueriedSays k v m p q q' r) (sym e) (subst (λ (k : ℕ). QueriedSays g v k p q q' r) (sym d) s),
@@ -73,14 +73,14 @@ touch-inside p x h q q' r =
 pub touch-five : Touch-five
 touch-five p x q q' r bytes says z =
     let f = touch_fault_of 5 p q x in
-    let none : f ≡ 0 = sym (ap (λ (a : Queried). a.number) says.answer) ∙ z in
+    let none : f ≡ 0 = sym (ap (λ (a : QueryAnswer). a.number) says.answer) ∙ z in
     let (e, b) = touch-enough p.adjacency p.width p.height (length p.pixels) (length q) x 5 none in
     let ok = (admitted p (length q) e (byte_at p.pixels bytes)).picture in
     let (n, nearest, is, some) = nearest-patch p ok x b in
     let number : touched_patch 5 p x ≡ patch_at p n.first = touched-five p ok x b ∙ is in (
       n,
       nearest,
-      ap (λ (a : Queried). a.ground) says.answer ∙
+      ap (λ (a : QueryAnswer). a.ground) says.answer ∙
           (ap ground_of (pick-in f 0 (touched_patch 5 p x) 0 none ∙ number) ∙
           sym (ground-patch (patch_at p n.first) (λ y. absurd (omega arith)))),
     )

@@ -5,7 +5,7 @@ use Rattle.picture.specs.Pictures.{Picture, places, with_pixels, all_bytes}
 use Rattle.picture.specs.Trees.{Node}
 use Rattle.picture.specs.Patches.{patch_at}
 use Rattle.picture.specs.Kept.{partners, Kept, OthersFail}
-use Rattle.answers.specs.declared.Answer.{Answer}
+use Rattle.answers.specs.Answers.{Answer}
 use Rattle.picture.specs.Filling.{filled}
 use Rattle.board.specs.Calls.{WatershedSays, FillSays}
 use Rattle.board.specs.Trees.{TreeSays, PassSays}

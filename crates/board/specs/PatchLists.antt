@@ -6,7 +6,7 @@ use Rattle.picture.specs.Pictures.{Picture}
 use Rattle.picture.specs.Patches.{patches}
 use Rattle.patch_records.specs.declared.Patch.{Patch as PatchRecord}
 use Rattle.patch_lists.specs.PatchLists.{list_fault, record_of}
-use Rattle.answers.specs.declared.Answer.{Answer}
+use Rattle.answers.specs.Answers.{Answer}
 use Rattle.answers.specs.Answers.{after_call, WorkSays}
 
 -- the records of the patches in front of what was in the list, and how many there are; all as it was after a refusal

@@ -6,7 +6,7 @@ use Rattle.picture.specs.Pictures.{Picture, places}
 use Rattle.picture.specs.Passes.{pass}
 use Rattle.picture.specs.Trees.{nodes, tree_of}
 use Rattle.faults.specs.PictureFault.{first_of, when}
-use Rattle.answers.specs.declared.Answer.{Answer}
+use Rattle.answers.specs.Answers.{Answer}
 use Rattle.faults.specs.Faults.{output_fault}
 use Rattle.answers.specs.Answers.{after_call, WorkSays}
 

@@ -1,13 +1,16 @@
 // The answer of a place query and of a touch, and their core with work cleared.
-ghost use Rattle.std.specs.Prelude.{◌≡◌, ◌*◌, ◌<◌, length};
-ghost use Rattle.picture.specs.Pictures.{picture_of};
+ghost use Rattle.std.specs.Prelude.{◌≡◌, ◌*◌, ◌≤◌, ◌<◌, length};
+ghost use Rattle.picture.specs.Pictures.{places};
 ghost use Rattle.picture.specs.Patches.{touched_patch};
-ghost use Rattle.faults.specs.Steps.{Admitted};
+ghost use Rattle.geometry.specs.Rasters.{picture};
+ghost use Rattle.patches.specs.Handbooks.{handbook_number};
 ghost use Rattle.answers.specs.Answers.{cleared};
-ghost use Rattle.board.specs.Calls.{ground_of, patch_number, QueryIs};
+ghost use Rattle.board.specs.Calls.{ground_of, patch_number};
 
 use answers::clear_work;
+use geometry::raster::Raster;
 use patches::cores::touch_core;
+use patches::handbook::Handbook;
 
 // Where a place lies: on the line, or in the patch of a number.
 #[derive(Clone, Copy)]
@@ -26,57 +29,34 @@ pub fn patch_number(ground: Ground) -> u16
     }
 }
 
-// The number of a refusal, or 0 with the pixel's value and where it lies.
+// The pixel's value and where it lies.
 #[derive(Clone, Copy)]
 pub struct Queried {
-    pub number: u8,
     pub value: u8,
     pub ground: Ground,
 }
 
 // Where a place of a patch number lies.
-fn ground_of(number: u16) -> Ground
+pub fn ground_of(number: u16) -> Ground
     ensures { result ≡ ground_of number }
 {
-    if number == 0 {
-        return Ground::Line;
-    }
-    Ground::Patch(number)
-}
-
-// The answer of a place query or of a touch.
-pub fn answer_query(number: u8, value: u8, patch: u16) -> Queried
-    ensures { QueryIs number value patch result }
-{
-    Queried {
-        number: number,
-        value: value,
-        ground: ground_of(patch),
+    match number {
+        0 => Ground::Line,
+        _ => Ground::Patch(number),
     }
 }
 
 // The number of the patch that a touch at a place belongs to by a handbook, from work of 5 n entries that is cleared after it.
-pub fn touch_cleared(
-    handbook: u32,
-    a: u32,
-    w: u32,
-    h: u32,
-    pixels: &[u8],
-    place: usize,
-    work: &mut [u16],
-) -> u16
-    requires { Admitted (picture_of a w h pixels.now) (length work.old) × (place < w * h) }
-    ensures { (result ≡ touched_patch handbook (picture_of a w h pixels.now) place) × (work.new ≡ cleared (length pixels.now) work.old) }
+pub fn touch_cleared(handbook: Handbook, raster: &Raster, place: usize, work: &mut [u16]) -> u16
+    requires { (5 * length raster.now.pixels.now ≤ length work.old) × (place < places (picture raster.now)) }
+    ensures { (result ≡ touched_patch (handbook_number handbook) (picture raster.now) place) × (work.new ≡ cleared (length raster.now.pixels.now) work.old) }
 {
-    let n = pixels.len();
+    let n = raster.pixels.len();
     let whole = 5 * n;
     let mut cells = [0u16; 1600];
     let number = touch_core(
         handbook,
-        a,
-        w,
-        h,
-        pixels,
+        raster,
         place,
         &mut work[..whole],
         &mut cells[..n],

@@ -17,8 +17,8 @@ use Rattle.picture.specs.Patches.{patch_at}
 use Rattle.lists.proofs.Tests.{on_test, pick-in}
 use Rattle.p5.specs.Files.{read_file, outcome_number, header_of}
 use Rattle.lists.specs.Writing.{Written}
-use Rattle.answers.specs.declared.Answer.{Answer}
-use Rattle.board.specs.declared.query.Queried.{Queried}
+use Rattle.answers.specs.Answers.{Answer}
+use Rattle.board.specs.Calls.{QueryAnswer}
 use Rattle.faults.specs.Faults.{work_fault, work_fault_of, output_fault}
 use Rattle.faults.specs.Steps.{Faultless}
 use Rattle.answers.specs.Answers.{after_call, work_after}
@@ -172,15 +172,15 @@ ground-number zero = refl
 ground-number (suc n) = refl
 
 -- the value and the patch number that an unrefused place query answers
-module _ (p : Picture) (x : ℕ) (cells left : List ℕ) (r : Queried) (s : QuerySays p x cells left r) (z : place_fault_of p cells x ≡ 0) where
+module _ (p : Picture) (x : ℕ) (cells left : List ℕ) (r : QueryAnswer) (s : QuerySays p x cells left r) (z : place_fault_of p cells x ≡ 0) where
   answered-value : r.value ≡ value_at p x
   answered-value =
-      ap (λ (u : Queried). u.value) s.answer ∙
+      ap (λ (u : QueryAnswer). u.value) s.answer ∙
       pick-in (place_fault_of p cells x) 0 (value_at p x) 0 z
 
   answered-number : patch_number r.ground ≡ patch_at p x
   answered-number =
-      ap (λ (u : Queried). patch_number u.ground) s.answer ∙
+      ap (λ (u : QueryAnswer). patch_number u.ground) s.answer ∙
       (ground-number (pick (eqb (place_fault_of p cells x) 0) (patch_at p x) 0) ∙
       pick-in (place_fault_of p cells x) 0 (patch_at p x) 0 z)
 
@@ -214,7 +214,7 @@ module _ (p : Picture) (x : ℕ) (o q : List ℕ) where
 
     -- no fault: what the public call answered and left with the unpacked entries, and what was written and packed of it
     pub place-done :
-        (o' q' cells left : List ℕ) (r : Queried) (n to : ℕ) → length cells ≡ 8000 → QuerySays p x cells left r → n ≡ patch_number r.ground →
+        (o' q' cells left : List ℕ) (r : QueryAnswer) (n to : ℕ) → length cells ≡ 8000 → QuerySays p x cells left r → n ≡ patch_number r.ground →
         Written 0 (pair r.value n) o to o' → q' ≡ over (packed (take (5 * length p.pixels) left)) q → PlaceForC p x o o' q q' 0
     place-done o' q' cells left r n to e s en w c =
         let f = place_fault_for_c p (length o) (length q) x in

@@ -1,15 +1,27 @@
 // The calls for C: numbers and byte memory only.
 #![tactic(auto)]
 
-ghost use Rattle.std.specs.Prelude.{◌+◌, ◌≤◌, length};
+ghost use Rattle.std.specs.Prelude.{◌≡◌, ◌+◌, ◌≤◌, length};
 ghost use Rattle.picture.specs.Pictures.{picture_of};
 ghost use Rattle.lists.specs.Writing.{Written};
+ghost use Rattle.refusals.specs.Refusals.{fault_of};
 ghost use Rattle.board_c.specs.CalledByC.{pair, ReadForC, WatershedForC, PlaceForC};
 
 use board::{patch_number, query_place, read_file, watershed_of};
-use faults::{output_fault, place_after, short_after, work_fault};
+use faults::{place_inside, room, with_output, with_work};
 use packing::{pack, unpack};
+use refusals::Refusal;
 use text::put_little;
+
+// 0, or the number of the refusal.
+fn status(answer: Result<(), Refusal>) -> u32
+    ensures { result ≡ fault_of answer }
+{
+    match answer {
+        Ok(()) => 0,
+        Err(refusal) => u32::from(refusal.number()),
+    }
+}
 
 // Writes two numbers as eight bytes each, lowest first, and answers the position behind them.
 fn put_pair(out: &mut [u8], at: usize, x: u64, y: u64) -> usize
@@ -21,21 +33,85 @@ fn put_pair(out: &mut [u8], at: usize, x: u64, y: u64) -> usize
 }
 
 // Reads a file; writes width, height, largest sample and the pixels' offset.
+fn read_bytes(file: &[u8], out: &mut [u8]) -> Result<(), Refusal>
+    ensures { ReadForC file.now out.old out.new (fault_of result) }
+{
+    let header = read_file(file)?;
+    room(out.len(), 32)?;
+    let next = put_pair(
+        out,
+        0,
+        u64::from(header.width),
+        u64::from(header.height),
+    );
+    put_pair(
+        out,
+        next,
+        u64::from(header.largest),
+        header.offset as u64,
+    );
+    Ok(())
+}
+
+// The watershed of a picture; its work is the lent bytes as 16-bit entries, unpacked into a local.
+fn watershed_bytes(
+    adjacency: u32,
+    width: u32,
+    height: u32,
+    pixels: &[u8],
+    out: &mut [u8],
+    work: &mut [u8],
+) -> Result<(), Refusal>
+    ensures { WatershedForC (picture_of adjacency width height pixels.now) out.old out.new work.old work.new (fault_of result) }
+{
+    let halves = work.len() / 2;
+    with_output(adjacency, width, height, pixels, out.len(), halves)?;
+    let entries = 5 * pixels.len();
+    let mut cells = [0u16; 8000];
+    unpack(work, &mut cells, entries);
+    watershed_of(adjacency, width, height, pixels, out, &mut cells)?;
+    pack(&cells, work, entries);
+    Ok(())
+}
+
+// The value of the pixel at a place and the number of its patch, 0 for the line.
+fn place_bytes(
+    adjacency: u32,
+    width: u32,
+    height: u32,
+    pixels: &[u8],
+    place: u32,
+    out: &mut [u8],
+    work: &mut [u8],
+) -> Result<(), Refusal>
+    ensures { PlaceForC (picture_of adjacency width height pixels.now) place out.old out.new work.old work.new (fault_of result) }
+{
+    with_work(adjacency, width, height, pixels, work.len() / 2)?;
+    room(out.len(), 16)?;
+    place_inside(pixels.len(), place)?;
+    let entries = 5 * pixels.len();
+    let mut cells = [0u16; 8000];
+    unpack(work, &mut cells, entries);
+    let queried = query_place(adjacency, width, height, pixels, place, &mut cells)?;
+    put_pair(
+        out,
+        0,
+        u64::from(queried.value),
+        u64::from(patch_number(queried.ground)),
+    );
+    pack(&cells, work, entries);
+    Ok(())
+}
+
+// Reading for C.
 #[unsafe(no_mangle)]
 pub extern "C" fn board_read(file: &[u8], out: &mut [u8]) -> u32
     ensures { ReadForC file.now out.old out.new result }
 {
-    let answer = read_file(file);
-    let fault = short_after(answer.number, out.len(), 32);
-    if fault != 0 {
-        return fault as u32;
-    }
-    let next = put_pair(out, 0, answer.width as u64, answer.height as u64);
-    put_pair(out, next, answer.largest as u64, answer.offset as u64);
-    0
+    status(read_bytes(file, out))
 }
 
-// The watershed of a picture; its work is the lent bytes as 16-bit entries, unpacked into a local.
+// The watershed for C.
 #[unsafe(no_mangle)]
 pub extern "C" fn board_watershed(
     adjacency: u32,
@@ -47,26 +123,10 @@ pub extern "C" fn board_watershed(
 ) -> u32
     ensures { WatershedForC (picture_of adjacency width height pixels.now) out.old out.new work.old work.new result }
 {
-    let fault = output_fault(
-        adjacency,
-        width,
-        height,
-        pixels.len(),
-        out.len(),
-        work.len() / 2,
-    );
-    if fault != 0 {
-        return fault as u32;
-    }
-    let entries = 5 * pixels.len();
-    let mut cells = [0u16; 8000];
-    unpack(work, &mut cells, entries);
-    watershed_of(adjacency, width, height, pixels, out, &mut cells);
-    pack(&cells, work, entries);
-    0
+    status(watershed_bytes(adjacency, width, height, pixels, out, work))
 }
 
-// The value of the pixel at a place and the number of its patch, 0 for the line.
+// The place query for C.
 #[unsafe(no_mangle)]
 pub extern "C" fn board_place(
     adjacency: u32,
@@ -79,20 +139,5 @@ pub extern "C" fn board_place(
 ) -> u32
     ensures { PlaceForC (picture_of adjacency width height pixels.now) place out.old out.new work.old work.new result }
 {
-    let fault = work_fault(adjacency, width, height, pixels.len(), work.len() / 2);
-    let fault = short_after(fault, out.len(), 16);
-    let fault = place_after(fault, pixels.len(), place);
-    if fault != 0 {
-        return fault as u32;
-    }
-    let entries = 5 * pixels.len();
-    let mut cells = [0u16; 8000];
-    unpack(work, &mut cells, entries);
-    let answer = query_place(adjacency, width, height, pixels, place, &mut cells);
-    let value = answer.value;
-    let ground = answer.ground;
-    let number = patch_number(ground);
-    put_pair(out, 0, value as u64, number as u64);
-    pack(&cells, work, entries);
-    0
+    status(place_bytes(adjacency, width, height, pixels, place, out, work))
 }

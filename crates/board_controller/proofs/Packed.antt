@@ -5,9 +5,9 @@ use Prim.Native.Nat.{ℕ, zero, suc}
 use lib.Dec.{eqb}
 use Rattle.lists.specs.Lists.{pick}
 use Rattle.picture.specs.Pictures.{Picture}
-use Rattle.answers.specs.declared.Answer.{Answer}
+use Rattle.answers.specs.Answers.{Answer}
 use Rattle.answers.specs.Answers.{WorkSays}
-use Rattle.board.specs.declared.query.Queried.{Queried}
+use Rattle.board.specs.Calls.{QueryAnswer}
 use Rattle.board.specs.Calls.{ground_of, patch_number, QueriedSays}
 use Rattle.saving.specs.declared.Saved.{Saved}
 use Rattle.saving.specs.Calls.{SaveSays}
@@ -20,7 +20,7 @@ ground-again (suc n) = refl
 
 -- what a public call promises of the answer for a place holds of the packed one, since no place has the patch 0
 pub query-packed :
-    {f v n : ℕ} {p : Picture} {q q' : List ℕ} {a : Queried} (r : ℕ) →
+    {f v n : ℕ} {p : Picture} {q q' : List ℕ} {a : QueryAnswer} (r : ℕ) →
     queried_in r ≡ ground_by_number a → QueriedSays f v n p q q' a → QueriedSays f v n p q q' (queried_in r)
 query-packed {f} {v} {n} r e s =
     let number = pick (eqb f 0) n 0 in

@@ -10,10 +10,7 @@ fn values_of(largest: u32) -> u32
     ensures value { result ≡ values_of largest }
     ensures lower_bound { (1 ≤ result) × (result ≤ 256) }
 {
-    if largest < 256 {
-        return largest + 1;
-    }
-    256
+    if largest < 256 { largest + 1 } else { 256 }
 }
 
 // A pixel, one of some values.
@@ -30,10 +27,8 @@ fn put_pixels(out: &mut [u8], at: usize, values: u32, count: u32) -> usize
     ensures { Written at (edge_pixels values count) out.old result out.new }
 {
     let mut to = at;
-    let mut i = 0;
-    while i < count {
+    for i in 0..count {
         to = put(out, to, edge_pixel(values, i));
-        i += 1;
     }
     to
 }

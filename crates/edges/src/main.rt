@@ -1,7 +1,7 @@
 // Prints for each edge case its name, then what `holds` prints for its file and argument; of a handbook what a touch answers.
 #![tactic(auto)]
 
-use board::{Queried, patch_number, touch_place};
+use board::{Queried, Refusal, patch_number, touch_place};
 use files::{put_file, put_headed};
 use hold_list::put_text;
 use text::{put_bytes, put_number, put_word};
@@ -237,7 +237,7 @@ fn print_arguments() {
 }
 
 // What a touch at a place of the row 0 2 1 9 5 answers by a handbook and an adjacency.
-fn touched(handbook: u32, adjacency: u32, place: u32) -> Queried {
+fn touched(handbook: u32, adjacency: u32, place: u32) -> Result<Queried, Refusal> {
     let mut work = [0u16; 25];
     touch_place(
         handbook,
@@ -254,17 +254,20 @@ fn touched(handbook: u32, adjacency: u32, place: u32) -> Queried {
 fn touch_refusal(handbook: u32, adjacency: u32) -> u32
     ensures { result < 100000 }
 {
-    let answer = touched(handbook, adjacency, 0);
-    answer.number as u32
+    match touched(handbook, adjacency, 0) {
+        Ok(_) => 0,
+        Err(refusal) => u32::from(refusal.number()),
+    }
 }
 
-// The number of the patch that a touch at a place belongs to by a handbook, 0 for the line.
+// The number of the patch that a touch at a place belongs to by a handbook, 0 for the line and for a refusal.
 fn touched_patch(handbook: u32, place: u32) -> u32
     ensures { result < 100000 }
 {
-    let answer = touched(handbook, 4, place);
-    let ground = answer.ground;
-    patch_number(ground) as u32
+    match touched(handbook, 4, place) {
+        Ok(queried) => u32::from(patch_number(queried.ground)),
+        Err(_) => 0,
+    }
 }
 
 // Prints the patch of a touch, then the given text.

@@ -17,7 +17,7 @@ use Rattle.patch_records.specs.declared.Patch.{Patch as PatchRecord}
 use Rattle.patch_records.specs.Records.{record_at, records}
 use Rattle.patch_lists.specs.PatchLists.{record_of}
 use Rattle.patch_lists.specs.Steps.{Gathered}
-use Rattle.answers.specs.declared.Answer.{Answer}
+use Rattle.answers.specs.Answers.{Answer}
 use Rattle.answers.specs.Answers.{work_after, cleared}
 use Rattle.answers.proofs.Calls.{refused-left, written-left}
 use Rattle.figure_lists.specs.Figures.{shortest, figures_fault, figures_after, FiguresSay}

@@ -5,7 +5,7 @@ use Rattle.lists.specs.Lists.{over}
 use Rattle.picture.specs.Pictures.{Picture}
 use Rattle.picture.specs.Patches.{Patch, patches}
 use Rattle.patch_lists.specs.PatchLists.{list_fault}
-use Rattle.answers.specs.declared.Answer.{Answer}
+use Rattle.answers.specs.Answers.{Answer}
 use Rattle.answers.specs.Answers.{after_call, WorkSays}
 
 -- the least length of the five lists

@@ -4,15 +4,16 @@
 ghost use Rattle.std.specs.Prelude.{◌≡◌, map};
 ghost use Rattle.lists.specs.Lists.{over};
 ghost use Rattle.picture.specs.Pictures.{picture_of};
+ghost use Rattle.answers.specs.Answers.{answer_of};
 ghost use Rattle.patch_records.specs.Records.{records};
 ghost use Rattle.figure_lists.specs.Steps.{Room};
 ghost use Rattle.figure_lists.specs.Figures.{FiguresSay};
 
-use answers::{Answer, clear_work};
+use answers::clear_work;
 use cells::copy;
 use faults::least;
 use patch_lists::gather;
-use ranges::lesser;
+use refusals::Refusal;
 
 // The figures of the first count patches in front of the lists.
 fn hand_out(
@@ -51,30 +52,18 @@ pub fn list_figures(
     columns: &mut [u16],
     rows: &mut [u16],
     work: &mut [u16],
-) -> Answer
-    ensures { FiguresSay (picture_of adjacency width height pixels.now) sizes.old sizes.new heights.old heights.new depths.old depths.new columns.old columns.new rows.old rows.new work.old work.new result }
+) -> Result<u32, Refusal>
+    ensures { FiguresSay (picture_of adjacency width height pixels.now) sizes.old sizes.new heights.old heights.new depths.old depths.new columns.old columns.new rows.old rows.new work.old work.new (answer_of result) }
 {
-    let room = least(
+    let shortest = least(
         sizes.len(),
         heights.len(),
         depths.len(),
-        lesser(columns.len(), rows.len()),
+        columns.len().min(rows.len()),
     );
-    let answer = gather(adjacency, width, height, pixels, room, work);
-    if answer.number != 0 {
-        return answer;
-    }
+    let count = gather(adjacency, width, height, pixels, shortest, work)?;
     let n = pixels.len();
-    hand_out(
-        work,
-        n,
-        answer.value as usize,
-        sizes,
-        heights,
-        depths,
-        columns,
-        rows,
-    );
+    hand_out(work, n, count, sizes, heights, depths, columns, rows);
     clear_work(work, n);
-    answer
+    Ok(count as u32)
 }

@@ -2,13 +2,12 @@
 #![tactic(auto)]
 
 use argument::asked_size;
-use faults::size_after;
+use faults::size_inside;
 use file_text::read_handed;
 use filling::whole::fill_core;
 use hold_lines::{put_head, put_lines, put_refusal};
 use patches::cores::patch_figures;
 use patches::places::count_line;
-use ranges::lesser;
 use watershed::whole::watershed_core;
 
 mod argument;
@@ -23,27 +22,25 @@ ghost use Rattle.file_text.specs.FileText.{input_most};
 ghost use Rattle.hold_list.specs.HoldText.{patch_list, hold_list, filled_list, program_text};
 ghost use Rattle.hold_list.specs.Steps.{asked_list};
 
-// Writes the list of the patches of a picture with adjacency 4 from their figures, and answers the
-// position behind it.
+// Writes the list of the patches of a picture from their figures, and answers the position behind it.
 fn put_list(
-    w: u32,
-    h: u32,
-    pixels: &[u8],
+    raster: &Raster,
     count: usize,
     work: &[u16],
     cells: &[u16],
     out: &mut [u8],
 ) -> usize
-    requires { (is_picture (picture_of 4 w h pixels.now) ≡ true) × FiveBlocks (w * h) work.now cells.now × Figures (picture_of 4 w h pixels.now) count work.now cells.now × (59264 ≤ length out.old) }
-    ensures { Written 0 (patch_list (picture_of 4 w h pixels.now)) out.old result out.new }
+    requires { FiveBlocks (places (picture raster.now)) work.now cells.now × Figures (picture raster.now) count work.now cells.now × (59264 ≤ length out.old) }
+    ensures { Written 0 (patch_list (picture raster.now)) out.old result out.new }
 {
     // where the blocks of row sums, depths and heights begin; sizes are at 0, column sums at n
-    let n = pixels.len();
+    let n = raster.pixels.len();
     let rows = 2 * n;
     let depths = 3 * n;
     let heights = 4 * n;
+    let grid = raster.grid;
     let line = count_line(cells);
-    let next = put_head(out, w, h, count as u32, line as u32);
+    let next = put_head(out, grid.width, grid.height, count as u32, line as u32);
     put_lines(
         out,
         next,
@@ -56,54 +53,51 @@ fn put_list(
     )
 }
 
-// Writes the list of the patches of a picture with adjacency 4, and answers the position behind it.
+// Writes the list of the patches of a picture, and answers the position behind it.
 fn put_patches(
-    w: u32,
-    h: u32,
-    pixels: &[u8],
+    raster: &Raster,
     work: &mut [u16],
     cells: &mut [u16],
     out: &mut [u8],
 ) -> usize
-    requires { (is_picture (picture_of 4 w h pixels.now) ≡ true) × FiveBlocks (w * h) work.old cells.old × (59264 ≤ length out.old) }
-    ensures { Written 0 (patch_list (picture_of 4 w h pixels.now)) out.old result out.new }
+    requires { FiveBlocks (places (picture raster.now)) work.old cells.old × (59264 ≤ length out.old) }
+    ensures { Written 0 (patch_list (picture raster.now)) out.old result out.new }
 {
-    let count = patch_figures(4, w, h, pixels, work, cells);
-    put_list(w, h, pixels, count, work, cells, out)
+    let count = patch_figures(raster, work, cells);
+    put_list(raster, count, work, cells, out)
 }
 
-// Writes the hold list of a picture with adjacency 4, the patches of its watershed, with lent
-// memory, and answers the position behind it.
+// Writes the hold list of a picture, the patches of its watershed, with lent memory, and answers the position behind it.
 fn put_holds_with(
-    w: u32,
-    h: u32,
-    pixels: &[u8],
+    raster: &Raster,
     water: &mut [u8],
     work: &mut [u16],
     cells: &mut [u16],
     out: &mut [u8],
 ) -> usize
-    requires { (is_picture (picture_of 4 w h pixels.now) ≡ true) × (length water.old ≡ w * h) × FiveBlocks (w * h) work.old cells.old × (59264 ≤ length out.old) }
-    ensures { Written 0 (hold_list (picture_of 4 w h pixels.now)) out.old result out.new }
+    requires { (length water.old ≡ places (picture raster.now)) × FiveBlocks (places (picture raster.now)) work.old cells.old × (59264 ≤ length out.old) }
+    ensures { Written 0 (hold_list (picture raster.now)) out.old result out.new }
 {
-    watershed_core(4, w, h, pixels, water, work);
-    put_patches(w, h, water, work, cells, out)
+    watershed_core(raster, water, work);
+    let watershed = Raster {
+        grid: raster.grid,
+        pixels: water,
+    };
+    put_patches(&watershed, work, cells, out)
 }
 
-// Writes the hold list of a picture with adjacency 4, and answers the position behind it.
-fn put_holds(w: u32, h: u32, pixels: &[u8], out: &mut [u8]) -> usize
-    requires { (is_picture (picture_of 4 w h pixels.now) ≡ true) × (59264 ≤ length out.old) }
-    ensures { Written 0 (hold_list (picture_of 4 w h pixels.now)) out.old result out.new }
+// Writes the hold list of a picture, and answers the position behind it.
+fn put_holds(raster: &Raster, out: &mut [u8]) -> usize
+    requires { 59264 ≤ length out.old }
+    ensures { Written 0 (hold_list (picture raster.now)) out.old result out.new }
 {
-    let n = pixels.len();
+    let n = raster.pixels.len();
     let whole = 5 * n;
     let mut water = [0u8; 1600];
     let mut work = [0u16; 8000];
     let mut cells = [0u16; 1600];
     put_holds_with(
-        w,
-        h,
-        pixels,
+        raster,
         &mut water[..n],
         &mut work[..whole],
         &mut cells[..n],
@@ -111,41 +105,53 @@ fn put_holds(w: u32, h: u32, pixels: &[u8], out: &mut [u8]) -> usize
     )
 }
 
-// Writes the hold list of a picture with adjacency 4 filled with the least size s, or the refusal
-// 13, and answers the position behind it.
-fn put_filled(w: u32, h: u32, pixels: &[u8], s: u32, out: &mut [u8]) -> usize
-    requires { (is_picture (picture_of 4 w h pixels.now) ≡ true) × (59264 ≤ length out.old) }
-    ensures { Written 0 (filled_list s (picture_of 4 w h pixels.now)) out.old result out.new }
+// Writes the hold list of a picture filled with the least size s, or the refusal 13, and answers the position behind it.
+fn put_filled(raster: &Raster, s: u32, out: &mut [u8]) -> usize
+    requires { 59264 ≤ length out.old }
+    ensures { Written 0 (filled_list s (picture raster.now)) out.old result out.new }
 {
-    let n = pixels.len();
-    let fault = size_after(0, n, s);
-    if fault != 0 {
-        return put_refusal(out, fault as u32);
+    let n = raster.pixels.len();
+    if let Err(refusal) = size_inside(n, s) {
+        return put_refusal(out, u32::from(refusal.number()));
     }
     let whole = 5 * n;
     let mut bytes = [0u8; 1600];
     let mut work = [0u16; 8000];
-    fill_core(
-        4,
-        w,
-        h,
-        pixels,
-        s as usize,
-        &mut bytes[..n],
-        &mut work[..whole],
-    );
-    put_holds(w, h, &bytes[..n], out)
+    fill_core(raster, s as usize, &mut bytes[..n], &mut work[..whole]);
+    let filled = Raster {
+        grid: raster.grid,
+        pixels: &bytes[..n],
+    };
+    put_holds(&filled, out)
 }
 
-// Writes what the words ask for of a picture with adjacency 4, and answers the position behind it.
-fn put_asked(w: u32, h: u32, pixels: &[u8], words: usize, argument: &[u8], out: &mut [u8]) -> usize
-    requires { (is_picture (picture_of 4 w h pixels.now) ≡ true) × (59264 ≤ length out.old) }
-    ensures { Written 0 (asked_list words argument.now (picture_of 4 w h pixels.now)) out.old result out.new }
+// Writes what the words ask for of a picture, and answers the position behind it.
+fn put_asked(raster: &Raster, words: usize, argument: &[u8], out: &mut [u8]) -> usize
+    requires { 59264 ≤ length out.old }
+    ensures { Written 0 (asked_list words argument.now (picture raster.now)) out.old result out.new }
 {
     if words < 2 {
-        return put_holds(w, h, pixels, out);
+        put_holds(raster, out)
+    } else {
+        put_filled(raster, asked_size(words, argument), out)
     }
-    put_filled(w, h, pixels, asked_size(words, argument), out)
+}
+
+// Writes what the words ask for of a file's picture with adjacency 4, and answers the position behind it.
+fn put_read(header: Header, file: &[u8], words: usize, argument: &[u8], out: &mut [u8]) -> usize
+    requires { (read_file file.now ≡ Ok header) × (59264 ≤ length out.old) }
+    ensures { Written 0 (asked_list words argument.now (picture_in file.now)) out.old result out.new }
+{
+    let grid = Grid {
+        adjacency: Adjacency::Four,
+        width: header.width,
+        height: header.height,
+    };
+    let raster = Raster {
+        grid,
+        pixels: &file[header.offset..],
+    };
+    put_asked(&raster, words, argument, out)
 }
 
 // Writes the text for a file and answers the position behind it.
@@ -153,20 +159,10 @@ fn put_file_text(file: &[u8], words: usize, argument: &[u8], out: &mut [u8]) -> 
     requires { 59264 ≤ length out.old }
     ensures { Written 0 (program_text words argument.now file.now) out.old result out.new }
 {
-    let answer = read_handed(file);
-    let number = answer.number;
-    if number != 0 {
-        return put_refusal(out, number as u32);
+    match read_handed(file) {
+        Ok(header) => put_read(header, file, words, argument, out),
+        Err(refusal) => put_refusal(out, u32::from(refusal.number())),
     }
-    let offset = answer.offset;
-    put_asked(
-        answer.width,
-        answer.height,
-        &file[offset..],
-        words,
-        argument,
-        out,
-    )
 }
 
 // Writes the text for the first `count` bytes of an input and answers the position behind it.
@@ -185,6 +181,6 @@ pub fn put_text(
     ensures input_value { input_most < count → program_text words argument.now (take count input.now) ≡ refused_line 12 }
 {
     let bytes: &[u8] = input;
-    let length = lesser(count, bytes.len());
+    let length = count.min(bytes.len());
     put_file_text(&bytes[..length], words, argument, out)
 }

@@ -2,8 +2,8 @@
 use mathlib.Core.Path.{◌≡◌, ap, ◌∙◌}
 use Prim.Native.Nat.{ℕ, ◌+◌, ◌*◌, ◌/◌, ◌%◌, ◌<◌}
 use native.Mathlib.Omega.{arith}
-use Rattle.answers.specs.declared.Answer.{Answer}
-use Rattle.board.specs.declared.query.Queried.{Queried}
+use Rattle.answers.specs.Answers.{Answer}
+use Rattle.board.specs.Calls.{QueryAnswer}
 use Rattle.board.specs.Calls.{ground_of, patch_number}
 use Rattle.saving.specs.declared.Saved.{Saved}
 use Rattle.packed_answers.specs.Packed.{two_to_32, two_to_16, answer_in, queried_in, ground_by_number, saved_in}
@@ -17,7 +17,7 @@ answer-again a h =
 
 -- a number above 32 bits, a pixel's value above 16 bits and a patch's number in those
 pub query-again :
-    (a : Queried) (m : ℕ) → a.value < 256 → m < two_to_16 → m ≡ patch_number a.ground →
+    (a : QueryAnswer) (m : ℕ) → a.value < 256 → m < two_to_16 → m ≡ patch_number a.ground →
     queried_in (a.number * two_to_32 + a.value * two_to_16 + m) ≡ ground_by_number a
 query-again a m h l e =
     let r = a.number * two_to_32 + a.value * two_to_16 + m in

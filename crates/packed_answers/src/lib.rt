@@ -2,9 +2,13 @@
 #![tactic(auto)]
 
 ghost use Rattle.std.specs.Prelude.{◌≡◌};
+ghost use Rattle.answers.specs.Answers.{answer_of};
+ghost use Rattle.saving.specs.Saved.{saved_of};
+ghost use Rattle.board.specs.Calls.{queried_of};
 ghost use Rattle.packed_answers.specs.Packed.{answer_in, queried_in, ground_by_number, saved_in};
 
-use board::{Answer, Queried, Saved, patch_number};
+use board::{Queried, patch_number};
+use refusals::Refusal;
 
 // 2 to the power 32.
 const TWO_TO_32: u64 = 4294967296;
@@ -12,29 +16,41 @@ const TWO_TO_32: u64 = 4294967296;
 // 2 to the power 16.
 const TWO_TO_16: u64 = 65536;
 
-// The refusal's number above 32 bits, the value in them.
-pub fn packed(answer: Answer) -> u64
-    ensures { answer_in result ≡ answer }
+// A refusal's number above 32 bits.
+fn packed_refusal(refusal: Refusal) -> u64
+    ensures { result ≡ number_of refusal * two_to_32 }
 {
-    answer.number as u64 * TWO_TO_32 + answer.value as u64
+    u64::from(refusal.number()) * TWO_TO_32
 }
 
-// The refusal's number above 32 bits, the pixel's value above 16 bits, the patch's number in those.
-pub fn packed_query(answer: Queried) -> u64
-    ensures { queried_in result ≡ ground_by_number answer }
+// The refusal's number above 32 bits, or the value in them.
+pub fn packed(answer: Result<u32, Refusal>) -> u64
+    ensures { answer_in result ≡ answer_of answer }
 {
-    let number = answer.number;
-    let value = answer.value;
-    let ground = answer.ground;
-    number as u64 * TWO_TO_32 + value as u64 * TWO_TO_16 + patch_number(ground) as u64
+    match answer {
+        Ok(value) => u64::from(value),
+        Err(refusal) => packed_refusal(refusal),
+    }
 }
 
-// The refusal's number above 32 bits, its place above 16 bits, the count of bytes in those.
-pub fn packed_saved(answer: Saved) -> u64
-    ensures { saved_in result ≡ answer }
+// The refusal's number above 32 bits; or the pixel's value above 16 bits, and the patch's number in those.
+pub fn packed_query(answer: Result<Queried, Refusal>) -> u64
+    ensures { queried_in result ≡ ground_by_number (queried_of answer) }
 {
-    let number = answer.number;
-    let place = answer.place;
-    let count = answer.count;
-    number as u64 * TWO_TO_32 + place as u64 * TWO_TO_16 + count as u64
+    match answer {
+        Ok(queried) => {
+            u64::from(queried.value) * TWO_TO_16 + u64::from(patch_number(queried.ground))
+        }
+        Err(refusal) => packed_refusal(refusal),
+    }
+}
+
+// The refusal's number above 32 bits and its place above 16 bits, or the count of bytes in those.
+pub fn packed_saved(answer: Result<u16, Refusal>) -> u64
+    ensures { saved_in result ≡ saved_of answer }
+{
+    match answer {
+        Ok(count) => u64::from(count),
+        Err(refusal) => packed_refusal(refusal) + refusal.place() as u64 * TWO_TO_16,
+    }
 }

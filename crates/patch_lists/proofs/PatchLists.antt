@@ -21,7 +21,7 @@ use Rattle.topology.proofs.PatchSums.{count-few, patch-number}
 use Rattle.topology.proofs.PatchBounds.{patches-few, height-fits, depth-fits}
 use Rattle.patches.specs.Figures.{no_patch, Figures}
 use Rattle.patch_records.specs.Records.{Entry, Entries, record_at, records}
-use Rattle.answers.specs.declared.Answer.{Answer}
+use Rattle.answers.specs.Answers.{Answer}
 use Rattle.faults.specs.Faults.{work_fault_of}
 use Rattle.answers.specs.Steps.{IsRefusal, IsValue}
 use Rattle.patch_lists.specs.PatchLists.{list_fault, record_of}

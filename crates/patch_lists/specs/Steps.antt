@@ -4,7 +4,7 @@ use Rattle.lists.specs.Lists.{pick}
 use Rattle.picture.specs.Pictures.{Picture}
 use Rattle.picture.specs.Patches.{patches}
 use Rattle.patch_records.specs.Records.{Entries, records}
-use Rattle.answers.specs.declared.Answer.{Answer}
+use Rattle.answers.specs.Answers.{Answer}
 use Rattle.answers.specs.Answers.{after_call, work_after, cleared, Answered}
 use Rattle.patch_lists.specs.PatchLists.{list_fault, record_of}
 

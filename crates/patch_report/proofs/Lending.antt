@@ -6,7 +6,7 @@ use lib.ListN.{length, take, drop}
 use lib.Seq.{length-take-le, take-append_seam, drop-append_seam}
 use Rattle.picture.specs.Pictures.{Picture}
 use Rattle.patch_records.specs.declared.Patch.{Patch as PatchRecord}
-use Rattle.answers.specs.declared.Answer.{Answer}
+use Rattle.answers.specs.Answers.{Answer}
 use Rattle.board.specs.PatchLists.{PatchesSay}
 use Rattle.patch_report.specs.Lending.{LentSay}
 

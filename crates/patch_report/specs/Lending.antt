@@ -3,7 +3,7 @@
 use Rattle.std.specs.Prelude.{◌≡◌, List, ℕ, take, drop}
 use Rattle.picture.specs.Pictures.{Picture}
 use Rattle.patch_records.specs.declared.Patch.{Patch as PatchRecord}
-use Rattle.answers.specs.declared.Answer.{Answer}
+use Rattle.answers.specs.Answers.{Answer}
 use Rattle.board.specs.PatchLists.{PatchesSay}
 
 -- of the records that are lent what the call promises, and the others as they were

@@ -2,258 +2,205 @@
 // that list its patches, then calls that are refused. Prints nothing for a refused file.
 #![tactic(auto)]
 
-ghost use Rattle.std.specs.Prelude.{◌≤◌, length};
+ghost use Rattle.std.specs.Prelude.{◌≤◌, length, IfOk};
 ghost use Rattle.picture.specs.Pictures.{picture_of};
+ghost use Rattle.answers.specs.Answers.{answer_of};
 ghost use Rattle.patch_report.specs.Lending.{LentSay};
 
-use board::{Answer, Patch};
-use text::{put, put_number};
+use board::{Patch, Refusal};
+use std::io;
 
 // The length of the list, one more than a picture can have patches.
-const LIST: u32 = 801;
+const LIST: usize = 801;
+
 // The length of work, one more than a call can need.
-const WORK: u32 = 8001;
+const WORK: usize = 8001;
+
 // What an entry of work holds before a call.
 const BEFORE: u16 = 7;
+
 // The entries of work that a pixel needs.
-const ENTRIES_A_PIXEL: u32 = 5;
+const ENTRIES_A_PIXEL: usize = 5;
+
 // A side that is too long.
 const TOO_LONG: u32 = 41;
 
-// What a call answers, and the list whose first records were lent to it.
+// What a record holds before a call.
+const UNWRITTEN: Patch = Patch {
+    number: 9,
+    size: 9,
+    height: 9,
+    depth: 9,
+    columns: 9,
+    rows: 9,
+};
+
+// The picture of a call.
 #[derive(Clone, Copy)]
-struct Listed {
-    answer: Answer,
-    list: [Patch; 801],
+struct Asked<'a> {
+    adjacency: u32,
+    width: u32,
+    height: u32,
+    pixels: &'a [u8],
 }
 
-// Lends `list_patches` the first `room` records of a list. It is the one function here that makes a reference to records, and
-// is proved by hand.
+// Lends `list_patches` the first `room` records of a list.
 fn lend_records(
     adjacency: u32,
     width: u32,
     height: u32,
     pixels: &[u8],
-    list: [Patch; 801],
+    list: &mut [Patch; 801],
     room: usize,
     work: &mut [u16],
-) -> Listed
+) -> Result<u32, Refusal>
     requires { room ≤ 801 }
-    ensures { LentSay (picture_of adjacency width height pixels.now) room list result.list work.old work.new result.answer }
+    ensures { LentSay (picture_of adjacency width height pixels.now) room list.old list.new work.old work.new (answer_of result) }
 {
-    let mut records = list;
-    let answer = board::list_patches(adjacency, width, height, pixels, &mut records[..room], work);
-    Listed {
-        answer: answer,
-        list: records,
-    }
+    board::list_patches(adjacency, width, height, pixels, &mut list[..room], work)
 }
 
-// What a record holds before a call.
-fn unwritten() -> Patch {
-    Patch {
-        number: 9,
-        size: 9,
-        height: 9,
-        depth: 9,
-        columns: 9,
-        rows: 9,
-    }
-}
-
-fn is_unwritten(p: Patch) -> bool {
-    let u = unwritten();
-    let front = p.number == u.number && p.size == u.size && p.height == u.height;
-    front && p.depth == u.depth && p.columns == u.columns && p.rows == u.rows
-}
-
-// The place behind the entries from a place on that hold a value.
-fn run_end(work: &[u16; 8001], start: u32, value: u16) -> u32 {
-    let mut end = start;
-    while end < WORK && work[end as usize] == value {
-        end += 1;
-    }
-    end
-}
-
-// The place behind the records from a place on that are as they were.
-fn unwritten_end(list: [Patch; 801], start: u32) -> u32 {
-    let mut end = start;
-    while end < LIST && is_unwritten(list[end as usize]) {
-        end += 1;
-    }
-    end
-}
-
-// The lesser of two numbers.
-fn lesser(m: u32, n: u32) -> u32
-    ensures { result ≤ n }
+// How many entries in front hold a value.
+fn run_length(entries: &[u16], value: u16) -> usize
+    ensures { result ≤ length entries.now }
 {
-    if m < n {
-        return m;
-    }
-    n
+    entries.iter().take_while(|entry| **entry == value).count()
 }
 
-// One less than a number, or 0.
-fn less(n: u32) -> u32
-    ensures { result ≤ n }
+// How many records in front are as they were.
+fn unwritten_length(records: &[Patch]) -> usize {
+    records.iter().take_while(|record| **record == UNWRITTEN).count()
+}
+
+// Prints the first records of a list, a line each.
+fn print_records(rt: &impl Print, records: &[Patch]) -> io::Result<()> {
+    for record in records {
+        print!(rt; "{} {} ", record.number, record.size)?;
+        print!(rt; "{} {} ", record.height, record.depth)?;
+        println!(rt; "{} {}", record.columns, record.rows)?;
+    }
+    Ok(())
+}
+
+// Prints the refusal's number, 0 for none, and the number of patches; where the entries of work that became 0 end, and those behind
+// them that are as they were; where the records behind the listed ones that are as they were end; and the listed ones. Answers how
+// many there are.
+fn print_left(
+    rt: &impl Print,
+    answer: Result<u32, Refusal>,
+    list: &[Patch; 801],
+    work: &[u16; 8001],
+) -> io::Result<usize>
+    ensures { IfOk result (λ count. count ≤ 801) }
 {
-    if n == 0 {
-        return 0;
-    }
-    n - 1
+    let (number, value) = match answer {
+        Ok(value) => (0, value),
+        Err(refusal) => (refusal.number(), 0),
+    };
+    let count = LIST.min(value as usize);
+    let zeros = run_length(work, 0);
+    let kept = zeros + run_length(&work[zeros..], BEFORE);
+    let unwritten = count + unwritten_length(&list[count..]);
+    println!(rt; "{number} {value} {zeros} {kept} {unwritten}")?;
+    print_records(rt, &list[..count])?;
+    Ok(count)
 }
 
-// Prints a number and one byte behind it.
-fn print(n: u32, behind: u8) {
-    let mut out = [0u8; 11];
-    let digits = put_number(&mut out, 0, n);
-    let end = put(&mut out, digits, behind);
-    io::write_all(1, &out[..end]);
-}
-
-// Prints the arguments of a call: adjacency, width, height, number of pixels, records lent, entries of work lent.
-fn print_arguments(adjacency: u32, width: u32, height: u32, pixels: u32, room: u32, entries: u32) {
-    print(adjacency, b' ');
-    print(width, b' ');
-    print(height, b' ');
-    print(pixels, b' ');
-    print(room, b' ');
-    print(entries, b' ');
-}
-
-// Prints the answer's number and value; where the entries of work that became 0 end, and those behind them that are as they
-// were; where the records behind the answer's value that are as they were end.
-fn print_left(answer: Answer, list: [Patch; 801], work: &[u16; 8001]) {
-    print(answer.number as u32, b' ');
-    print(answer.value, b' ');
-    let zeros = run_end(work, 0, 0);
-    print(zeros, b' ');
-    print(run_end(work, zeros, BEFORE), b' ');
-    print(unwritten_end(list, answer.value), b'\n');
-}
-
-fn print_record(p: Patch) {
-    print(p.number as u32, b' ');
-    print(p.size as u32, b' ');
-    print(p.height as u32, b' ');
-    print(p.depth as u32, b' ');
-    print(p.columns as u32, b' ');
-    print(p.rows as u32, b'\n');
-}
-
-// Prints the first records of a list.
-fn print_records(list: [Patch; 801], count: u32) {
-    let mut i = 0;
-    while i < count && i < LIST {
-        print_record(list[i as usize]);
-        i += 1;
-    }
-}
-
-// Prints what a call does that is lent some records and some entries of work; answers how many patches it lists.
-fn print_call(
-    adjacency: u32,
-    width: u32,
-    height: u32,
-    pixels: &[u8],
-    room: u32,
-    entries: u32,
-) -> u32
-    requires { (length pixels.now ≤ 1601) × (room ≤ 801) × (entries ≤ 8001) }
-    ensures { result ≤ 801 }
+// Prints what a call does that is lent some records and some entries of work: the arguments, the number of pixels in place of the pixels,
+// then what is left. Answers how many patches it lists.
+fn print_call(rt: &impl Print, asked: Asked, room: usize, entries: usize) -> io::Result<usize>
+    requires { (room ≤ 801) × (entries ≤ 8001) }
+    ensures { IfOk result (λ count. count ≤ 801) }
 {
-    let list = [unwritten(); 801];
+    let mut list = [UNWRITTEN; 801];
     let mut work = [BEFORE; 8001];
-    let lent = entries as usize;
-    let listed = lend_records(
-        adjacency,
-        width,
-        height,
-        pixels,
-        list,
-        room as usize,
-        &mut work[..lent],
+    let answer = lend_records(
+        asked.adjacency,
+        asked.width,
+        asked.height,
+        asked.pixels,
+        &mut list,
+        room,
+        &mut work[..entries],
     );
-    let answer = listed.answer;
-    let left = listed.list;
-    print_arguments(adjacency, width, height, pixels.len() as u32, room, entries);
-    print_left(answer, left, &work);
-    print_records(left, answer.value);
-    lesser(answer.value, LIST)
+    print!(rt; "{} {} {} ", asked.adjacency, asked.width, asked.height)?;
+    print!(rt; "{} {room} {entries} ", asked.pixels.len())?;
+    print_left(rt, answer, &list, &work)
 }
 
 // Prints calls that are lent more than enough, just enough and one too little of each.
-fn print_listed(adjacency: u32, width: u32, height: u32, pixels: &[u8])
-    requires { length pixels.now ≤ 1600 }
+fn print_listed(rt: &impl Print, asked: Asked) -> io::Result<()>
+    requires { length asked.pixels.now ≤ 1600 }
 {
-    let needed = ENTRIES_A_PIXEL * pixels.len() as u32;
-    let count = print_call(adjacency, width, height, pixels, LIST, WORK);
-    print_call(adjacency, width, height, pixels, count, WORK);
-    print_call(adjacency, width, height, pixels, less(count), WORK);
-    print_call(adjacency, width, height, pixels, count, needed);
-    print_call(adjacency, width, height, pixels, count, less(needed));
+    let needed = ENTRIES_A_PIXEL * asked.pixels.len();
+    let count = print_call(rt, asked, LIST, WORK)?;
+    print_call(rt, asked, count, WORK)?;
+    print_call(rt, asked, count.saturating_sub(1), WORK)?;
+    print_call(rt, asked, count, needed)?;
+    print_call(rt, asked, count, needed.saturating_sub(1))?;
+    Ok(())
 }
 
 // Prints calls with more than enough records and with none.
-fn print_rooms(adjacency: u32, width: u32, height: u32, pixels: &[u8])
-    requires { length pixels.now ≤ 1601 }
-{
-    print_call(adjacency, width, height, pixels, LIST, WORK);
-    print_call(adjacency, width, height, pixels, 0, WORK);
+fn print_rooms(rt: &impl Print, asked: Asked) -> io::Result<()> {
+    print_call(rt, asked, LIST, WORK)?;
+    print_call(rt, asked, 0, WORK)?;
+    Ok(())
 }
 
 // Prints calls with each side too short and too long.
-fn print_sides(adjacency: u32, width: u32, height: u32, pixels: &[u8])
-    requires { length pixels.now ≤ 1601 }
-{
-    print_rooms(adjacency, 0, height, pixels);
-    print_rooms(adjacency, TOO_LONG, height, pixels);
-    print_rooms(adjacency, width, 0, pixels);
-    print_rooms(adjacency, width, TOO_LONG, pixels);
+fn print_sides(rt: &impl Print, asked: Asked) -> io::Result<()> {
+    print_rooms(rt, Asked { width: 0, ..asked })?;
+    print_rooms(rt, Asked { width: TOO_LONG, ..asked })?;
+    print_rooms(rt, Asked { height: 0, ..asked })?;
+    print_rooms(rt, Asked { height: TOO_LONG, ..asked })
 }
 
-// Prints refused calls under an adjacency: wrong sides with the pixels and with none, then the right sides with a pixel
-// fewer and with one more.
-fn print_refused(adjacency: u32, width: u32, height: u32, pixels: &[u8], more: &[u8])
-    requires { (length pixels.now ≤ 1600) × (length more.now ≤ 1601) }
-{
-    let fewer = less(pixels.len() as u32) as usize;
-    print_sides(adjacency, width, height, pixels);
-    print_sides(adjacency, width, height, &pixels[..0]);
-    print_rooms(adjacency, width, height, &pixels[..fewer]);
-    print_rooms(adjacency, width, height, more);
+// Prints refused calls: wrong sides with the pixels and with none, then the right sides with a pixel fewer and with one more.
+fn print_refused(rt: &impl Print, asked: Asked, more: &[u8]) -> io::Result<()> {
+    let pixels = asked.pixels;
+    let fewer = pixels.len().saturating_sub(1);
+    print_sides(rt, asked)?;
+    print_sides(rt, Asked { pixels: &pixels[..0], ..asked })?;
+    print_rooms(rt, Asked { pixels: &pixels[..fewer], ..asked })?;
+    print_rooms(rt, Asked { pixels: more, ..asked })
 }
 
 // Prints the calls on a picture, under both adjacencies and under 0 and 5, which are none; `more` is its pixels and the byte
 // in front of them.
-fn print_picture(width: u32, height: u32, pixels: &[u8], more: &[u8])
-    requires { (length pixels.now ≤ 1600) × (length more.now ≤ 1601) }
+fn print_picture(rt: &impl Print, asked: Asked, more: &[u8]) -> io::Result<()>
+    requires { length asked.pixels.now ≤ 1600 }
 {
-    print_listed(4, width, height, pixels);
-    print_listed(8, width, height, pixels);
-    print_refused(4, width, height, pixels, more);
-    print_refused(8, width, height, pixels, more);
-    print_rooms(0, width, height, pixels);
-    print_rooms(5, width, height, pixels);
-    print_refused(5, width, height, pixels, more);
+    let four = Asked { adjacency: 4, ..asked };
+    let eight = Asked { adjacency: 8, ..asked };
+    print_listed(rt, four)?;
+    print_listed(rt, eight)?;
+    print_refused(rt, four, more)?;
+    print_refused(rt, eight, more)?;
+    let five = Asked { adjacency: 5, ..asked };
+    print_rooms(rt, Asked { adjacency: 0, ..asked })?;
+    print_rooms(rt, five)?;
+    print_refused(rt, five, more)
 }
 
 // Prints the calls on the picture of a file, if it is accepted.
-fn print_file(file: &[u8]) {
-    let read = board::read_file(file);
-    let number = read.number;
-    if number != 0 {
-        return;
-    }
+fn print_file(rt: &impl Print, file: &[u8]) -> io::Result<()> {
+    let Ok(header) = board::read_file(file) else {
+        return Ok(());
+    };
     let pixels = board::file_pixels(file);
     let front = file.len() - pixels.len() - 1;
-    print_picture(read.width, read.height, pixels, &file[front..]);
+    let asked = Asked {
+        adjacency: 4,
+        width: header.width,
+        height: header.height,
+        pixels,
+    };
+    print_picture(rt, asked, &file[front..])
 }
 
-fn main() {
-    let mut file = io::large_buffer();
-    let count = io::read_full(0, &mut file);
-    print_file(&file[..count]);
+fn main(rt: HostRuntime) -> io::Result<()> {
+    let mut file = ::io::large_buffer();
+    let count = ::io::read_full(0, &mut file);
+    print_file(&rt, &file[..count])
 }

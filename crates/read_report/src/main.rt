@@ -7,9 +7,32 @@ ghost use Rattle.text.specs.Decimal.{fields};
 ghost use Rattle.lists.specs.Writing.{Written};
 ghost use Rattle.read_report.specs.Reports.{report};
 
-use board::read_file;
-use ranges::lesser;
+use board::{Header, Refusal, read_file};
 use text::put_fields;
+
+// The six numbers of an answer: a refusal's number and place, or an accepted file's sides, largest sample and offset.
+fn line_of(answer: Result<Header, Refusal>) -> [u32; 6]
+    ensures { result ≡ line_of answer }
+{
+    match answer {
+        Ok(header) => [
+            0,
+            0,
+            header.width,
+            header.height,
+            header.largest,
+            header.offset as u32,
+        ],
+        Err(refusal) => [
+            u32::from(refusal.number()),
+            refusal.place() as u32,
+            0,
+            0,
+            0,
+            0,
+        ],
+    }
+}
 
 // Writes the line of the file in the first `count` bytes of an input and answers the position behind it.
 // A count above the input's length is taken as its length; six numbers of at most ten digits have room in 66 bytes.
@@ -18,16 +41,8 @@ fn put_report(input: &[u8; 65536], count: usize, out: &mut [u8; 66]) -> usize
     ensures prefix_len { IsPrefixLen result out.new }
 {
     let bytes: &[u8] = input;
-    let length = lesser(count, bytes.len());
-    let answer = read_file(&bytes[..length]);
-    let line = [
-        answer.number as u32,
-        answer.place as u32,
-        answer.width,
-        answer.height,
-        answer.largest,
-        answer.offset as u32,
-    ];
+    let length = count.min(bytes.len());
+    let line = line_of(read_file(&bytes[..length]));
     put_fields(out, 0, &line)
 }
 
