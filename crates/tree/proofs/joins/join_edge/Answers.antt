@@ -31,7 +31,7 @@ join-requires c =
       cells_in_bounds = room;
     }
 
-pub returns : goal.returns
-returns c =
+pub returns-else-q-r : goal.returns-else-q-r
+returns-else-q-r c =
     let earlier = decided-yes c.if-not-comes_before.false c.comes_before.ensures in
     done-linked _ _ _ _ _ _ _ earlier _ _ c.find-q.ensures _ _ _ c.join.ensures
