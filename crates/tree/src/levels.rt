@@ -82,8 +82,8 @@ pub fn levels(raster: &Raster, work: &mut [u16], cells: &mut [u16], heads: &[u16
     ensures { Between (picture raster.now) 256 result cells.new work.new }
 {
     let mut c = 0;
-    for k in 0..256 {
-        c = level(raster, work, cells, k, usize::from(heads[k]), c);
+    for (k, head) in heads.iter().enumerate() {
+        c = level(raster, work, cells, k, usize::from(*head), c);
     }
     c
 }

@@ -1,6 +1,5 @@
 -- `ancestors::nearest_common_ancestor` meets its contract. The invariant is Climbed: a climb from the two nodes is on its way.
-use Prim.Native.Nat.{◌<◌}
-use native.Mathlib.Omega.{arith}
+use Rattle.std.proofs.Common.{◌<◌, arith}
 use Rattle.ancestors.proofs.Ancestors.{climb-left, climb-right, climb-end}
 use Rattle.ancestors.proofs.nearest_common_ancestor.Goals as goal
 
