@@ -12,14 +12,8 @@ use Rattle.picture.specs.Geometry.{neighbours_in}
 use Rattle.picture.specs.Watersheds.{lowerable}
 use Rattle.topology.proofs.Accepted.{accepted-is, picture-few}
 use Rattle.labelling_laws.proofs.Agreeing.{is_single, Common, not-lowerable, label_small, common-end}
-use Rattle.labels.specs.Labels.{LabelReady}
 
 module _ (p : Picture) (a : is_picture p ≡ true) where
-  -- a stack of 1,600 cells is large enough
-  pub stack-ready : (l stack : List ℕ) → length l ≡ places p → length stack ≡ 1600 → LabelReady p l stack
-  stack-ready l stack e f =
-      record { accepted = a; label = e; cells = let m = picture-few p a in omega arith }
-
   pub labels-small : (k : ℕ) (l : List ℕ) → l ≡ labels p k → (y : ℕ) → y < places p → get_or l y 0 ≢ 65535
   labels-small k l e =
       subst (λ m. (y : ℕ) → y < places p → get_or m y 0 ≢ 65535) (sym e)

@@ -1,29 +1,27 @@
 -- The laws of the scan.
-use mathlib.Core.Path.{◌≡◌, sym, ap, subst, ◌∙◌}
+use mathlib.Core.Path.{◌≡◌, subst, ◌∙◌}
 use mathlib.Core.Bool.{true, false}
 use mathlib.Core.Logic.{◌≢◌}
 use mathlib.Core.List.{List}
 use Prim.Native.Nat.{ℕ, ◌+◌, ◌≤◌, ◌<◌}
 use native.Mathlib.Omega.{arith}
 use lib.Dec.{eqb}
-use lib.ListN.{length, get_or, replicate, length-replicate}
-use Rattle.lists.specs.Lists.{over}
-use Rattle.picture.specs.Pictures.{Picture, places}
+use lib.ListN.{length, get_or}
+use Rattle.picture.specs.Pictures.{Picture, places, is_picture}
 use Rattle.picture.specs.Components.{in_section}
 use Rattle.lists.proofs.Lists.{tally-length}
-use Rattle.lists.proofs.Cuts.{over-all}
 use Rattle.topology.proofs.Parts.{is_first, first-is}
 use Rattle.topology.proofs.Accepted.{accepted-is, picture-few}
-use Rattle.labelling_laws.proofs.Labelled.{Labelled, labelled-start, count_most, outside-first, labelled-first, unlabelled-first, labelled-pass, labelled-fresh, labelled-new, labelled-flood, labelled-end}
+use Rattle.labelling_laws.proofs.Labelled.{Labelled, count_most, outside-first, labelled-first, unlabelled-first, labelled-pass, labelled-fresh, labelled-new, labelled-flood, labelled-end}
 use Rattle.labels.specs.Labels.{LabelReady, LabelsHold}
 use Rattle.labelling_laws.proofs.Flood.{Flooded}
 use Rattle.floods.specs.Floods.{Room, Seed}
 
-module _ (p : Picture) (l stack : List ℕ) (a : LabelReady p l stack) where
+module _ (p : Picture) (ok : is_picture p ≡ true) (l stack : List ℕ) (a : LabelReady p l stack) where
   pub ready-room : Room (places p) p.pixels l stack 0
   ready-room =
       let most = tally-length (eqb 0) l in
-      record { few = picture-few p a.accepted; pixel = (accepted-is p a.accepted).size; label = a.label; cells = a.cells; room = omega arith }
+      record { few = picture-few p ok; pixel = (accepted-is p ok).size; label = a.label; cells = a.cells; room = omega arith }
 
   module _ (k x c : ℕ) (h : x < places p) (s : Labelled p k x c l) where
     pub scan-outside : in_section p k x ≡ false → Labelled p k (x + 1) c l
@@ -34,7 +32,7 @@ module _ (p : Picture) (l stack : List ℕ) (a : LabelReady p l stack) where
 
     -- the number of components so far, and one more
     pub scan-count : c + 1 ≤ 1600
-    scan-count = let m = count_most p k x c l h s in let n = picture-few p a.accepted in omega arith
+    scan-count = let m = count_most p k x c l h s in let n = picture-few p ok in omega arith
 
     module _ (e : in_section p k x ≡ true) (z : get_or l x 0 ≡ 0) where
       begins : is_first p k x ≡ true
@@ -51,20 +49,12 @@ module _ (p : Picture) (l stack : List ℕ) (a : LabelReady p l stack) where
       pub scan-flood : (m : List ℕ) → length m ≡ length l → Flooded p k x (c + 1) l m → Labelled p k (x + 1) (c + 1) m
       scan-flood m size = labelled-flood p k x c l h s begins m (size ∙ a.label)
 
--- n places, all labels cleared
-pub scan-start :
-    (p : Picture) (k n : ℕ) (l m : List ℕ) → length l ≡ places p → n ≡ places p → m ≡ over (replicate n 0) l → Labelled p k 0 0 m
-scan-start p k n l m e d f =
-    subst (λ o. Labelled p k 0 0 o)
-    (sym (f ∙ (over-all (replicate n 0) l (omega (arith, length-replicate {A = ℕ} n 0)) ∙ ap (λ i. replicate {A = ℕ} i 0) d)))
-    (labelled-start p k)
-
 -- the labels and the stack at the place x are ready for the next
 pub scan-ready :
     (p : Picture) (k x c : ℕ) (l stack m after : List ℕ) → LabelReady p l stack → length after ≡ length stack → Labelled p k x c m →
     LabelReady p m after
 scan-ready p k x c l stack m after a e s =
-    record { accepted = a.accepted; label = s.size; cells = let q = a.cells in omega arith }
+    record { label = s.size; cells = let q = a.cells in omega arith }
 
 pub scan-end : (p : Picture) (k x c : ℕ) (m : List ℕ) → x ≡ places p → Labelled p k x c m → LabelsHold p k c m
 scan-end p k x c m e s =

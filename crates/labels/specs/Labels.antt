@@ -1,12 +1,11 @@
 -- What the labelling of a section says.
-use Rattle.std.specs.Prelude.{◌≡◌, true, List, ℕ, ◌≤◌, length}
-use Rattle.picture.specs.Pictures.{Picture, places, is_picture}
+use Rattle.std.specs.Prelude.{◌≡◌, List, ℕ, ◌≤◌, length}
+use Rattle.picture.specs.Pictures.{Picture, places}
 use Rattle.picture.specs.Components.{components}
 use Rattle.picture.specs.Labels.{labels}
 
--- an accepted picture with a label for each place, and a stack of as many cells at least
+-- a label for each place, and a stack of as many cells at least
 pub record LabelReady (p : Picture) (l stack : List ℕ) : Type 0 where
-  pub accepted : is_picture p ≡ true
   pub label : length l ≡ places p
   pub cells : places p ≤ length stack
 

@@ -1,2 +1,3 @@
--- What the labelling says.
+-- What the labelling of a section and the lowerable test say.
 pub mod Labels
+pub mod Found

@@ -73,14 +73,13 @@ module _ (pixels hs fs m : List ℕ) (x y : ℕ) (r : PassReady pixels hs fs m x
       omega arith
 
 pub pass_of :
-    (pixels hs fs m : List ℕ) (x y i u v h w z : ℕ) → Meet (λ i. get_or fs i 0) (get_or m x 0) (get_or m y 0) i → u ≡ get_or pixels x 0 →
-    v ≡ get_or pixels y 0 → w ≡ max u v → h ≡ get_or hs i 0 → z ≡ max w h → PassOf pixels hs fs m x y z
-pass_of pixels hs fs m x y i u v h w z n eu ev ew eh ez =
+    (pixels hs fs m : List ℕ) (x y i z : ℕ) → Meet (λ i. get_or fs i 0) (get_or m x 0) (get_or m y 0) i →
+    z ≡ max (max (get_or pixels x 0) (get_or pixels y 0)) (get_or hs i 0) → PassOf pixels hs fs m x y z
+pass_of pixels hs fs m x y i z n e =
     record {
       is =
-          λ p count ss ok e t bx by.
-          let q = (pass-lent p count hs fs ss m ok t x y bx by i n).1 in
-          let vx : u ≡ value_at p x = eu ∙ ap (λ (l : List ℕ). get_or l x 0) (sym e) in
-          let vy : v ≡ value_at p y = ev ∙ ap (λ (l : List ℕ). get_or l y 0) (sym e) in
-          omega arith;
+          λ p count ss ok same t bx by.
+          e ∙
+          (ap (λ (l : List ℕ). max (max (get_or l x 0) (get_or l y 0)) (get_or hs i 0)) (sym same) ∙
+          sym (pass-lent p count hs fs ss m ok t x y bx by i n).1);
     }

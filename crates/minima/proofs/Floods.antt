@@ -14,15 +14,13 @@ use Rattle.picture.specs.Patches.{patches}
 use Rattle.picture.proofs.Neighbours.{neighbour-next, neighbours-touch, Placed}
 use Rattle.lists.proofs.Lists.{in_mem, tally-length, set_back}
 use Rattle.lists.proofs.Positions.{tally-bound}
-use Rattle.lists.proofs.Blocks.{overwritten-entry}
 use Rattle.topology.proofs.Connected.{start, conn-target}
 use Rattle.labelling_laws.proofs.Zones.{Flat, ZoneFlooding, ZoneFlooded, zone-start, zone-pop, zone-done, zone-lower, zone-higher, zone-level, zone-visit, zone-end}
-use Rattle.labelling_laws.proofs.ZoneScan.{unvisited-set, Scanned, scan-start, scan-seen, scan-fresh, scan-lower, scan-minimum, scan-end}
+use Rattle.labelling_laws.proofs.ZoneScan.{unvisited-set, Scanned, scan-seen, scan-fresh, scan-lower, scan-minimum, scan-end}
 use Rattle.topology.proofs.Leaves.{bottom}
 use Rattle.topology.proofs.Accepted.{accepted-is, places-bound, placed, value_in}
 use Rattle.minima.specs.declared.Stack.{Stack}
 use Rattle.minima.specs.Minima.{CellEach, ZoneRoom, ZoneMoved, popped, ZoneFloods, Visit, ZoneSpread, ZoneTurn, ZoneSeed, Counting}
-use Rattle.lists.specs.Blocks.{Filled}
 
 -- no place is visited
 zone-moved-none : (cells : List ℕ) (s : Stack) (low : Bool) → s.top ≢ 65535 → ZoneMoved cells s cells (record { top = s.top; height = s.height; low = low })
@@ -193,7 +191,7 @@ module _ (p : Picture) (x : ℕ) where
       (subst (λ (t : ℕ). ZoneFlooding p (value_at p x) x (set (set cells x 65534) x 65535) after s.top t s.low x []) e f.flooding))
 
 -- the steps of the count
-module _ (p : Picture) (x r : ℕ) (cells : List ℕ) (c : Counting p x r cells) (b : x < places p) where
+module _ (p : Picture) (ok : is_picture p ≡ true) (x r : ℕ) (cells : List ℕ) (c : Counting p x r cells) (b : x < places p) where
   pub counting-few : r ≤ x
   counting-few =
       let e = c.scanned.count in
@@ -201,11 +199,11 @@ module _ (p : Picture) (x r : ℕ) (cells : List ℕ) (c : Counting p x r cells)
       omega arith
 
   pub counting-placed : Placed p.width p.height x
-  counting-placed = placed p (accepted-is p c.accepted) x b
+  counting-placed = placed p (accepted-is p ok) x b
 
   pub counting-sizes : CellEach p.pixels cells
   counting-sizes =
-      let a = accepted-is p c.accepted in
+      let a = accepted-is p ok in
       let n = places-bound p a in
       let e = a.size in
       record { few = omega arith; size = c.size ∙ sym e }
@@ -216,7 +214,6 @@ module _ (p : Picture) (x r : ℕ) (cells : List ℕ) (c : Counting p x r cells)
   counted : (q : ℕ) (after : List ℕ) → length after ≡ length cells → Scanned p (suc x) q after → Counting p (x + 1) q after
   counted q after e s =
       record {
-        accepted = c.accepted;
         size = e ∙ c.size;
         scanned = subst (λ (y : ℕ). Scanned p y q after) (sym (add-one x)) s;
       }
@@ -233,16 +230,6 @@ module _ (p : Picture) (x r : ℕ) (cells : List ℕ) (c : Counting p x r cells)
         subst (λ (q : ℕ). Counting p (x + 1) q after) (sym (add-one r))
         (counted (suc r) after e (scan-minimum p x r cells b c.scanned new after low f l))
 
-pub counting-start :
-    (p : Picture) (cells after : List ℕ) (n : ℕ) → is_picture p ≡ true → length cells ≡ places p → n ≡ places p →
-    Filled 0 n 65535 cells after → Counting p 0 0 after
-counting-start p cells after n ok e m f =
-    record {
-      accepted = ok;
-      size = f.kept.size ∙ e;
-      scanned = scan-start p after (λ y b. overwritten-entry f y (omega arith));
-    }
-
-pub counting-end : (p : Picture) (x r : ℕ) (cells : List ℕ) → x ≡ places p → Counting p x r cells → r ≡ length (patches p)
-counting-end p x r cells e c =
-    scan-end p r cells (accepted-is p c.accepted) (subst (λ (y : ℕ). Scanned p y r cells) e c.scanned)
+pub counting-end :
+    (p : Picture) (x r : ℕ) (cells : List ℕ) → is_picture p ≡ true → x ≡ places p → Counting p x r cells → r ≡ length (patches p)
+counting-end p x r cells ok e c = scan-end p r cells (accepted-is p ok) (subst (λ (y : ℕ). Scanned p y r cells) e c.scanned)

@@ -1,6 +1,6 @@
 -- What the functions that count the minima say of the cells and of the stack that is linked in them.
-use Rattle.std.specs.Prelude.{◌≡◌, true, ◌≢◌, List, [], ◌∷◌, ℕ, ◌+◌, ◌-◌, ◌≤◌, ◌<◌, length, get_or}
-use Rattle.picture.specs.Pictures.{Picture, places, value_at, is_picture}
+use Rattle.std.specs.Prelude.{◌≡◌, ◌≢◌, List, [], ◌∷◌, ℕ, ◌+◌, ◌-◌, ◌≤◌, ◌<◌, length, get_or}
+use Rattle.picture.specs.Pictures.{Picture, places, value_at}
 use Rattle.topology.proofs.Adjacency.{Adj}
 use Rattle.labelling_laws.proofs.Zones.{Zone, ZoneFlooding}
 use Rattle.labelling_laws.proofs.ZoneScan.{unvisited, Scanned}
@@ -55,6 +55,5 @@ pub record ZoneSeed (p : Picture) (x : ℕ) (cells : List ℕ) : Type 0 where
 
 -- r minima begin before x, whose zones are visited
 pub record Counting (p : Picture) (x r : ℕ) (cells : List ℕ) : Type 0 where
-  pub accepted : is_picture p ≡ true
   pub size : length cells ≡ places p
   pub scanned : Scanned p x r cells

@@ -5,7 +5,8 @@ use mathlib.Core.List.{List}
 use Prim.Native.Nat.{ℕ, ◌+◌, ◌-◌, ◌≤◌, ◌<◌}
 use native.Mathlib.Omega.{arith}
 use lib.ListN.{length, get_or, set, length-set}
-use borrow.Author.Count.{below_more}
+use lib.Dec.{eqb, ltb}
+use borrow.Author.Tests.{eqb-true, eqb-false, ltb-true, ltb-false}
 use Rattle.picture.specs.Pictures.{Picture, places, value_at}
 use Rattle.tree_laws.proofs.Decided.{yes, never, decided-yes, decided-never}
 use Rattle.tree_laws.proofs.Forests.{Found, Parents}
@@ -19,24 +20,6 @@ use Rattle.tree_laws.proofs.States.{first_node, node_state, several_state}
 pub record RunTo (k c i : ℕ) (hs : List ℕ) : Type 0 where
   pub order : c ≤ i
   pub same : (j : ℕ) → c ≤ j → j < i → get_or hs j 0 ≡ k
-
-pub run-start : (k c : ℕ) (hs : List ℕ) → RunTo k c c hs
-run-start k c hs = record { order = omega arith; same = λ j a b. absurd (omega arith) }
-
-pub run-turn : (k c i v : ℕ) (hs : List ℕ) → RunTo k c i hs → v ≡ get_or hs i 0 → v ≡ k → RunTo k c (i + 1) hs
-run-turn k c i v hs s e q =
-    let o = s.order in
-    record {
-      order = omega arith;
-      same = λ j a b. below_more (λ z. c ≤ z → get_or hs z 0 ≡ k) i (λ z h g. s.same z g h) (λ g. sym e ∙ q) j b a;
-    }
-
-pub run-stop : (k c i v count : ℕ) (hs : List ℕ) → RunTo k c i hs → i < count → v ≡ get_or hs i 0 → (v ≡ k → ⊥) → SameHeights k c i count hs
-run-stop k c i v count hs s b e d =
-    record { order = s.order; most = omega arith; same = s.same; ends = λ h q. d (e ∙ q) }
-
-pub run_end : (k c i count : ℕ) (hs : List ℕ) → RunTo k c i hs → i ≤ count → count ≤ i → SameHeights k c i count hs
-run_end k c i count hs s a b = record { order = s.order; most = a; same = s.same; ends = λ h. absurd (omega arith) }
 
 module _ (pixels : List ℕ) (k c i f : ℕ) (l ss : List ℕ) (e : f ≡ get_or ss i 0) where
   value_of : (p : Picture) → SamePicture p pixels l → (v : ℕ) → v ≡ get_or pixels f 0 → value_at p (get_or ss i 0) ≡ v
@@ -66,14 +49,21 @@ module _ (pixels : List ℕ) (k c i f : ℕ) (l ss : List ℕ) (e : f ≡ get_or
         free = let z = ap (λ (u : ℕ). get_or l u 0) e in omega arith;
       })
 
+  -- the lent first places of two nodes are compared
+  pub fit-tested :
+      (v : ℕ) → f < length l → v ≡ get_or pixels f 0 → v ≤ k → several_state ≤ get_or l f 0 → c < i →
+      FitAnswer pixels k c i l ss (ltb (get_or ss (i - 1) 0) (get_or ss i 0))
+  fit-tested v b g h free a = by (ltb (get_or ss (i - 1) 0) (get_or ss i 0)) refl
+    where
+      by : (t : Bool) → ltb (get_or ss (i - 1) 0) (get_or ss i 0) ≡ t → FitAnswer pixels k c i l ss t
+      by true q = fit-yes v b g h free (λ z. let n = ltb-true (get_or ss (i - 1) 0) (get_or ss i 0) q in omega arith)
+      by false q = unfit-order (get_or ss (i - 1) 0) refl a (let n = ltb-false (get_or ss (i - 1) 0) (get_or ss i 0) q in omega arith)
+
 -- the lent nodes from c on, before i, have passed their tests and have their numbers
 pub record NodesNumbered (pixels : List ℕ) (k c i : ℕ) (o ss l : List ℕ) : Type 0 where
   pub order : c ≤ i
   pub size : length l ≡ length o
   pub from : (p : Picture) (fs m : List ℕ) → p.pixels ≡ pixels → Counted p k c c o fs ss m → Counted p k c i l fs ss m
-
-pub numbered-start : (pixels : List ℕ) (k c : ℕ) (l ss : List ℕ) → NodesNumbered pixels k c c l ss l
-numbered-start pixels k c l ss = record { order = omega arith; size = refl; from = λ p fs m e s. s }
 
 pub numbered-turn :
     (pixels : List ℕ) (k c i f : ℕ) (o ss l : List ℕ) → NodesNumbered pixels k c i o ss l → i < 1600 → (t : (p : Picture) → SamePicture p pixels l → NodeFits p k c i l ss) → f ≡ get_or ss i 0 →
@@ -144,15 +134,20 @@ module _ (pixels : List ℕ) (k x v : ℕ) (l m : List ℕ) (b : x < length l) (
     map-differs d =
         never (λ p c d' fs ss g s count hs run tree. let a = (tree-cell p c d' fs ss g s count hs run tree).0 in d (omega arith))
 
+    -- the lent node is compared with the cell
+    pub map-tested : get_or o r 0 < several_state → MapChecked pixels k x (x + 1) l m o (eqb (get_or o r 0 - first_node) (get_or m x 0))
+    map-tested h = by (eqb (get_or o r 0 - first_node) (get_or m x 0)) refl
+      where
+        by : (t : Bool) → eqb (get_or o r 0 - first_node) (get_or m x 0) ≡ t → MapChecked pixels k x (x + 1) l m o t
+        by true q = map-yes (eqb-true (get_or o r 0 - first_node) (get_or m x 0) q) h
+        by false q = map-differs (eqb-false (get_or o r 0 - first_node) (get_or m x 0) q)
+
 -- the lent map of the pixels before x is checked
 pub record MapCheckedTo (pixels : List ℕ) (k x : ℕ) (o m l : List ℕ) : Type 0 where
   pub size : length l ≡ length o
   pub most : x ≤ length o
   pub from :
       (p : Picture) (c d : ℕ) (fs ss : List ℕ) → p.pixels ≡ pixels → Matched p k c d 0 o fs ss m → Matched p k c d x l fs ss m
-
-pub map-start : (pixels : List ℕ) (k : ℕ) (l m : List ℕ) → MapCheckedTo pixels k 0 l m l
-map-start pixels k l m = record { size = refl; most = omega arith; from = λ p c d fs ss e s. s }
 
 pub map-ready : (pixels : List ℕ) (k x : ℕ) (o m l : List ℕ) → LentMapReady pixels k 0 o m → MapCheckedTo pixels k x o m l → Parents l
 map-ready pixels k x o m l r s =

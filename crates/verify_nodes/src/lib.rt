@@ -5,7 +5,6 @@ ghost use Rattle.std.specs.Prelude.{◌<◌, ◌≤◌, ◌+◌, length};
 ghost use Rattle.tree_laws.proofs.Forests.{Parents};
 ghost use Rattle.verify_nodes.specs.NodeChecks.{SameHeights, FitAnswer, CountReady, NodesChecked, LentMapReady, MapChecked};
 
-use cells::{value, wide};
 use union_find::{FIRST_NODE, SEVERAL, find};
 
 // The end of the lent heights k from c on.
@@ -13,14 +12,12 @@ pub fn run_end(heights: &[u8], k: usize, c: usize, count: usize) -> usize
     requires { (c ≤ count) × (count ≤ length heights.now) }
     ensures { SameHeights k c result count heights.now }
 {
-    let mut i = c;
-    while i < count {
-        if value(heights[i]) != k {
+    for i in c..count {
+        if usize::from(heights[i]) != k {
             return i;
         }
-        i += 1;
     }
-    i
+    count
 }
 
 // The lent first place of the node i is a new root of height k, above the one before it.
@@ -28,23 +25,11 @@ fn node_fits(pixels: &[u8], firsts: &[u16], cells: &[u16], k: usize, c: usize, i
     requires { (i < length firsts.now) × (length cells.now ≤ length pixels.now) }
     ensures { FitAnswer pixels.now k c i cells.now firsts.now result }
 {
-    let f = wide(firsts[i]);
-    if cells.len() <= f {
+    let first = usize::from(firsts[i]);
+    if cells.len() <= first || k < usize::from(pixels[first]) || cells[first] < SEVERAL {
         return false;
     }
-    if k < value(pixels[f]) {
-        return false;
-    }
-    if cells[f] < SEVERAL {
-        return false;
-    }
-    if i <= c {
-        return true;
-    }
-    if f <= wide(firsts[i - 1]) {
-        return false;
-    }
-    true
+    i <= c || firsts[i - 1] < firsts[i]
 }
 
 // The lent first places from c on, before d, are new roots of height k, rising; each gets its number.
@@ -60,13 +45,11 @@ pub fn check_nodes(
     requires cells_in_bounds { (length cells.old ≤ length firsts.now) × (length cells.old ≤ length pixels.now) }
     ensures { NodesChecked pixels.now k c d cells.old firsts.now cells.new result }
 {
-    let mut i = c;
-    while i < d {
+    for i in c..d {
         if !node_fits(pixels, firsts, cells, k, c, i) {
             return false;
         }
-        cells[wide(firsts[i])] = FIRST_NODE + i as u16;
-        i += 1;
+        cells[usize::from(firsts[i])] = FIRST_NODE + i as u16;
     }
     true
 }
@@ -76,19 +59,12 @@ fn check_map_one(pixels: &[u8], map: &[u16], cells: &mut [u16], k: usize, x: usi
     requires { Parents cells.old × (x < length cells.old) × (x < length pixels.now) × (x < length map.now) }
     ensures { MapChecked pixels.now k x (x + 1) cells.old map.now cells.new result }
 {
-    let v = value(pixels[x]);
-    if v != k {
+    if usize::from(pixels[x]) != k {
         return true;
     }
     let r = find(cells, x);
     let state = cells[r];
-    if SEVERAL <= state {
-        return false;
-    }
-    if state - FIRST_NODE != map[x] {
-        return false;
-    }
-    true
+    state < SEVERAL && state - FIRST_NODE == map[x]
 }
 
 // The lent nodes of the pixels of value k are those that their roots say.
@@ -97,12 +73,10 @@ pub fn check_map(pixels: &[u8], map: &[u16], cells: &mut [u16], k: usize) -> boo
     requires cells_in_bounds { (length cells.old ≤ length map.now) × (length cells.old ≤ length pixels.now) }
     ensures { MapChecked pixels.now k 0 (length cells.old) cells.old map.now cells.new result }
 {
-    let mut x = 0;
-    while x < cells.len() {
+    for x in 0..cells.len() {
         if !check_map_one(pixels, map, cells, k, x) {
             return false;
         }
-        x += 1;
     }
     true
 }

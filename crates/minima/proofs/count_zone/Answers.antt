@@ -1,30 +1,44 @@
 -- `minima::count_zone` meets its contract: each return is one law of the count.
-use native.Mathlib.Omega.{arith}
-use borrow.Author.Rules.{rules}
-use Rattle.picture.specs.Pictures.{picture_of}
-use Rattle.topology.proofs.Accepted.{accepted-is}
+use Rattle.std.proofs.Common.{rules, arith, ◌∙◌, sym}
+use Rattle.geometry.specs.Rasters.{picture}
 use Rattle.minima.proofs.Floods.{counting-few, counting-placed, counting-sizes, counting-seed, counting-seen, counting-lower, counting-minimum}
 use Rattle.minima.proofs.count_zone.Goals as goal
-
-pub returns-then-cells-x : goal.returns-then-cells-x
-returns-then-cells-x c = counting-seen _ _ _ _ c.requires.0 c.requires.1 c.if-cells-x.true
+use Rattle.minima.proofs.count_zone.Goals.{then-cells-x, else-cells-x}
 
 pub flood-requires : goal.flood-requires
-flood-requires c = (
-  counting-placed ((picture_of c.args.a c.args.w c.args.h c.args.pixels.now)) _ _ _ c.requires.0 c.requires.1,
-  counting-sizes ((picture_of c.args.a c.args.w c.args.h c.args.pixels.now)) _ _ _ c.requires.0 c.requires.1,
-  (accepted-is ((picture_of c.args.a c.args.w c.args.h c.args.pixels.now)) c.requires.0.accepted).size,
-  counting-seed ((picture_of c.args.a c.args.w c.args.h c.args.pixels.now)) _ _ _ c.requires.0 c.requires.1 c.if-cells-x.false,
-)
-
-pub returns-then-flood : goal.returns-then-flood
-returns-then-flood c =
-    counting-lower ((picture_of c.args.a c.args.w c.args.h c.args.pixels.now)) _ _ _ c.requires.0 c.requires.1 c.if-cells-x.false _ _ c.flood.ensures (search rules) c.if-flood.true
+flood-requires c =
+    let raster = c.args.raster.now in
+    let p = c.requires in (
+      counting-placed (picture raster) raster.accepted _ _ _ p.0 p.1,
+      counting-sizes (picture raster) raster.accepted _ _ _ p.0 p.1,
+      counting-seed (picture raster) raster.accepted _ _ _ p.0 p.1 c.if-cells-x.false,
+    )
 
 pub overflow_add-result : goal.overflow_add-result
 overflow_add-result c =
-    omega (arith, counting-few ((picture_of c.args.a c.args.w c.args.h c.args.pixels.now)) _ _ _ c.requires.0 c.requires.1)
+    let raster = c.args.raster.now in
+    omega (arith, counting-few (picture raster) raster.accepted _ _ _ c.requires.0 c.requires.1)
 
-pub returns : goal.returns
-returns c =
-    counting-minimum ((picture_of c.args.a c.args.w c.args.h c.args.pixels.now)) _ _ _ c.requires.0 c.requires.1 c.if-cells-x.false _ _ c.flood.ensures (search rules) c.if-flood.false
+pub returns-then-flood : goal.returns-then-flood
+returns-then-flood c =
+    let raster = c.args.raster.now in
+    let p = c.requires in
+    elim c.if-cells-x.branch [
+      | then-cells-x w ↦ rw w.cells-is (counting-seen (picture raster) raster.accepted _ _ _ p.0 p.1 w.if-cells-x.true)
+      | else-cells-x w ↦
+          rw w.cells-is
+          (counting-lower (picture raster) raster.accepted _ _ _ p.0 p.1 w.if-cells-x.false _ _ w.flood.ensures (search rules)
+          (sym w.value-is ∙ c.if-flood.true))
+    ]
+
+pub returns-else-flood : goal.returns-else-flood
+returns-else-flood c =
+    let raster = c.args.raster.now in
+    let p = c.requires in
+    elim c.if-cells-x.branch [
+      | then-cells-x w ↦ search rules
+      | else-cells-x w ↦
+          rw w.cells-is
+          (counting-minimum (picture raster) raster.accepted _ _ _ p.0 p.1 w.if-cells-x.false _ _ w.flood.ensures (search rules)
+          (sym w.value-is ∙ c.if-flood.false))
+    ]

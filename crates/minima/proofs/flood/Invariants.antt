@@ -1,13 +1,12 @@
 -- `minima::flood` meets its contract. The invariant is ZoneRunning; twice the unvisited places with the stack's height fall.
-use Prim.Native.Nat.{◌+◌, ◌*◌}
-use lib.ListN.{set}
+use Rattle.std.proofs.Common.{◌+◌, ◌*◌, set}
 use Rattle.labelling_laws.proofs.ZoneScan.{unvisited}
-use Rattle.picture.specs.Pictures.{picture_of}
+use Rattle.geometry.specs.Rasters.{picture}
 use Rattle.minima.proofs.Floods.{ZoneRunning}
 use Rattle.minima.proofs.flood.Given as goal
 
-abbrev pub invariant-loop-s : goal.invariant-loop-s
-invariant-loop-s l = ZoneRunning (picture_of l.a l.w l.h l.pixels) l.k l.x (set l.initial.cells l.x 65535) l.cells l.s
+abbrev pub invariant-loop-stack : goal.invariant-loop-stack
+invariant-loop-stack l = ZoneRunning (picture l.raster) l.k l.x (set l.initial.cells l.x 65535) l.cells l.stack
 
-abbrev pub decreases-loop-s : goal.decreases-loop-s
-decreases-loop-s l = 2 * unvisited l.cells + l.s.height
+abbrev pub decreases-loop-stack : goal.decreases-loop-stack
+decreases-loop-stack l = 2 * unvisited l.cells + l.stack.height

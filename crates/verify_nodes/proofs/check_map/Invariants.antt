@@ -1,11 +1,6 @@
 -- `verify_nodes::check_map` meets its contract.
 use Rattle.verify_nodes.proofs.NodeChecks.{MapCheckedTo}
-use lib.ListN.{length}
-use Prim.Native.Nat.{◌-◌}
 use Rattle.verify_nodes.proofs.check_map.Given as goal
 
 abbrev pub invariant-loop-x : goal.invariant-loop-x
 invariant-loop-x l = MapCheckedTo l.pixels l.k l.x l.initial.cells l.map l.cells
-
-abbrev pub decreases-loop-x : goal.decreases-loop-x
-decreases-loop-x l = length l.initial.cells - l.x

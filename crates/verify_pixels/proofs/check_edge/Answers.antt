@@ -1,15 +1,18 @@
 -- `verify_pixels::check_edge` meets its contract.
+use Rattle.std.proofs.Common.{arith}
 use Rattle.tree_laws.proofs.Decided.{decided-yes, decided-never}
-use Rattle.tree_laws.proofs.Checks.{checked-bounds, checked-parents, checked-skip, checked-same, checked-join, checked-joined}
-use native.Mathlib.Omega.{arith}
+use Rattle.tree_laws.proofs.Checks.{checked-bounds, checked-parents, checked-skip, checked-same, checked-join}
+use Rattle.verify_pixels.proofs.Edges.{root-in, edge-joined}
 use Rattle.verify_pixels.proofs.check_edge.Goals as goal
 
 pub comes_before-requires : goal.comes_before-requires
 comes_before-requires c = (checked-bounds _ _ _ _ _ _ _ _ c.requires.edge_check_ready).0
 
 pub returns-then-not-comes_before : goal.returns-then-not-comes_before
-returns-then-not-comes_before c =
-    checked-skip _ _ _ _ _ _ _ _ (decided-never c.if-not-comes_before.true c.comes_before.ensures)
+returns-then-not-comes_before c = (
+  root-in _ _ _ _ _ _ _ _ c.requires.edge_check_ready,
+  checked-skip _ _ _ _ _ _ _ _ (decided-never c.if-not-comes_before.true c.comes_before.ensures),
+)
 
 pub find-q-requires : goal.find-q-requires
 find-q-requires c =
@@ -19,8 +22,10 @@ find-q-requires c =
 -- past the first test y comes before x
 pub returns-then-q-r : goal.returns-then-q-r
 returns-then-q-r c =
-    let earlier = decided-yes c.if-not-comes_before.false c.comes_before.ensures in
-    checked-same _ _ _ _ _ _ _ _ earlier _ _ c.find-q.ensures c.if-q-r.true
+    let earlier = decided-yes c.if-not-comes_before.false c.comes_before.ensures in (
+      root-in _ _ _ _ _ _ _ _ c.requires.edge_check_ready,
+      checked-same _ _ _ _ _ _ _ _ earlier _ _ c.find-q.ensures c.if-q-r.true,
+    )
 
 pub check_join-requires : goal.check_join-requires
 check_join-requires c =
@@ -35,7 +40,7 @@ check_join-requires c =
       cells_in_bounds = (omega (arith, s.cells_in_bounds.0), omega (arith, s.cells_in_bounds.1));
     }
 
-pub returns : goal.returns
-returns c =
+pub returns-else-q-r : goal.returns-else-q-r
+returns-else-q-r c =
     let earlier = decided-yes c.if-not-comes_before.false c.comes_before.ensures in
-    checked-joined _ _ _ _ _ _ _ _ earlier _ _ c.find-q.ensures _ _ c.if-q-r.false c.check_join.ensures
+    edge-joined _ _ _ _ _ _ _ _ earlier _ _ c.find-q.ensures c.if-q-r.false _ _ c.check_join.ensures

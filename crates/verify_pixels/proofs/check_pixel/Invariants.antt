@@ -1,11 +1,7 @@
 -- `verify_pixels::check_pixel` meets its contract.
-use Rattle.picture.specs.Pictures.{picture_of}
+use Rattle.geometry.specs.Rasters.{picture}
 use Rattle.tree_laws.proofs.PixelChecks.{PixelChecking}
-use Prim.Native.Nat.{◌-◌}
 use Rattle.verify_pixels.proofs.check_pixel.Given as goal
 
-abbrev pub invariant-loop-i : goal.invariant-loop-i
-invariant-loop-i l = PixelChecking (picture_of l.a l.w l.h l.pixels) l.k l.x l.i l.root l.cells l.fathers l.map
-
-abbrev pub decreases-loop-i : goal.decreases-loop-i
-decreases-loop-i l = l.count - l.i
+abbrev pub invariant-loop-y : goal.invariant-loop-y
+invariant-loop-y l = PixelChecking (picture l.raster) l.k l.x l.y-index l.root l.cells l.fathers l.map

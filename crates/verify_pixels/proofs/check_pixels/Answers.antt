@@ -1,19 +1,17 @@
 -- `verify_pixels::check_pixels` meets its contract.
+use Rattle.std.proofs.Common.{arith}
 use Rattle.tree_laws.proofs.Decided.{yes, never, decided-yes, decided-never}
 use Rattle.tree_laws.proofs.PixelChecks.{checking-end}
-use native.Mathlib.Omega.{arith}
 use Rattle.verify_pixels.proofs.check_pixels.Goals as goal
 
 pub returns-then-not-check_pixel : goal.returns-then-not-check_pixel
-returns-then-not-check_pixel c =
-    never (decided-never c.if-not-check_pixel.true c.check_pixel.ensures)
+returns-then-not-check_pixel c = never (decided-never c.if-not-check_pixel.true c.check_pixel.ensures)
 
 pub loop-x-preserved : goal.loop-x-preserved
-loop-x-preserved c =
-    let i = c.loop-x.invariant in
-    (decided-yes c.if-not-check_pixel.false c.check_pixel.ensures, omega (arith, i.0.classes.size, c.loop-x-test.true))
+loop-x-preserved c = decided-yes c.if-not-check_pixel.false c.check_pixel.ensures
 
 pub returns : goal.returns
 returns c =
     let i = c.loop-x.invariant in
-    yes (checking-end _ _ _ _ _ _ i.0 i.1 c.loop-x-test.false)
+    let size = i.classes.size in
+    yes (checking-end _ _ _ _ _ _ i (omega arith) (omega arith))

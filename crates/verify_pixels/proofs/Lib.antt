@@ -1,0 +1,2 @@
+-- Laws of the joins at a place.
+pub mod Edges

@@ -1,0 +1,2 @@
+-- What the joins at a place leave.
+pub mod Edges
