@@ -12,10 +12,10 @@ pub fn centre(sum: u32, size: u32) -> u32
     let lower = 10 * sum / size;
     let twice = 2 * (10 * sum % size);
     if twice < size {
-        return lower;
+        lower
+    } else if size < twice {
+        lower + 1
+    } else {
+        lower + lower % 2
     }
-    if size < twice {
-        return lower + 1;
-    }
-    lower + lower % 2
 }

@@ -1,14 +1,16 @@
 -- How long the line of a patch can be, and which numbers stand in it; the lines above it.
-use mathlib.Core.Path.{◌≡◌, ap, ◌∙◌}
+use mathlib.Core.Path.{◌≡◌, ap, ap₂, ◌∙◌}
 use mathlib.Core.List.{List, [], ◌∷◌, ◌++◌, append_assoc}
-use Prim.Native.Nat.{ℕ, suc, ◌+◌, ◌≤◌, ◌<◌}
+use Prim.Native.Nat.{ℕ, ◌+◌, ◌*◌, ◌≤◌, ◌<◌}
 use native.Mathlib.Omega.{arith}
-use native.Mathlib.Numerals.{add-one}
-use lib.ListN.{length}
+use lib.ListN.{length, get_or}
+use Rattle.lists.specs.Blocks.{block_entry}
+use Rattle.patch_records.specs.Records.{record_at}
 use Rattle.centres.specs.Centres.{centre}
 use Rattle.centres.proofs.Rounding.{centre-most}
 use Rattle.text.specs.Decimal.{fields}
 use Rattle.hold_lines.specs.Lines.{line_of}
+use Rattle.hold_lines.specs.Figures.{line_at}
 use Rattle.text.proofs.Decimals.{decimal-length, last-length, next-length}
 
 -- the line of a patch
@@ -36,15 +38,18 @@ centre-digits c s h = omega (arith, centre-most c s)
 
 -- the numbers of a line, each equal to the figure it stands for
 pub line-is :
-    (i s h d c r a b k m e g : ℕ) → a ≡ i + 1 → b ≡ s → k ≡ h → m ≡ d → e ≡ centre c s → g ≡ centre r s →
-    fields (a ∷ b ∷ k ∷ m ∷ e ∷ g ∷ []) ≡ line_of (suc i) s h d c r
-line-is i s h d c r a b k m e g pa pb pk pm pe pg =
-    ap (λ (z : ℕ). fields (z ∷ b ∷ k ∷ m ∷ e ∷ g ∷ [])) (pa ∙ add-one i) ∙
-    (ap (λ (z : ℕ). fields (suc i ∷ z ∷ k ∷ m ∷ e ∷ g ∷ [])) pb ∙
-    (ap (λ (z : ℕ). fields (suc i ∷ s ∷ z ∷ m ∷ e ∷ g ∷ [])) pk ∙
-    (ap (λ (z : ℕ). fields (suc i ∷ s ∷ h ∷ z ∷ e ∷ g ∷ [])) pm ∙
-    (ap (λ (z : ℕ). fields (suc i ∷ s ∷ h ∷ d ∷ z ∷ g ∷ [])) pe ∙
-    ap (λ (z : ℕ). fields (suc i ∷ s ∷ h ∷ d ∷ centre c s ∷ z ∷ [])) pg))))
+    (c r : ℕ) {n s h d a b k m e g : ℕ} → a ≡ n → b ≡ s → k ≡ h → m ≡ d → e ≡ centre c s → g ≡ centre r s →
+    fields (a ∷ b ∷ k ∷ m ∷ e ∷ g ∷ []) ≡ line_of n s h d c r
+line-is c r pa pb pk pm pe pg = cc
+
+-- the line of the patch i + 1 by its entries in the blocks
+pub line_at-is :
+    (n i : ℕ) (figures : List ℕ) {number s h d c r : ℕ} →
+    i + 1 ≡ number → get_or figures i 0 ≡ s → block_entry figures (4 * n) i ≡ h → block_entry figures (3 * n) i ≡ d →
+    block_entry figures n i ≡ c → block_entry figures (2 * n) i ≡ r →
+    line_at n figures i ≡ line_of number s h d c r
+unfolding record_at
+line_at-is n i figures pn ps ph pd pc pr = line-is _ _ pn ps ph pd (ap₂ centre pc ps) (ap₂ centre pr ps)
 
 -- the parts of the two lines above the patches, as they are written
 pub head-is : (a b c d e f : List ℕ) → ((a ++ b) ++ (c ++ d)) ++ (e ++ f) ≡ a ++ (b ++ (c ++ (d ++ (e ++ f))))

@@ -12,20 +12,6 @@ use Rattle.lists.proofs.Blocks.{untouched-refl, untouched-trans, untouched-set}
 use Rattle.topology.proofs.Climb.{Up, stay, rise, up-trans}
 use Rattle.least_labels.specs.LeastLabels.{FathersRise, Handed, top, lowered, stayed, LeastOf, Through, own, by, LeastThrough, HandedBefore, LeastLabel}
 
--- the three cases of a node, its father f
-module _ (n i f : ℕ) (work : List ℕ) (e : f ≡ block_entry work n i) where
-  pub handed-top : n ≤ f → Handed n i work work
-  handed-top h = top (omega arith) refl
-
-  pub handed-lowered :
-      f < n → block_entry work (4 * n) i < block_entry work (4 * n) f → Handed n i work (set work (4 * n + f) (block_entry work (4 * n) i))
-  handed-lowered h l =
-      let q = ap (block_entry work (4 * n)) e in
-      lowered (omega arith) (omega arith) (ap (λ (z : ℕ). set work (4 * n + z) (block_entry work (4 * n) i)) e)
-
-  pub handed-stayed : f < n → block_entry work (4 * n) f ≤ block_entry work (4 * n) i → Handed n i work work
-  handed-stayed h l = let q = ap (block_entry work (4 * n)) e in stayed (omega arith) (omega arith) refl
-
 -- the least label of a set with the same nodes, and of two sets together
 pub least-same :
     {S T : ℕ → Type 0} {label : ℕ → ℕ} {v w : ℕ} → ((j : ℕ) → S j → T j) → ((j : ℕ) → T j → S j) → w ≡ v → LeastOf S label v → LeastOf T label w

@@ -4,18 +4,13 @@
 ghost use Rattle.std.specs.Prelude.{◌≡◌, ◌*◌, ◌≤◌, ◌<◌, length};
 ghost use Rattle.least_labels.specs.LeastLabels.{Handed, LeastLabel};
 
-use cells::wide;
-
 // Lowers the label of the father of the node i to that of i, where that is less; the root has no father.
 pub fn hand_up(n: usize, i: usize, work: &mut [u16])
     requires { (n ≤ 1600) × (length work.old ≡ 5 * n) × (i < n) }
     ensures { Handed n i work.old work.new }
 {
-    let f = wide(work[n + i]);
-    if n <= f {
-        return;
-    }
-    if work[4 * n + i] < work[4 * n + f] {
+    let f = usize::from(work[n + i]);
+    if f < n && work[4 * n + i] < work[4 * n + f] {
         work[4 * n + f] = work[4 * n + i];
     }
 }
@@ -25,10 +20,8 @@ pub fn least_label(n: usize, m: usize, work: &mut [u16]) -> u16
     requires { (n ≤ 1600) × (length work.old ≡ 5 * n) × (m < n) }
     ensures { LeastLabel n m work.old result }
 {
-    let mut i = 0;
-    while i < m {
+    for i in 0..m {
         hand_up(n, i, work);
-        i += 1;
     }
     work[4 * n + m]
 }

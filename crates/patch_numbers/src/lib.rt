@@ -5,7 +5,7 @@ ghost use Rattle.std.specs.Prelude.{◌≡◌, ℕ, ◌+◌, ◌*◌, ◌≤◌,
 ghost use Rattle.lists.specs.Lists.{pick};
 ghost use Rattle.patch_numbers.specs.Numbers.{FiveBlocks, Mapped, Mark, Marks, Number, Numbers, Leaves, patch_in};
 
-use cells::{fill, wide};
+use cells::fill;
 
 // Marks the father f of a node; a number that is no node's is the root's father.
 fn mark(cells: &mut [u16], f: usize)
@@ -22,10 +22,8 @@ fn mark_fathers(n: usize, count: usize, work: &[u16], cells: &mut [u16])
     ensures { Marks n count work.now cells.new }
 {
     fill(cells, 0, n, 0);
-    let mut j = 0;
-    while j < count {
-        mark(cells, wide(work[n + j]));
-        j += 1;
+    for father in &work[n..n + count] {
+        mark(cells, usize::from(*father));
     }
 }
 
@@ -34,15 +32,13 @@ fn number_leaf(n: usize, x: usize, work: &mut [u16], marks: &[u16], r: usize) ->
     requires { FiveBlocks n work.old marks.now × Mapped n work.old × (x < n) × (r ≤ x) }
     ensures { Number n x work.old marks.now r work.new result }
 {
-    let m = wide(work[2 * n + x]);
-    if wide(work[3 * n + m]) != x {
-        return r;
+    let m = usize::from(work[2 * n + x]);
+    if usize::from(work[3 * n + m]) == x && marks[m] == 0 {
+        work[4 * n + m] = (r + 1) as u16;
+        r + 1
+    } else {
+        r
     }
-    if marks[m] != 0 {
-        return r;
-    }
-    work[4 * n + m] = (r + 1) as u16;
-    r + 1
 }
 
 // Puts the number of each leaf into the fifth block, and answers how many there are.
@@ -51,10 +47,8 @@ fn number_leaves(n: usize, work: &mut [u16], marks: &[u16]) -> usize
     ensures { Numbers n work.old marks.now n result work.new }
 {
     let mut r = 0;
-    let mut x = 0;
-    while x < n {
+    for x in 0..n {
         r = number_leaf(n, x, work, marks, r);
-        x += 1;
     }
     r
 }
@@ -74,9 +68,9 @@ pub fn number(n: usize, count: usize, others: u16, work: &mut [u16], cells: &mut
 fn number_if(number: u16, pixel: u8, height: u16) -> u16
     ensures { result ≡ pick (eqb pixel height) number 0 }
 {
-    let above = pixel as u32 + 65536 - height as u32;
+    let above = u32::from(pixel) + 65536 - u32::from(height);
     let same = above / 65536 - (above - 1) / 65536;
-    (number as u32 * same) as u16
+    (u32::from(number) * same) as u16
 }
 
 // The number of the patch of the place x, 0 on the line.
@@ -84,7 +78,7 @@ pub fn patch_at(n: usize, pixels: &[u8], work: &[u16], x: usize) -> u16
     requires { FiveBlocks n work.now pixels.now × Mapped n work.now × (x < n) }
     ensures { result ≡ patch_in n pixels.now work.now x }
 {
-    let m = wide(work[2 * n + x]);
+    let m = usize::from(work[2 * n + x]);
     number_if(work[4 * n + m], pixels[x], work[m])
 }
 
@@ -93,9 +87,7 @@ pub fn map_patches(n: usize, pixels: &[u8], work: &[u16], cells: &mut [u16])
     requires { FiveBlocks n work.now pixels.now × Mapped n work.now × (length cells.old ≡ n) }
     ensures { (x : ℕ) → x < n → get_or cells.new x 0 ≡ patch_in n pixels.now work.now x }
 {
-    let mut x = 0;
-    while x < n {
-        cells[x] = patch_at(n, pixels, work, x);
-        x += 1;
+    for (x, cell) in cells.iter_mut().enumerate() {
+        *cell = patch_at(n, pixels, work, x);
     }
 }

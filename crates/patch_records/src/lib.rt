@@ -7,7 +7,7 @@ ghost use Rattle.patch_records.specs.Records.{Entry, Entries, record_at, records
 
 // The number of a patch from 1, its size in pixels, its height, its depth, and the sums of its columns and of its rows.
 // A sum is at most 31,200, that of a patch of 40 by 40 places.
-#[derive(Clone, Copy)]
+#[derive(Clone, Copy, PartialEq, Eq)]
 pub struct Patch {
     pub number: u16,
     pub size: u16,
@@ -26,6 +26,7 @@ fn byte(figure: u16) -> u8
 }
 
 // The record of the patch whose figures are the entries i of the blocks.
+#[tactic(auto, unfolding(crate::specs::Records::record_at))]
 pub fn record_at(figures: &[u16], n: usize, i: usize) -> Patch
     requires { Entry n figures.now i }
     ensures { result ≡ record_at n figures.now i }
@@ -45,9 +46,7 @@ pub fn write_records(out: &mut [Patch], figures: &[u16], n: usize, count: usize)
     requires { (count ≤ length out.old) × Entries n figures.now count }
     ensures { out.new ≡ over (records n figures.now count) out.old }
 {
-    let mut i = 0;
-    while i < count {
+    for i in 0..count {
         out[i] = record_at(figures, n, i);
-        i += 1;
     }
 }

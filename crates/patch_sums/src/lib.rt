@@ -4,7 +4,7 @@
 ghost use Rattle.std.specs.Prelude.{◌≡◌, ◌+◌, ◌*◌, ◌≤◌, length};
 ghost use Rattle.patch_sums.specs.Sums.{raised, Raisable, terms, SumsRoom, Added, RunAfter, NumberedRows, Sums};
 
-use cells::{fill, wide};
+use cells::fill;
 
 // Places of one row and one patch, with none of another patch between them: the number, how many there are, the sum of their columns.
 // It is stored as a whole, since each store waits for the one before it.
@@ -20,7 +20,7 @@ fn add_to(cells: &mut [u16], i: usize, v: u16)
     requires { Raisable cells.old i v }
     ensures { cells.new ≡ raised cells.old i v }
 {
-    cells[i] = cells[i] + v;
+    cells[i] += v;
 }
 
 // Adds a run to the three sums of its number, none for 0.
@@ -28,36 +28,34 @@ fn add_run(n: usize, run: Run, row: u16, work: &mut [u16])
     requires { SumsRoom n run.number (terms run row) work.old }
     ensures { Added n run.number (terms run row) work.old work.new }
 {
-    let c = run.number;
-    if c == 0 {
-        return;
+    if run.number != 0 {
+        let i = run.number - 1;
+        add_to(work, i, run.size);
+        add_to(work, n + i, run.columns);
+        add_to(work, 2 * n + i, run.size * row);
     }
-    let i = c - 1;
-    add_to(work, i, run.size);
-    add_to(work, n + i, run.columns);
-    add_to(work, 2 * n + i, run.size * row);
 }
 
-// The run with the next place, of the number c; a place on the line adds nothing, and where the number is another the run is added and a new one begins.
-fn next_run(n: usize, c: usize, run: Run, column: u16, row: u16, work: &mut [u16]) -> Run
+// The run with the next place, by the place's number; a place on the line adds nothing, and where the number is another the run is added and a new one begins.
+fn next_run(n: usize, number: usize, run: Run, column: u16, row: u16, work: &mut [u16]) -> Run
     requires { SumsRoom n run.number (terms run row) work.old × (run.size ≤ 40) × (run.columns ≤ 1600) × (column ≤ 39) × (row ≤ 39) }
-    ensures { RunAfter n c column row run work.old result work.new }
+    ensures { RunAfter n number column row run work.old result work.new }
 {
-    if c == 0 {
-        return run;
-    }
-    if c == run.number {
-        return Run {
-            number: c,
+    if number == 0 {
+        run
+    } else if number == run.number {
+        Run {
+            number,
             size: run.size + 1,
             columns: run.columns + column,
-        };
-    }
-    add_run(n, run, row, work);
-    Run {
-        number: c,
-        size: 1,
-        columns: column,
+        }
+    } else {
+        add_run(n, run, row, work);
+        Run {
+            number,
+            size: 1,
+            columns: column,
+        }
     }
 }
 
@@ -72,11 +70,9 @@ fn sum_row(w: usize, n: usize, row: usize, numbers: &[u16], work: &mut [u16])
         size: 0,
         columns: 0,
     };
-    let mut column = 0;
-    while column < w {
-        let c = wide(numbers[row * w + column]);
-        run = next_run(n, c, run, column as u16, narrow, work);
-        column += 1;
+    for column in 0..w {
+        let number = usize::from(numbers[row * w + column]);
+        run = next_run(n, number, run, column as u16, narrow, work);
     }
     add_run(n, run, narrow, work);
 }
@@ -87,9 +83,7 @@ pub fn put_sums(w: usize, h: usize, n: usize, numbers: &[u16], work: &mut [u16])
     ensures { Sums w n n numbers.now work.old work.new }
 {
     fill(work, 0, 3 * n, 0);
-    let mut row = 0;
-    while row < h {
+    for row in 0..h {
         sum_row(w, n, row, numbers, work);
-        row += 1;
     }
 }

@@ -1,16 +1,15 @@
--- Laws of numbers written: by decimal digits, as the fields of a line, as bytes with the lowest first.
+-- Laws of numbers written: by decimal digits, as the fields of a line.
 use mathlib.Core.Path.{◌≡◌, sym, ap, subst, ◌∙◌}
 use mathlib.Core.Logic.{by_cases}
 use mathlib.Core.List.{List, [], ◌∷◌, ◌++◌}
-use Prim.Native.Nat.{ℕ, suc, ◌+◌, ◌-◌, ◌/◌, ◌%◌, ◌≤◌, ◌<◌}
+use Prim.Native.Nat.{ℕ, suc, ◌+◌, ◌/◌, ◌%◌, ◌≤◌, ◌<◌}
 use native.Mathlib.Decide.{dec_lt}
 use native.Mathlib.Omega.{arith}
 use native.Mathlib.Numerals.{add-one}
 use lib.ListN.{length, get_or, take, length-append}
 use Rattle.lists.specs.Writing.{Written}
-use Rattle.lists.proofs.Writings.{written_none, written_then, written-length}
+use Rattle.lists.proofs.Writings.{written_then, written-length}
 use Rattle.text.specs.Decimal.{decimal, fields}
-use Rattle.text.specs.Little.{little_endian}
 use Rattle.text.proofs.Decimals.{spaced, decimal-one, decimal-more, fields-last, spaced-next, spaced-room}
 
 -- a number by its last digit
@@ -65,14 +64,3 @@ field_room ns a b at to i h r w =
     let k = spaced-room ns i h in
     let l = written-length (omega arith) w in
     omega arith
-
--- no byte of a number, and one byte before the others
-pub little-none : (l n at : ℕ) (a : List ℕ) → l ≡ 0 → Written at (little_endian l n) a at a
-little-none l n at a e = subst (λ (k : ℕ). Written at (little_endian k n) a at a) (sym e) (written_none a at)
-
-pub little-more :
-    (l n : ℕ) {at m to : ℕ} {a b c : List ℕ} → 1 ≤ l → at ≤ length a →
-    Written at (n % 256 ∷ []) a m b → Written m (little_endian (l - 1) (n / 256)) b to c → Written at (little_endian l n) a to c
-little-more l n {at} {m} {to} {a} {b} {c} h r v w =
-    let e : suc (l - 1) ≡ l = omega arith in
-    subst (λ (k : ℕ). Written at (little_endian k n) a to c) e (written_then r v w)

@@ -20,12 +20,9 @@ pub fn put_bytes(out: &mut [u8], at: usize, bytes: &[u8]) -> usize
     requires { at + length bytes.now ≤ length out.old }
     ensures { Written at bytes.now out.old result out.new }
 {
-    let mut i = 0;
-    while i < bytes.len() {
-        out[at + i] = bytes[i];
-        i += 1;
-    }
-    at + i
+    let end = at + bytes.len();
+    out[at..end].copy_from_slice(bytes);
+    end
 }
 
 // Writes a number in decimal digits and answers the position behind them.
@@ -34,10 +31,11 @@ pub fn put_number(out: &mut [u8], at: usize, n: u32) -> usize
     ensures { Written at (decimal n) out.old result out.new }
 {
     if n < 10 {
-        return put(out, at, 48 + n as u8);
+        put(out, at, b'0' + n as u8)
+    } else {
+        let next = put_number(out, at, n / 10);
+        put(out, next, b'0' + (n % 10) as u8)
     }
-    let next = put_number(out, at, n / 10);
-    put(out, next, 48 + (n % 10) as u8)
 }
 
 // Writes a number and one byte behind it, and answers the position behind both.
@@ -54,13 +52,12 @@ pub fn put_fields(out: &mut [u8], at: usize, ns: &[u32]) -> usize
     requires { (1 ≤ length ns.now) × (at + length (fields ns.now) ≤ length out.old) }
     ensures { Written at (fields ns.now) out.old result out.new }
 {
+    let last = ns.len() - 1;
     let mut to = at;
-    let mut i = 0;
-    while i + 1 < ns.len() {
-        to = put_field(out, to, ns[i], 32);
-        i += 1;
+    for n in &ns[..last] {
+        to = put_field(out, to, *n, b' ');
     }
-    put_field(out, to, ns[i], 10)
+    put_field(out, to, ns[last], b'\n')
 }
 
 // Writes a word, then numbers as a line, and answers the position behind them.
@@ -79,11 +76,9 @@ pub fn put_little(out: &mut [u8], at: usize, n: u64, l: usize) -> usize
 {
     let mut to = at;
     let mut rest = n;
-    let mut left = l;
-    while left != 0 {
+    for _ in 0..l {
         to = put(out, to, (rest % 256) as u8);
         rest /= 256;
-        left -= 1;
     }
     to
 }

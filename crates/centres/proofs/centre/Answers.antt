@@ -14,7 +14,7 @@ returns-then-size-twice c =
     let some = c.requires.0 in
     omega (arith, centres-only _ _ _ some (near-above _ _ some c.if-size-twice.true))
 
-pub returns : goal.returns
-returns c =
+pub returns-else-size-twice : goal.returns-else-size-twice
+returns-else-size-twice c =
     let some = c.requires.0 in
     omega (arith, centres-only _ _ _ some (near_even _ _ some (le_antisymm c.if-size-twice.false c.if-twice-size.false)))

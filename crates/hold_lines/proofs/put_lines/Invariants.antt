@@ -1,15 +1,10 @@
 -- `hold_lines::put_lines` meets its contract. The loop's invariant: the lines before i are written, 37 bytes each at most.
 use mathlib.Core.List.{flat_map}
-use Prim.Native.Nat.{◌+◌, ◌-◌, ◌*◌, ◌≤◌}
+use Rattle.std.proofs.Common.{◌+◌, ◌*◌, ◌≤◌}
 use Rattle.lists.specs.Lists.{range}
 use Rattle.lists.specs.Writing.{Written}
 use Rattle.hold_lines.specs.Figures.{line_at}
 use Rattle.hold_lines.proofs.put_lines.Given as goal
 
 abbrev pub invariant-loop-i : goal.invariant-loop-i
-invariant-loop-i l =
-    (l.i ≤ l.count) × (l.to ≤ l.at + 37 * l.i)
-    × Written l.at (flat_map (line_at l.sizes l.heights l.depths l.columns l.rows) (range 0 l.i)) l.initial.out l.to l.out
-
-abbrev pub decreases-loop-i : goal.decreases-loop-i
-decreases-loop-i l = l.count - l.i
+invariant-loop-i l = (l.to ≤ l.at + 37 * l.i) × Written l.at (flat_map (line_at l.n l.figures) (range 0 l.i)) l.initial.out l.to l.out

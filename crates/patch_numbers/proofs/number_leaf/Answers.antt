@@ -1,12 +1,14 @@
 -- `patch_numbers::number_leaf` meets its contract: each return is one case of Number.
 use Rattle.patch_numbers.proofs.Numbering.{number-other, number-marked, number-given}
 use Rattle.patch_numbers.proofs.number_leaf.Goals as goal
+use Rattle.patch_numbers.proofs.number_leaf.Goals.{else-from-x-via-then-from-x+else-marks-m-eq0, else-from-x-via-else-from-x}
 
-pub returns-then-wide-x : goal.returns-then-wide-x
-returns-then-wide-x c = number-other _ _ _ _ _ _ _ c.wide-m.ensures c.wide.ensures c.if-wide-x.true
+pub returns-then-marks-m-eq0 : goal.returns-then-marks-m-eq0
+returns-then-marks-m-eq0 c = number-given _ _ _ _ _ _ _ c.from-m.ensures c.from.ensures c.if-from-x.true c.if-marks-m-eq0.true
 
-pub returns-then-marks-m-ne0 : goal.returns-then-marks-m-ne0
-returns-then-marks-m-ne0 c = number-marked _ _ _ _ _ _ _ c.wide-m.ensures c.wide.ensures c.if-wide-x.false c.if-marks-m-ne0.true
-
-pub returns : goal.returns
-returns c = number-given _ _ _ _ _ _ _ c.wide-m.ensures c.wide.ensures c.if-wide-x.false c.if-marks-m-ne0.false
+pub returns-else-from-x : goal.returns-else-from-x
+returns-else-from-x c =
+    elim c.else-from-x.branch [
+      | else-from-x-via-then-from-x+else-marks-m-eq0 w ↦ number-marked _ _ _ _ _ _ _ c.from-m.ensures c.from.ensures w.if-from-x.true w.if-marks-m-eq0.false
+      | else-from-x-via-else-from-x w ↦ number-other _ _ _ _ _ _ _ c.from-m.ensures c.from.ensures w.if-from-x.false
+    ]

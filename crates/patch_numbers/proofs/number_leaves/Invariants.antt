@@ -1,10 +1,6 @@
 -- `patch_numbers::number_leaves` meets its contract. The invariant is Numbers.
-use Prim.Native.Nat.{◌-◌, ◌≤◌}
 use Rattle.patch_numbers.specs.Numbers.{Numbers}
 use Rattle.patch_numbers.proofs.number_leaves.Given as goal
 
 abbrev pub invariant-loop-x : goal.invariant-loop-x
-invariant-loop-x l = (l.x ≤ l.n) × Numbers l.n l.initial.work l.marks l.x l.r l.work
-
-abbrev pub decreases-loop-x : goal.decreases-loop-x
-decreases-loop-x l = l.n - l.x
+invariant-loop-x l = Numbers l.n l.initial.work l.marks l.x l.r l.work

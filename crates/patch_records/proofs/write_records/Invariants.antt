@@ -1,12 +1,8 @@
 -- `patch_records::write_records` meets its contract. The invariant: the first i records are written, and the rest of the list is as it was.
-use Prim.Native.Nat.{◌-◌, ◌≤◌}
-use mathlib.Core.Path.{◌≡◌}
+use Rattle.std.proofs.Common.{◌≡◌}
 use Rattle.lists.proofs.Filling.{written}
 use Rattle.patch_records.specs.Records.{record_at}
 use Rattle.patch_records.proofs.write_records.Given as goal
 
 abbrev pub invariant-loop-i : goal.invariant-loop-i
-invariant-loop-i l = (l.i ≤ l.count) × (l.out ≡ written (record_at l.n l.figures) l.i l.initial.out)
-
-abbrev pub decreases-loop-i : goal.decreases-loop-i
-decreases-loop-i l = l.count - l.i
+invariant-loop-i l = l.out ≡ written (record_at l.n l.figures) l.i l.initial.out

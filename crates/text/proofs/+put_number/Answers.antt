@@ -6,22 +6,22 @@ use Rattle.text.proofs.+put_number.Goals as goal
 
 pub put-requires : goal.put-requires
 put-requires t c =
-    let l = number-some c.args.n c.if-n-lt10.true in
+    let l = number-some c.args.n (omega arith) in
     omega arith
 
 pub returns-then-n-lt10 : goal.returns-then-n-lt10
-returns-then-n-lt10 t c = number-one c.args.n c.if-n-lt10.true c.put.ensures
+returns-then-n-lt10 t c = number-one c.args.n (omega arith) c.put.ensures
 
 pub put_number-next-requires : goal.put_number-next-requires
 put_number-next-requires t c = let l = number-fewer c.args.n in (omega arith, omega arith)
 
-pub put-requires-2 : goal.put-requires-2
-put-requires-2 t c =
-    let l = number-room c.args.n c.if-n-lt10.false in
+pub put-requires-else-n-lt10 : goal.put-requires-else-n-lt10
+put-requires-else-n-lt10 t c =
+    let l = number-room c.args.n (omega arith) in
     let w = c.put_number-next.ensures in
     let e = w.end in
     let k = written-length (omega arith) w in
     omega arith
 
-pub returns : goal.returns
-returns t c = number_more c.args.n (omega arith) (omega arith) c.put_number-next.ensures c.put-2.ensures
+pub returns-else-n-lt10 : goal.returns-else-n-lt10
+returns-else-n-lt10 t c = number_more c.args.n (omega arith) (omega arith) c.put_number-next.ensures c.put-else-n-lt10.ensures
