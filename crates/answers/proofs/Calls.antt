@@ -1,7 +1,5 @@
 -- The laws that every public call shares: its refusal, and what it leaves in the lent slices.
--- A call's proof has three steps. The fault is one of the functions of crate `faults`, and `refused-answer` and `refused-left` close
--- its refusal. With no fault, `admitted` of that crate accepts the picture: that its pixels are bytes is what the rules of a `&[u8]` give at the entry of
--- every function that calls something, as `c .. .shared-slice-known .given i`, for each index i. At the end `accepted-answer`,
+-- A call's proof has two steps. `refused-answer` and `refused-left` close its refusal, whose number is the fault. At the end `accepted-answer`,
 -- `written_over` and `cleared-left` close the return; of a part lent to the core `lent_length`, `back-room` and `behind-lent` say the rest.
 use mathlib.Core.Path.{◌≡◌, sym, ap, ◌∙◌}
 use mathlib.Core.Logic.{◌≢◌}
@@ -14,32 +12,26 @@ use Rattle.lists.specs.Lists.{over}
 use Rattle.lists.proofs.Tests.{pick-in, pick_out}
 use Rattle.lists.proofs.Cuts.{over-cut, over-same}
 use Rattle.picture.specs.Pictures.{Picture, places}
-use Rattle.answers.specs.declared.Answer.{Answer}
-use Rattle.answers.specs.Answers.{after_call, cleared, work_after, Answered, WorkSays, OutputSays}
-use Rattle.answers.specs.Steps.{IsRefusal, IsValue, Finished}
+use Rattle.refusals.specs.declared.Refusal.{Refusal}
+use Rattle.refusals.specs.Refusals.{number_of}
+use Rattle.refusals.proofs.Numbers.{number-some}
+use Rattle.std.proofs.Common.{Ok, Err}
+use Rattle.answers.specs.Answers.{Answer, answer_of, after_call, cleared, work_after, Answered, WorkSays, OutputSays}
 
 -- a refusal with the fault f: the number with the value 0, and every lent slice as it was
-module _ (f g : ℕ) (e : g ≡ f) (d : g ≢ 0) where
+module _ (f : ℕ) (refusal : Refusal) (e : number_of refusal ≡ f) where
   fails : f ≢ 0
-  fails z = d (e ∙ z)
+  fails z = let some = number-some refusal in absurd (omega arith)
 
-  pub refused-answer : (v : ℕ) (r : Answer) → IsRefusal g r → Answered f v r
-  refused-answer v r q =
-      record {
-        number = ap (λ (s : Answer). s.number) q ∙ e;
-        value = ap (λ (s : Answer). s.value) q ∙ sym (pick_out f 0 v 0 fails);
-      }
+  pub refused-answer : (v : ℕ) → Answered f v (answer_of (Err refusal))
+  refused-answer v = record { number = e; value = sym (pick_out f 0 v 0 fails) }
 
   pub refused-left : {A : Type 0} (new old : List A) → old ≡ after_call f new old
   refused-left new old = sym (pick_out f 0 new old fails)
 
 -- success: the number 0 with the value, and every lent slice with its new content
-pub accepted-answer : (f v u : ℕ) (r : Answer) → f ≡ 0 → u ≡ v → IsValue u r → Answered f v r
-accepted-answer f v u r z w e =
-    record {
-      number = ap (λ (s : Answer). s.number) e ∙ sym z;
-      value = ap (λ (s : Answer). s.value) e ∙ (w ∙ sym (pick-in f 0 v 0 z));
-    }
+pub accepted-answer : (f v u : ℕ) → f ≡ 0 → u ≡ v → Answered f v (answer_of (Ok u))
+accepted-answer f v u z w = record { number = sym z; value = w ∙ sym (pick-in f 0 v 0 z) }
 
 pub written-left : {A : Type 0} (f : ℕ) (new old : List A) → f ≡ 0 → new ≡ after_call f new old
 written-left f new old z = sym (pick-in f 0 new old z)
@@ -82,23 +74,23 @@ cleared-left f n p q lent q' z e d c =
     (ap (λ (i : ℕ). cleared i q) e ∙ written-left f (cleared (places p) q) q z))
 
 -- a call that lends work: its refusal, and its end
-pub work-refused : (f g v : ℕ) (p : Picture) (q : List ℕ) (r : Answer) → g ≡ f → g ≢ 0 → IsRefusal g r → WorkSays f v p q q r
-work-refused f g v p q r e d w = record { answer = refused-answer f g e d v r w; work = refused-left f g e d _ q }
+pub work-refused : (f v : ℕ) (p : Picture) (q : List ℕ) (e : Refusal) → number_of e ≡ f → WorkSays f v p q q (answer_of (Err e))
+work-refused f v p q e n = record { answer = refused-answer f e n v; work = refused-left f e n _ q }
 
 pub work-done :
-    (f v u n : ℕ) (p : Picture) (q lent q' : List ℕ) (r : Answer) → f ≡ 0 → u ≡ v → n ≡ places p → drop (5 * n) lent ≡ drop (5 * n) q →
-    Finished n u lent q' r → WorkSays f v p q q' r
-work-done f v u n p q lent q' r z w e d t =
-    record { answer = accepted-answer f v u r z w t.answer; work = cleared-left f n p q lent q' z e d t.work }
+    (f v u n : ℕ) (p : Picture) (q lent q' : List ℕ) → f ≡ 0 → u ≡ v → n ≡ places p → drop (5 * n) lent ≡ drop (5 * n) q →
+    q' ≡ cleared n lent → WorkSays f v p q q' (answer_of (Ok u))
+work-done f v u n p q lent q' z w e d c =
+    record { answer = accepted-answer f v u z w; work = cleared-left f n p q lent q' z e d c }
 
 -- a call that lends output and work: its refusal, and its end, where a core has written the list new to the first n entries of the output
 pub output-refused :
-    (f g v : ℕ) (p : Picture) (new o q : List ℕ) (r : Answer) → g ≡ f → g ≢ 0 → IsRefusal g r → OutputSays f p v new o o q q r
-output-refused f g v p new o q r e d w =
-    record { call = work-refused f g v p q r e d w; output = refused-left f g e d (over new o) o }
+    (f v : ℕ) (p : Picture) (new o q : List ℕ) (e : Refusal) → number_of e ≡ f → OutputSays f p v new o o q q (answer_of (Err e))
+output-refused f v p new o q e n =
+    record { call = work-refused f v p q e n; output = refused-left f e n (over new o) o }
 
 pub output-done :
-    (f v u n : ℕ) (p : Picture) (new ys o q lent q' : List ℕ) (r : Answer) → f ≡ 0 → u ≡ v → n ≡ places p → length new ≡ n → ys ≡ new →
-    drop (5 * n) lent ≡ drop (5 * n) q → Finished n u lent q' r → OutputSays f p v new o (ys ++ drop n o) q q' r
-output-done f v u n p new ys o q lent q' r z w e l s d t =
-    record { call = work-done f v u n p q lent q' r z w e d t; output = written_over f n new o ys z l s }
+    (f v u n : ℕ) (p : Picture) (new ys o q lent q' : List ℕ) → f ≡ 0 → u ≡ v → n ≡ places p → length new ≡ n → ys ≡ new →
+    drop (5 * n) lent ≡ drop (5 * n) q → q' ≡ cleared n lent → OutputSays f p v new o (ys ++ drop n o) q q' (answer_of (Ok u))
+output-done f v u n p new ys o q lent q' z w e l s d c =
+    record { call = work-done f v u n p q lent q' z w e d c; output = written_over f n new o ys z l s }

@@ -1,8 +1,19 @@
 -- The answer of a call, and what it leaves in each lent slice.
-use Rattle.std.specs.Prelude.{◌≡◌, List, ℕ, ◌*◌, eqb, replicate}
+use Rattle.std.specs.Prelude.{◌≡◌, List, ℕ, ◌*◌, eqb, replicate, Result, Ok, Err}
 use Rattle.lists.specs.Lists.{pick, over}
 use Rattle.picture.specs.Pictures.{Picture, places}
-use Rattle.answers.specs.declared.Answer.{Answer}
+use Rattle.refusals.specs.declared.Refusal.{Refusal}
+use Rattle.refusals.specs.Refusals.{number_of}
+
+-- the number of a refusal, or 0 with the number of components, nodes or patches, the pass, 1 for yes, or 0 where nothing is counted
+pub record Answer : Type 0 where
+  pub number : ℕ
+  pub value : ℕ
+
+-- the answer of a call: the number 0 with its value, or a refusal's number with the value 0
+abbrev pub answer_of : Result ℕ Refusal → Answer
+answer_of (Ok v) = record { number = 0; value = v }
+answer_of (Err e) = record { number = number_of e; value = 0 }
 
 -- what a call with the fault f leaves in a lent slice: the new content where there is no fault, else the old
 abbrev pub after_call : {A : Type 0} → ℕ → List A → List A → List A

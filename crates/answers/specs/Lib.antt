@@ -1,3 +1,2 @@
 -- What every call promises.
 pub mod Answers
-pub mod Steps

@@ -1,13 +1,18 @@
 -- The fault of a picture's arguments: which tests make which number, and that no fault is what accepts a picture.
-use mathlib.Core.Path.{◌≡◌, sym, ◌∙◌}
+use mathlib.Core.Path.{◌≡◌, refl, sym, ◌∙◌}
 use mathlib.Core.Bool.{true, false, ◌&&◌, ◌||◌}
+use mathlib.Core.Logic.{◌≢◌}
+use mathlib.Core.List.{List}
 use Prim.Native.Nat.{ℕ, ◌*◌}
 use native.Mathlib.Omega.{arith}
-use borrow.Author.Tests.{eqb-true, eq-eqb}
+use borrow.Author.Tests.{eqb-true, eq-eqb, ne_eqb}
 use lib.Dec.{eqb}
 use lib.ListN.{length}
-use Rattle.picture.specs.Pictures.{Picture, side_fits, all_bytes, is_picture}
+use Rattle.picture.specs.Pictures.{Picture, picture_of, side_fits, all_bytes, is_picture}
 use Rattle.faults.specs.PictureFault.{sides_fault, picture_fault, picture_fault_of}
+use Rattle.geometry.specs.declared.adjacency.Adjacency.{Adjacency}
+use Rattle.geometry.specs.declared.adjacency.Adjacency.TheVariants.{Four, Eight}
+use Rattle.geometry.specs.Adjacencies.{adjacency_number}
 use Rattle.lists.proofs.Tests.{and_left, and_right, and_both, on_test}
 
 module _ (w h l : ℕ) where
@@ -46,6 +51,14 @@ module _ (a w h l : ℕ) where
   unfolding picture_fault
   fault-sides p = rw p
 
+-- an adjacency that has a number is one of two, and a number that is neither is refused
+pub adjacency-named : (b : Adjacency) (a : ℕ) → adjacency_number b ≡ a → (eqb a 4 || eqb a 8) ≡ true
+adjacency-named Four a e = rw (← e) refl
+adjacency-named Eight a e = rw (← e) refl
+
+pub adjacency-other : (a : ℕ) → a ≢ 4 → a ≢ 8 → (eqb a 4 || eqb a 8) ≡ false
+adjacency-other a p q = rw (ne_eqb a 4 p, ne_eqb a 8 q) refl
+
 -- no fault: the adjacency is 4 or 8, and sides and length have none
 pub record Sound (a w h l : ℕ) : Type 0 where
   pub adjacency : (eqb a 4 || eqb a 8) ≡ true
@@ -66,3 +79,10 @@ accepted p e b =
     and_both s.adjacency
     (and_both (and_left (side_fits p.width) _ t.sides)
     (and_both (and_right (side_fits p.width) _ t.sides) (and_both (eq-eqb _ _ t.size) b)))
+
+-- the same of an adjacency by its name
+pub named-accepted :
+    (b : Adjacency) (w h : ℕ) (xs : List ℕ) → sides_fault w h (length xs) ≡ 0 → all_bytes xs ≡ true →
+    is_picture (picture_of (adjacency_number b) w h xs) ≡ true
+named-accepted b w h xs e f =
+    accepted (picture_of (adjacency_number b) w h xs) (fault-sides (adjacency_number b) w h (length xs) (adjacency-named b _ refl) ∙ e) f

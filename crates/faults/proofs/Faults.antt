@@ -14,7 +14,13 @@ use Rattle.picture.proofs.Sides.{sides-area}
 use Rattle.faults.proofs.Accepted.{no-fault, accepted}
 use Rattle.topology.proofs.Accepted.{at_byte}
 use Rattle.faults.specs.Faults.{work_fault, work_fault_of, output_fault, place_fault, touch_fault, size_unfit, size_fault}
-use Rattle.faults.specs.Steps.{Faultless, Admitted}
+use Rattle.faults.specs.Steps.{Faultless, Admitted, Admits}
+use Rattle.refusals.specs.declared.Refusal.{Refusal}
+use Rattle.refusals.specs.Refusals.{number_of}
+use Rattle.refusals.proofs.Numbers.{number-some}
+use Rattle.geometry.specs.declared.raster.Raster.{Raster}
+use Rattle.geometry.specs.Rasters.{picture}
+use Rattle.std.proofs.Common.{Ok, Err}
 
 -- the first of two numbers
 pub first_some : (f g r : ℕ) → r ≡ f → r ≢ 0 → r ≡ first_of f g
@@ -68,6 +74,22 @@ module _ (f n : ℕ) (t : Bool) (g : ℕ) (is : first_of f (when t (suc n)) ≡ 
 
   pub then-none : g ≡ 0 → (f ≡ 0) × (t ≡ false)
   then-none e = let z = first-zero f (when t (suc n)) (is ∙ e) in (z.0, when-zero n t z.1)
+
+-- a refusal with the number of the fault
+pub refused : (p : Picture) (f : ℕ) (e : Refusal) → number_of e ≡ f → Admits p f (Err e)
+refused p f e n = record { fault = n; raster = tt }
+
+-- the first of two faults has been refused
+pub refused_first : (p : Picture) (f g h : ℕ) (e : Refusal) → first_of f g ≡ h → number_of e ≡ f → Admits p h (Err e)
+refused_first p f g h e is n = let some = number-some e in refused p h e (first_some f g _ n (omega arith) ∙ is)
+
+-- the second has
+pub refused_then : (p : Picture) (f g h : ℕ) (e : Refusal) → first_of f g ≡ h → 0 ≡ f → number_of e ≡ g → Admits p h (Err e)
+refused_then p f g h e is z n = refused p h e (n ∙ (sym (first-none f g (sym z)) ∙ is))
+
+-- neither has
+pub admitted_both : (p : Picture) (f g h : ℕ) (x : Raster) → first_of f g ≡ h → 0 ≡ f → 0 ≡ g → picture x ≡ p → Admits p h (Ok x)
+admitted_both p f g h x is z y e = record { fault = y ∙ (sym (first-none f g (sym z)) ∙ is); raster = e }
 
 -- no fault of a picture's arguments: n is the number of pixels, at most 1,600
 module _ (a w h l : ℕ) where

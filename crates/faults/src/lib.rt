@@ -1,118 +1,128 @@
-// The fault of a call's arguments, from numbers and lengths alone; 0 for none.
+// What a call refuses, decided from numbers and lengths alone: the first cause in the scope document's order. Where none applies, the call's picture as
+// a raster.
 #![tactic(auto)]
 
-use crate::picture_fault::picture_fault;
-pub use crate::picture_fault::sides_fault;
-use ranges::{either, lesser};
+pub use crate::picture_fault::{raster, sides};
+use geometry::raster::Raster;
+use refusals::Refusal;
 
 mod picture_fault;
 
-ghost use Rattle.std.specs.Prelude.{◌≡◌, ◌||◌, min, ltb, leb};
-ghost use Rattle.faults.specs.PictureFault.{first_of, when};
-ghost use Rattle.faults.specs.Faults.{work_fault, output_fault, place_fault, touch_fault, size_unfit, size_fault};
+ghost use Rattle.std.specs.Prelude.{◌≡◌, ◌||◌, min, length, ltb, leb};
+ghost use Rattle.picture.specs.Pictures.{picture_of};
+ghost use Rattle.refusals.specs.Refusals.{fault_of};
+ghost use Rattle.faults.specs.PictureFault.{when};
+ghost use Rattle.faults.specs.Faults.{work_fault, output_fault, place_fault, size_unfit, size_fault};
+ghost use Rattle.faults.specs.Steps.{Admits};
 
-// A fault, then 9 for lent memory with fewer entries than needed.
-pub fn short_after(fault: u8, length: usize, needed: usize) -> u8
-    ensures { result ≡ first_of fault (when (ltb length needed) 9) }
+// Lent memory has the entries that are needed, else 9.
+pub fn room(length: usize, needed: usize) -> Result<(), Refusal>
+    ensures { fault_of result ≡ when (ltb length needed) 9 }
 {
-    if fault != 0 {
-        return fault;
-    }
     if length < needed {
-        return 9;
+        Err(Refusal::MemoryShort)
+    } else {
+        Ok(())
     }
-    0
 }
 
-// A picture's arguments and the length of work.
-pub fn work_fault(a: u32, w: u32, h: u32, length: usize, work: usize) -> u8
-    ensures { result ≡ work_fault a w h length work }
+// A place is below n, else 10.
+pub fn place_inside(n: usize, place: u32) -> Result<(), Refusal>
+    ensures { fault_of result ≡ when (leb n place) 10 }
 {
-    let fault = picture_fault(a, w, h, length);
-    if fault != 0 {
-        return fault;
-    }
-    short_after(0, work, 5 * length)
-}
-
-// A picture's arguments, the length of work, and the least length of the lent outputs or lists.
-pub fn output_fault(a: u32, w: u32, h: u32, length: usize, out: usize, work: usize) -> u8
-    ensures { result ≡ output_fault a w h length out work }
-{
-    short_after(work_fault(a, w, h, length, work), out, length)
-}
-
-// A fault, then 10 for a place that is n or more.
-pub fn place_after(fault: u8, n: usize, place: u32) -> u8
-    ensures { result ≡ first_of fault (when (leb n place) 10) }
-{
-    if fault != 0 {
-        return fault;
-    }
     if n <= place as usize {
-        return 10;
+        Err(Refusal::PlaceOutside)
+    } else {
+        Ok(())
     }
-    0
 }
 
-// A picture's arguments, the length of work, and a place.
-pub fn place_fault(a: u32, w: u32, h: u32, length: usize, work: usize, place: u32) -> u8
-    ensures { result ≡ place_fault a w h length work place }
+// Two places are below n, else 10.
+pub fn places_inside(n: usize, x: u32, y: u32) -> Result<(), Refusal>
+    ensures { fault_of result ≡ when (leb n x || leb n y) 10 }
 {
-    place_after(work_fault(a, w, h, length, work), length, place)
+    place_inside(n, x)?;
+    place_inside(n, y)
 }
 
-// A handbook, then a picture's arguments, the length of work, and a place.
-pub fn touch_fault(
-    handbook: u32,
-    a: u32,
-    w: u32,
-    h: u32,
-    length: usize,
+// A least size is 1 to n, else 13.
+pub fn size_inside(n: usize, s: u32) -> Result<(), Refusal>
+    ensures { fault_of result ≡ when (size_unfit n s) 13 }
+{
+    if s == 0 || n < s as usize {
+        Err(Refusal::SizeOutside)
+    } else {
+        Ok(())
+    }
+}
+
+// A call that lends work of some length.
+pub fn with_work<'a>(
+    adjacency: u32,
+    width: u32,
+    height: u32,
+    pixels: &'a [u8],
+    work: usize,
+) -> Result<Raster<'a>, Refusal>
+    ensures { Admits (picture_of adjacency width height pixels.now) (work_fault adjacency width height (length pixels.now) work) result }
+{
+    let raster = raster(adjacency, width, height, pixels)?;
+    room(work, 5 * pixels.len())?;
+    Ok(raster)
+}
+
+// A call that lends work, and output or lists of a least length.
+pub fn with_output<'a>(
+    adjacency: u32,
+    width: u32,
+    height: u32,
+    pixels: &'a [u8],
+    out: usize,
+    work: usize,
+) -> Result<Raster<'a>, Refusal>
+    ensures { Admits (picture_of adjacency width height pixels.now) (output_fault adjacency width height (length pixels.now) out work) result }
+{
+    let raster = with_work(adjacency, width, height, pixels, work)?;
+    room(out, pixels.len())?;
+    Ok(raster)
+}
+
+// A call that lends work and names a place.
+pub fn with_place<'a>(
+    adjacency: u32,
+    width: u32,
+    height: u32,
+    pixels: &'a [u8],
     work: usize,
     place: u32,
-) -> u8
-    ensures { result ≡ touch_fault handbook a w h length work place }
+) -> Result<Raster<'a>, Refusal>
+    ensures { Admits (picture_of adjacency width height pixels.now) (place_fault adjacency width height (length pixels.now) work place) result }
 {
-    if !either(handbook, 4, 5) {
-        return 14;
-    }
-    place_fault(a, w, h, length, work, place)
+    let raster = with_work(adjacency, width, height, pixels, work)?;
+    place_inside(pixels.len(), place)?;
+    Ok(raster)
 }
 
-// A fault, then 10 for two places of which one is n or more.
-pub fn places_fault(fault: u8, n: usize, x: u32, y: u32) -> u8
-    ensures { result ≡ first_of fault (when (leb n x || leb n y) 10) }
+// A call that lends work and output and names a least size of parts.
+pub fn with_size<'a>(
+    adjacency: u32,
+    width: u32,
+    height: u32,
+    pixels: &'a [u8],
+    out: usize,
+    work: usize,
+    s: u32,
+) -> Result<Raster<'a>, Refusal>
+    ensures { Admits (picture_of adjacency width height pixels.now) (size_fault adjacency width height (length pixels.now) out work s) result }
 {
-    place_after(place_after(fault, n, y), n, x)
-}
-
-// A fault, then 13 for a least size that is 0 or above n.
-pub fn size_after(fault: u8, n: usize, s: u32) -> u8
-    ensures { result ≡ first_of fault (when (size_unfit n s) 13) }
-{
-    if fault != 0 {
-        return fault;
-    }
-    if s == 0 {
-        return 13;
-    }
-    if n < s as usize {
-        return 13;
-    }
-    0
-}
-
-// A picture's arguments, the lengths of work and output, and a least size of parts.
-pub fn size_fault(a: u32, w: u32, h: u32, length: usize, out: usize, work: usize, s: u32) -> u8
-    ensures { result ≡ size_fault a w h length out work s }
-{
-    size_after(output_fault(a, w, h, length, out, work), length, s)
+    let raster = with_output(adjacency, width, height, pixels, out, work)?;
+    size_inside(pixels.len(), s)?;
+    Ok(raster)
 }
 
 // The least of four lengths.
 pub fn least(a: usize, b: usize, c: usize, d: usize) -> usize
     ensures { result ≡ min (min a b) (min c d) }
 {
-    lesser(lesser(a, b), lesser(c, d))
+    a.min(b).min(c.min(d))
 }

@@ -1,5 +1,5 @@
 -- The number and the place of each refusal.
-use Rattle.std.specs.Prelude.{◌≡◌, ℕ, Result, Ok, Err}
+use Rattle.std.specs.Prelude.{ℕ, Result, Ok, Err}
 use Rattle.refusals.specs.declared.Refusal.{Refusal}
 use Rattle.refusals.specs.declared.Refusal.TheVariants.{NotP5, Malformed, SideOutside, LargestOutside, CountDiffers, PixelAbove, AdjacencyUnknown, LengthDiffers, MemoryShort, PlaceOutside, NotTheTree, InputTooLong, SizeOutside, HandbookUnknown}
 
