@@ -5,28 +5,23 @@ use Prim.Native.Nat.{ℕ, ◌+◌, ◌≤◌, ◌<◌}
 use native.Mathlib.Omega.{arith}
 use lib.ListN.{length, get_or, take, drop, length-drop, get_or-append}
 use lib.Seq.{drop-append-le, take-append-le}
-use Rattle.p5.specs.declared.field.Field.{Field}
-use Rattle.p5.specs.declared.field.Field.TheVariants.{Number, Unfit}
-use Rattle.p5.specs.declared.header.Walk.TheVariants.{Stopped}
-use Rattle.p5.specs.Headers.{is_white, is_digit, leading, decimal_value, gap_end, digits_at, number_at, walk}
+use Rattle.std.specs.Prelude.{Result, Err}
+use Rattle.p5.specs.declared.field.Number.{Number}
+use Rattle.p5.specs.Steps.{end_of}
+use Rattle.p5.specs.Headers.{number, is_white, is_digit, leading, decimal_value, gap_end, digits_at, number_at, walk}
 use Rattle.p5.proofs.Leading.{leading-cut, leading-many}
 use Rattle.p5.proofs.Gap.{gap_from, gap-cut, number-none, number-some}
 use Rattle.p5.proofs.Digits.{digits-none, digits-few, digits-many}
 use Rattle.p5.proofs.Fields.{Reads, reads, no_gap, no_digit, digits, sixth}
 use Rattle.p5.proofs.Walking.{Walking, first, second, third, fourth, walk_first, walk-second, walk-third, walk_end, end-stop}
 
--- the place where the answer of a number is found
-abbrev place_of : Field → ℕ
-place_of (Number v q) = q
-place_of (Unfit q) = q
-
-from : (f : List ℕ) (p : ℕ) (o : Field) → Reads f p o → p ≤ place_of o
+from : (f : List ℕ) (p : ℕ) (o : Result Number ℕ) → Reads f p o → p ≤ end_of o
 from f p o (no_gap e) = omega arith
 from f p o (no_digit e z) = gap_from f p
 from f p o (digits e some most) = omega (arith, gap_from f p)
 from f p o (sixth e k) = omega (arith, gap_from f p)
 
-pub number-from : (f : List ℕ) (p : ℕ) {o : Field} → number_at f p ≡ o → p ≤ place_of o
+pub number-from : (f : List ℕ) (p : ℕ) {o : Result Number ℕ} → number_at f p ≡ o → p ≤ end_of o
 number-from f p {o} e = from f p o (subst (Reads f p) e (reads f p))
 
 module _ (x y u : List ℕ) (p : ℕ) where
@@ -36,7 +31,7 @@ module _ (x y u : List ℕ) (p : ℕ) where
       let same = gap-cut x y u p h in
       sym (number-some (x ++ u) p (λ z. e (sym same ∙ z))) ∙ ap (digits_at (x ++ u)) same
 
-  cut : (o : Field) → Reads (x ++ y) p o → place_of o < length x → number_at (x ++ u) p ≡ o
+  cut : (o : Result Number ℕ) → Reads (x ++ y) p o → end_of o < length x → number_at (x ++ u) p ≡ o
   cut o (no_gap e) h = sym (number-none (x ++ u) p (gap-cut x y u p (omega arith) ∙ e))
   cut o (no_digit e z) h =
       some-digits h e ∙ digits-none (x ++ u) _ (leading-cut is_digit x y u (gap_end (x ++ y) p) (omega arith) ∙ z)
@@ -51,15 +46,15 @@ module _ (x y u : List ℕ) (p : ℕ) where
       let taken : take n (drop q (x ++ u)) ≡ take n (drop q (x ++ y)) = front u ∙ sym (front y) in
       some-digits (omega arith) e
       ∙ digits-few (x ++ u) q (omega arith) (omega arith)
-      ∙ ap₂ Number (ap decimal_value (ap (λ (k : ℕ). take k (drop q (x ++ u))) same ∙ taken)) (ap (λ (k : ℕ). q + k) same)
+      ∙ ap₂ number (ap decimal_value (ap (λ (k : ℕ). take k (drop q (x ++ u))) same ∙ taken)) (ap (λ (k : ℕ). q + k) same)
   cut o (sixth e k) h =
       some-digits (omega arith) e ∙ digits-many (x ++ u) _ (leading-many is_digit x y u (gap_end (x ++ y) p) 6 (omega arith) k)
 
-  pub number_cut : {o : Field} → number_at (x ++ y) p ≡ o → place_of o < length x → number_at (x ++ u) p ≡ o
+  pub number_cut : {o : Result Number ℕ} → number_at (x ++ y) p ≡ o → end_of o < length x → number_at (x ++ u) p ≡ o
   number_cut {o} e h = cut o (subst (Reads (x ++ y) p) e (reads (x ++ y) p)) h
 
 -- a walk that stops within x stops there whatever follows x
-pub walk-cut : (x y u : List ℕ) (p : ℕ) → Walking (x ++ y) (Stopped p) → p < length x → Stopped p ≡ walk (x ++ u)
+pub walk-cut : (x y u : List ℕ) (p : ℕ) → Walking (x ++ y) (Err p) → p < length x → Err p ≡ walk (x ++ u)
 walk-cut x y u p (first e) h = walk_first (x ++ u) (number_cut x y u 2 e h)
 walk-cut x y u p (second {a = a} e g) h =
     let l = number-from (x ++ y) a g in

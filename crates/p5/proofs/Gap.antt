@@ -8,7 +8,7 @@ use native.Mathlib.Omega.{arith}
 use borrow.Author.Tests.{eq-eqb, ne_eqb}
 use lib.ListN.{length, get_or, take, drop, take-append-drop, length-drop, get_or-append}
 use lib.Seq.{drop-drop, get_or-drop, get_or-take, length-take-le}
-use Rattle.p5.specs.declared.field.Field.TheVariants.{Unfit}
+use Rattle.std.specs.Prelude.{Err}
 use Rattle.p5.specs.Headers.{is_white, blank_length, is_digit, gap_end, digits_at, number_at}
 use Rattle.p5.specs.Shapes.{none, white, Gap}
 use Rattle.lists.proofs.Tests.{on_test}
@@ -120,7 +120,7 @@ gap-cut x y u p h =
 
 -- the two ways of a header number
 module _ (f : List ℕ) (p : ℕ) where
-  pub number-none : gap_end f p ≡ p → Unfit p ≡ number_at f p
+  pub number-none : gap_end f p ≡ p → Err p ≡ number_at f p
   unfolding number_at
   number-none e = rw (eq-eqb _ _ e)
 

@@ -9,9 +9,10 @@ use native.Mathlib.Numerals.{add-one}
 use native.Mathlib.Omega.{arith}
 use lib.ListN.{length, get_or, take, drop, length-drop, drop_of_length-le}
 use lib.Seq.{drop-cons, drop-append-le}
+use Rattle.std.specs.List.{prefix_len}
 use Rattle.lists.specs.Lists.{all}
 use Rattle.p5.specs.Headers.{leading}
-use Rattle.lists.proofs.Tests.{on-pick, and_both, and_left, and_right}
+use Rattle.lists.proofs.Tests.{on-pick, on_test, and_both, and_left, and_right}
 
 module _ (t : ℕ → Bool) where
   pub leading_le : (s : List ℕ) → leading t s ≤ length s
@@ -104,3 +105,8 @@ module _ (t : ℕ → Bool) where
 
     pub reach-past : length f ≤ i → i ≡ i + leading t (drop i f)
     reach-past h = omega (arith, leading-past h)
+
+  -- the library's count
+  pub leading-prefix : (s : List ℕ) → leading t s ≡ prefix_len t s
+  leading-prefix [] = refl
+  leading-prefix (b ∷ s) = on_test (t b) (λ e. rw e (omega (arith, leading-prefix s))) (λ e. rw e)

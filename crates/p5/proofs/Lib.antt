@@ -6,7 +6,6 @@ pub mod Digits
 pub mod Walking
 pub mod Answers
 pub mod Fields
-pub mod FieldValues
 pub mod Shape
 pub mod Verdicts
 pub mod Accepted

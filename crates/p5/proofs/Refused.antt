@@ -9,9 +9,10 @@ use borrow.Author.Tests.{leb-true, leb-false}
 use borrow.Author.Count.{below_more}
 use lib.Dec.{leb}
 use lib.ListN.{length, get_or, drop}
+use Rattle.std.specs.Prelude.{Result}
 use Rattle.picture.specs.Pictures.{side_fits}
 use Rattle.p5.specs.declared.header.Header.{Header}
-use Rattle.p5.specs.declared.file.Outcome.{Outcome}
+use Rattle.refusals.specs.declared.Refusal.{Refusal}
 use Rattle.p5.specs.Headers.{begins_p5}
 use Rattle.p5.specs.Files.{largest_fits, at_most, read_file, outcome_number}
 use Rattle.p5.specs.Shapes.{Headed, Inside, Outside, Above, Cause, other, unheaded, side, largest, count, above}
@@ -109,7 +110,7 @@ record Summary (f : List ℕ) (n : ℕ) : Type 0 where
 refusal : (f : List ℕ) (n : ℕ) → 1 ≤ n → Cause f n → NoneBelow f n → Summary f n
 refusal f n some c b = record { cause = λ _. c; first = b; clean = λ e. absurd (omega arith) }
 
-summary : (f : List ℕ) (o : Outcome) → Verdict f o → Summary f (outcome_number o)
+summary : (f : List ℕ) (o : Result Header Refusal) → Verdict f o → Summary f (outcome_number o)
 summary f o (not-p5 e) = refusal f 1 (omega arith) (other (λ t b. false≢true (sym e ∙ ap begins_p5 b))) (below₁ f)
 summary f o (stopped e g) =
     refusal f 2 (omega arith)

@@ -9,8 +9,8 @@ use borrow.Author.Tests.{eqb-true}
 use lib.Dec.{eqb}
 use lib.ListN.{length, get_or, drop, length-drop}
 use lib.Seq.{drop-cons, drop-drop}
+use Rattle.std.specs.Prelude.{Ok}
 use Rattle.p5.specs.declared.header.Header.{Header}
-use Rattle.p5.specs.declared.header.Walk.TheVariants.{Walked}
 use Rattle.p5.specs.Headers.{begins_p5, is_white, is_digit, leading, walk}
 use Rattle.p5.specs.Shapes.{Gap, Headed}
 use Rattle.lists.proofs.Tests.{and_left, and_right}
@@ -25,7 +25,7 @@ p5-bytes (a ∷ []) e = absurd (false≢true (and_right (eqb a 80) false e))
 p5-bytes (a ∷ b ∷ s) e = ap₂ (λ (x y : ℕ). x ∷ y ∷ s) (eqb-true a 80 (and_left (eqb a 80) _ e)) (eqb-true b 53 (and_right (eqb a 80) _ e))
 
 -- a walked header has the shape
-headed-of : (f : List ℕ) (h : Header) → begins_p5 f ≡ true → Walking f (Walked h) → Headed f h (drop h.offset f)
+headed-of : (f : List ℕ) (h : Header) → begins_p5 f ≡ true → Walking f (Ok h) → Headed f h (drop h.offset f)
 headed-of f h begins (whole {a = a} {b = b} {c = c} e g k i) =
     let x = number-stands f 2 e in
     let y = number-stands f a g in
@@ -50,7 +50,7 @@ headed-of f h begins (whole {a = a} {b = b} {c = c} e g k i) =
       offset = omega (arith, length-drop (c + 1) f);
     }
 
-pub walk-headed : (f : List ℕ) {h : Header} → begins_p5 f ≡ true → walk f ≡ Walked h → Headed f h (drop h.offset f)
+pub walk-headed : (f : List ℕ) {h : Header} → begins_p5 f ≡ true → walk f ≡ Ok h → Headed f h (drop h.offset f)
 walk-headed f {h} begins e = headed-of f h begins (subst (Walking f) e (walking f))
 
 -- after a number a gap begins, so no digit follows
@@ -100,7 +100,7 @@ module _ (f : List ℕ) (h : Header) (s : List ℕ) (k : Headed f h s) where
   pub headed-begins : begins_p5 f ≡ true
   headed-begins = ap begins_p5 k.bytes
 
-  pub headed-walk : walk f ≡ Walked h
+  pub headed-walk : walk f ≡ Ok h
   headed-walk =
       let one = stands-number f 2 k.gap₁ rest₁ k.width k.is-gap₁ k.is-width from₀ (gap-digit k.gap₂ _ k.is-gap₂) in
       let two = stands-number f after₁ k.gap₂ rest₂ k.height k.is-gap₂ k.is-height from₁ (gap-digit k.gap₃ _ k.is-gap₃) in
@@ -108,7 +108,7 @@ module _ (f : List ℕ) (h : Header) (s : List ℕ) (k : Headed f h s) where
       let last : get_or f after₃ 0 ≡ k.last = sym (first_byte f after₃) ∙ ap (λ (l : List ℕ). get_or l 0 0) from₃ in
       sym (walk_end f one two three)
       ∙ sym (end-white f h.width h.height h.largest after₃ (ap is_white last ∙ k.is_last))
-      ∙ ap (λ (o : ℕ). Walked (record { width = h.width; height = h.height; largest = h.largest; offset = o })) ends
+      ∙ ap (λ (o : ℕ). Ok (record { width = h.width; height = h.height; largest = h.largest; offset = o })) ends
 
   pub headed-rest : drop h.offset f ≡ s
   headed-rest = ap (λ (o : ℕ). drop o f) (sym ends) ∙ sym (drop-drop 1 after₃ f) ∙ ap (drop 1) from₃

@@ -9,12 +9,11 @@ use native.Mathlib.Omega.{arith}
 use borrow.Author.Tests.{eqb-true, eqb-false, leb-false, not-true, not-false}
 use lib.Dec.{eqb}
 use lib.ListN.{length, get_or}
+use Rattle.std.specs.Prelude.{Result, Ok, Err}
 use Rattle.picture.specs.Pictures.{side_fits}
 use Rattle.p5.specs.declared.header.Header.{Header}
-use Rattle.p5.specs.declared.header.Walk.{Walk}
-use Rattle.p5.specs.declared.header.Walk.TheVariants.{Walked, Stopped}
-use Rattle.p5.specs.declared.file.Outcome.{Outcome}
-use Rattle.p5.specs.declared.file.Outcome.TheVariants.{Accepted, NotP5, Malformed, SideOutside, LargestOutside, CountDiffers, PixelAbove}
+use Rattle.refusals.specs.declared.Refusal.{Refusal}
+use Rattle.refusals.specs.declared.Refusal.TheVariants.{NotP5, Malformed, SideOutside, LargestOutside, CountDiffers, PixelAbove}
 use Rattle.p5.specs.Headers.{begins_p5, leading, walk}
 use Rattle.p5.specs.Files.{largest_fits, at_most, on_pixels, on_header, on_walk, read_file, header_of}
 use Rattle.p5.specs.Shapes.{Headed, Above}
@@ -31,17 +30,17 @@ abbrev pub pixels_fit : Header → List ℕ → Type 0
 pixels_fit h s = leading (at_most h.largest) s ≡ length s
 
 -- the tests that lead to each answer
-pub data Verdict (f : List ℕ) : Outcome → Type 0 where
-  not-p5 : begins_p5 f ≡ false → Verdict f NotP5
-  stopped : {p : ℕ} → begins_p5 f ≡ true → walk f ≡ Stopped p → Verdict f (Malformed p)
-  sides : {h : Header} {s : List ℕ} → Headed f h s → side_fits h.width && side_fits h.height ≡ false → Verdict f SideOutside
-  largest : {h : Header} {s : List ℕ} → Headed f h s → sides_fit h → largest_fits h.largest ≡ false → Verdict f LargestOutside
+pub data Verdict (f : List ℕ) : Result Header Refusal → Type 0 where
+  not-p5 : begins_p5 f ≡ false → Verdict f (Err NotP5)
+  stopped : {p : ℕ} → begins_p5 f ≡ true → walk f ≡ Err p → Verdict f (Err (Malformed p))
+  sides : {h : Header} {s : List ℕ} → Headed f h s → side_fits h.width && side_fits h.height ≡ false → Verdict f (Err SideOutside)
+  largest : {h : Header} {s : List ℕ} → Headed f h s → sides_fit h → largest_fits h.largest ≡ false → Verdict f (Err LargestOutside)
   count : {h : Header} {s : List ℕ} → Headed f h s → sides_fit h → largest_fits h.largest ≡ true
-      → (length s ≡ h.width * h.height → ⊥) → Verdict f CountDiffers
+      → (length s ≡ h.width * h.height → ⊥) → Verdict f (Err CountDiffers)
   above : {h : Header} {s : List ℕ} → Headed f h s → sides_fit h → largest_fits h.largest ≡ true
-      → length s ≡ h.width * h.height → (pixels_fit h s → ⊥) → Verdict f (PixelAbove (leading (at_most h.largest) s))
+      → length s ≡ h.width * h.height → (pixels_fit h s → ⊥) → Verdict f (Err (PixelAbove (leading (at_most h.largest) s)))
   fits : {h : Header} {s : List ℕ} → Headed f h s → sides_fit h → largest_fits h.largest ≡ true
-      → length s ≡ h.width * h.height → pixels_fit h s → Verdict f (Accepted h)
+      → length s ≡ h.width * h.height → pixels_fit h s → Verdict f (Ok h)
 
 pub verdict : (f : List ℕ) → Verdict f (read_file f)
 unfolding read_file on_header on_pixels
@@ -59,15 +58,15 @@ verdict f = on-pick (Verdict f) (not (begins_p5 f)) (λ e. not-p5 (not-true _ e)
         (λ d. fits k (not-false _ a) (not-false _ b) (eqb-true _ _ (not-false _ c)) (eqb-true _ _ d))
         (λ d. above k (not-false _ a) (not-false _ b) (eqb-true _ _ (not-false _ c)) (eqb-false _ _ d)))))
 
-    walked : begins_p5 f ≡ true → (w : Walk) → walk f ≡ w → Verdict f (on_walk f w)
-    walked e (Walked h) g = judged h _ (walk-headed f e g)
-    walked e (Stopped p) g = stopped e g
+    walked : begins_p5 f ≡ true → (w : Result Header ℕ) → walk f ≡ w → Verdict f (on_walk f w)
+    walked e (Ok h) g = judged h _ (walk-headed f e g)
+    walked e (Err p) g = stopped e g
 
 -- the offset of an answer lies within the file, 0 on a refusal
 pub answer-within : (f : List ℕ) → (header_of (read_file f)).offset ≤ length f
 answer-within f = within (verdict f)
   where
-    within : {o : Outcome} → Verdict f o → (header_of o).offset ≤ length f
+    within : {o : Result Header Refusal} → Verdict f o → (header_of o).offset ≤ length f
     within (not-p5 _) = zero-le
     within (stopped _ _) = zero-le
     within (sides _ _) = zero-le

@@ -7,20 +7,18 @@ use native.Mathlib.Omega.{arith}
 use borrow.Author.Tests.{ltb-true, ltb-false}
 use lib.Dec.{ltb}
 use lib.ListN.{length, get_or, get_or-eq_default}
-use Rattle.p5.specs.declared.field.Field.{Field}
-use Rattle.p5.specs.declared.field.Field.TheVariants.{Number, Unfit}
+use Rattle.std.specs.Prelude.{Result, Ok, Err}
+use Rattle.p5.specs.declared.field.Number.{Number}
 use Rattle.p5.specs.declared.header.Header.{Header}
-use Rattle.p5.specs.declared.header.Walk.{Walk}
-use Rattle.p5.specs.declared.header.Walk.TheVariants.{Walked, Stopped}
-use Rattle.p5.specs.Headers.{is_white, end_at, number_at, from_width, from_height, from_largest, walk}
+use Rattle.p5.specs.Headers.{number, is_white, end_at, number_at, from_width, from_height, from_largest, walk}
 use Rattle.lists.proofs.Tests.{on-pick}
 
 module _ (f : List ℕ) (w h m p : ℕ) where
-  pub end-white : is_white (get_or f p 0) ≡ true → Walked (record { width = w; height = h; largest = m; offset = p + 1 }) ≡ end_at f w h m p
+  pub end-white : is_white (get_or f p 0) ≡ true → Ok (record { width = w; height = h; largest = m; offset = p + 1 }) ≡ end_at f w h m p
   unfolding end_at
   end-white e = rw e
 
-  pub end-stop : is_white (get_or f p 0) ≡ false → Stopped p ≡ end_at f w h m p
+  pub end-stop : is_white (get_or f p 0) ≡ false → Err p ≡ end_at f w h m p
   unfolding end_at
   end-stop e = rw e
 
@@ -38,54 +36,54 @@ white-within f p e = within (ltb p (length f)) refl
 
 -- the walk by the answers of the three numbers
 module _ (f : List ℕ) where
-  pub walk_first : {p : ℕ} → number_at f 2 ≡ Unfit p → Stopped p ≡ walk f
+  pub walk_first : {p : ℕ} → number_at f 2 ≡ Err p → Err p ≡ walk f
   unfolding walk
   walk_first e = sym (ap (from_width f) e)
 
-  module _ {w a : ℕ} (first : number_at f 2 ≡ Number w a) where
-    pub walk-second : {p : ℕ} → number_at f a ≡ Unfit p → Stopped p ≡ walk f
+  module _ {w a : ℕ} (first : number_at f 2 ≡ number w a) where
+    pub walk-second : {p : ℕ} → number_at f a ≡ Err p → Err p ≡ walk f
     unfolding walk
     walk-second e = sym (ap (from_width f) first ∙ ap (from_height f w) e)
 
-    module _ {h b : ℕ} (second : number_at f a ≡ Number h b) where
-      pub walk-third : {p : ℕ} → number_at f b ≡ Unfit p → Stopped p ≡ walk f
+    module _ {h b : ℕ} (second : number_at f a ≡ number h b) where
+      pub walk-third : {p : ℕ} → number_at f b ≡ Err p → Err p ≡ walk f
       unfolding walk
       walk-third e = sym (ap (from_width f) first ∙ ap (from_height f w) second ∙ ap (from_largest f w h) e)
 
-      pub walk_end : {m c : ℕ} → number_at f b ≡ Number m c → end_at f w h m c ≡ walk f
+      pub walk_end : {m c : ℕ} → number_at f b ≡ number m c → end_at f w h m c ≡ walk f
       unfolding walk
       walk_end e = sym (ap (from_width f) first ∙ ap (from_height f w) second ∙ ap (from_largest f w h) e)
 
 -- how a walk ends: with a whole header, or at one of the three numbers or at the last byte
-pub data Walking (f : List ℕ) : Walk → Type 0 where
-  whole : {w a h b m c : ℕ} → number_at f 2 ≡ Number w a → number_at f a ≡ Number h b → number_at f b ≡ Number m c
-      → is_white (get_or f c 0) ≡ true → Walking f (Walked (record { width = w; height = h; largest = m; offset = c + 1 }))
-  first : {p : ℕ} → number_at f 2 ≡ Unfit p → Walking f (Stopped p)
-  second : {w a p : ℕ} → number_at f 2 ≡ Number w a → number_at f a ≡ Unfit p → Walking f (Stopped p)
-  third : {w a h b p : ℕ} → number_at f 2 ≡ Number w a → number_at f a ≡ Number h b → number_at f b ≡ Unfit p → Walking f (Stopped p)
-  fourth : {w a h b m c : ℕ} → number_at f 2 ≡ Number w a → number_at f a ≡ Number h b → number_at f b ≡ Number m c
-      → is_white (get_or f c 0) ≡ false → Walking f (Stopped c)
+pub data Walking (f : List ℕ) : Result Header ℕ → Type 0 where
+  whole : {w a h b m c : ℕ} → number_at f 2 ≡ number w a → number_at f a ≡ number h b → number_at f b ≡ number m c
+      → is_white (get_or f c 0) ≡ true → Walking f (Ok (record { width = w; height = h; largest = m; offset = c + 1 }))
+  first : {p : ℕ} → number_at f 2 ≡ Err p → Walking f (Err p)
+  second : {w a p : ℕ} → number_at f 2 ≡ number w a → number_at f a ≡ Err p → Walking f (Err p)
+  third : {w a h b p : ℕ} → number_at f 2 ≡ number w a → number_at f a ≡ number h b → number_at f b ≡ Err p → Walking f (Err p)
+  fourth : {w a h b m c : ℕ} → number_at f 2 ≡ number w a → number_at f a ≡ number h b → number_at f b ≡ number m c
+      → is_white (get_or f c 0) ≡ false → Walking f (Err c)
 
 pub walking : (f : List ℕ) → Walking f (walk f)
 unfolding walk end_at
 walking f = from-width (number_at f 2) refl
   where
-    from-largest : {w a h b : ℕ} → number_at f 2 ≡ Number w a → number_at f a ≡ Number h b → (x : Field) → number_at f b ≡ x
+    from-largest : {w a h b : ℕ} → number_at f 2 ≡ number w a → number_at f a ≡ number h b → (x : Result Number ℕ) → number_at f b ≡ x
         → Walking f (from_largest f w h x)
-    from-largest e g (Number m p) k = on-pick (Walking f) (is_white (get_or f p 0)) (whole e g k) (fourth e g k)
-    from-largest e g (Unfit p) k = third e g k
+    from-largest e g (Ok n) k = on-pick (Walking f) (is_white (get_or f n.end 0)) (whole e g k) (fourth e g k)
+    from-largest e g (Err p) k = third e g k
 
-    from-height : {w a : ℕ} → number_at f 2 ≡ Number w a → (x : Field) → number_at f a ≡ x → Walking f (from_height f w x)
-    from-height e (Number h p) g = from-largest e g (number_at f p) refl
-    from-height e (Unfit p) g = second e g
+    from-height : {w a : ℕ} → number_at f 2 ≡ number w a → (x : Result Number ℕ) → number_at f a ≡ x → Walking f (from_height f w x)
+    from-height e (Ok n) g = from-largest e g (number_at f n.end) refl
+    from-height e (Err p) g = second e g
 
-    from-width : (x : Field) → number_at f 2 ≡ x → Walking f (from_width f x)
-    from-width (Number w p) e = from-height e (number_at f p) refl
-    from-width (Unfit p) e = first e
+    from-width : (x : Result Number ℕ) → number_at f 2 ≡ x → Walking f (from_width f x)
+    from-width (Ok n) e = from-height e (number_at f n.end) refl
+    from-width (Err p) e = first e
 
 -- the pixels begin within the file
-pub offset-within : (f : List ℕ) {h : Header} → walk f ≡ Walked h → h.offset ≤ length f
+pub offset-within : (f : List ℕ) {h : Header} → walk f ≡ Ok h → h.offset ≤ length f
 offset-within f e = ends (subst (Walking f) e (walking f))
   where
-    ends : {h : Header} → Walking f (Walked h) → h.offset ≤ length f
+    ends : {h : Header} → Walking f (Ok h) → h.offset ≤ length f
     ends (whole {c = c} e g k i) = omega (arith, white-within f c i)

@@ -1,10 +1,8 @@
 -- The grammar of a P5 header, in the order of the scope document, with comments. A position counts bytes from the start of the file.
-use Rattle.std.specs.Prelude.{Bool, false, ◌&&◌, ◌||◌, not, List, [], ◌∷◌, ℕ, suc, ◌+◌, ◌-◌, ◌*◌, eqb, leb, get_or, take, drop}
+use Rattle.std.specs.Prelude.{Bool, false, ◌&&◌, ◌||◌, not, List, [], ◌∷◌, ℕ, suc, ◌+◌, ◌-◌, ◌*◌, eqb, leb, get_or, take, drop, Result, Ok, Err}
 use Rattle.lists.specs.Lists.{pick}
-use Rattle.p5.specs.declared.field.Field.{Field}
-use Rattle.p5.specs.declared.field.Field.TheVariants.{Number, Unfit}
-use Rattle.p5.specs.declared.header.Walk.{Walk}
-use Rattle.p5.specs.declared.header.Walk.TheVariants.{Walked, Stopped}
+use Rattle.p5.specs.declared.field.Number.{Number}
+use Rattle.p5.specs.declared.header.Header.{Header}
 
 -- the first two bytes are 80 and 53, the letters P5
 abbrev pub begins_p5 : List ℕ → Bool
@@ -53,36 +51,40 @@ decimal_from v (b ∷ s) = decimal_from (v * 10 + (b - 48)) s
 abbrev pub decimal_value : List ℕ → ℕ
 decimal_value s = decimal_from 0 s
 
+-- the answer of a header number: its value and the position after it
+abbrev pub number : ℕ → ℕ → Result Number ℕ
+number v p = Ok (record { value = v; end = p })
+
 -- 1 to 5 digits from a position on: their value and the position after them; a missing digit or a sixth one is unfit
-unfoldable pub digits_at : List ℕ → ℕ → Field
+unfoldable pub digits_at : List ℕ → ℕ → Result Number ℕ
 digits_at f p =
     let d = leading is_digit (drop p f) in
-    pick (eqb d 0) (Unfit p) (pick (leb d 5) (Number (decimal_value (take d (drop p f))) (p + d)) (Unfit (p + 5)))
+    pick (eqb d 0) (Err p) (pick (leb d 5) (number (decimal_value (take d (drop p f))) (p + d)) (Err (p + 5)))
 
 -- a header number: a gap of at least one byte, then the digits
-unfoldable pub number_at : List ℕ → ℕ → Field
-number_at f p = pick (eqb (gap_end f p) p) (Unfit p) (digits_at f (gap_end f p))
+unfoldable pub number_at : List ℕ → ℕ → Result Number ℕ
+number_at f p = pick (eqb (gap_end f p) p) (Err p) (digits_at f (gap_end f p))
 
 -- one white space byte after the third number; the pixels begin after it
-unfoldable pub end_at : List ℕ → ℕ → ℕ → ℕ → ℕ → Walk
+unfoldable pub end_at : List ℕ → ℕ → ℕ → ℕ → ℕ → Result Header ℕ
 end_at f w h m p =
-    pick (is_white (get_or f p 0)) (Walked (record { width = w; height = h; largest = m; offset = p + 1 })) (Stopped p)
+    pick (is_white (get_or f p 0)) (Ok (record { width = w; height = h; largest = m; offset = p + 1 })) (Err p)
 
--- the walk from the answer of the third number, of the second, of the first: a field that is not well formed ends it there
-abbrev pub from_largest : List ℕ → ℕ → ℕ → Field → Walk
-from_largest f w h (Number m p) = end_at f w h m p
-from_largest f w h (Unfit p) = Stopped p
+-- the walk from the answer of the third number, of the second, of the first: a number that is not well formed ends it there
+abbrev pub from_largest : List ℕ → ℕ → ℕ → Result Number ℕ → Result Header ℕ
+from_largest f w h (Ok n) = end_at f w h n.value n.end
+from_largest f w h (Err p) = Err p
 
 -- the walk from the height on
-abbrev pub from_height : List ℕ → ℕ → Field → Walk
-from_height f w (Number h p) = from_largest f w h (number_at f p)
-from_height f w (Unfit p) = Stopped p
+abbrev pub from_height : List ℕ → ℕ → Result Number ℕ → Result Header ℕ
+from_height f w (Ok n) = from_largest f w n.value (number_at f n.end)
+from_height f w (Err p) = Err p
 
 -- the walk from the width on
-abbrev pub from_width : List ℕ → Field → Walk
-from_width f (Number w p) = from_height f w (number_at f p)
-from_width f (Unfit p) = Stopped p
+abbrev pub from_width : List ℕ → Result Number ℕ → Result Header ℕ
+from_width f (Ok n) = from_height f n.value (number_at f n.end)
+from_width f (Err p) = Err p
 
 -- the whole header: width, height, largest sample, one white space byte
-unfoldable pub walk : List ℕ → Walk
+unfoldable pub walk : List ℕ → Result Header ℕ
 walk f = from_width f (number_at f 2)

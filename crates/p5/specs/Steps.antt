@@ -1,16 +1,13 @@
--- The positions where a field and a walk end.
-use Rattle.std.specs.Prelude.{ℕ}
-use Rattle.p5.specs.declared.field.Field.{Field}
-use Rattle.p5.specs.declared.field.Field.TheVariants.{Number, Unfit}
-use Rattle.p5.specs.declared.header.Walk.{Walk}
-use Rattle.p5.specs.declared.header.Walk.TheVariants.{Walked, Stopped}
+-- What a reader takes of the answer for a number.
+use Rattle.std.specs.Prelude.{ℕ, Option, Some, None, Result, Ok, Err}
+use Rattle.p5.specs.declared.field.Number.{Number}
 
--- the position where the reading of a field ended
-abbrev pub field_end : Field → ℕ
-field_end (Number n p) = p
-field_end (Unfit p) = p
+-- the number, if there is one
+abbrev pub taken : Result Number ℕ → Option ℕ
+taken (Ok n) = Some n.value
+taken (Err p) = None
 
--- the position where a walk ended
-abbrev pub walk_end : Walk → ℕ
-walk_end (Walked h) = h.offset
-walk_end (Stopped p) = p
+-- the position where the reading ended: after the number, or the unfit one
+abbrev pub end_of : Result Number ℕ → ℕ
+end_of (Ok n) = n.end
+end_of (Err p) = p

@@ -1,26 +1,16 @@
 // One number of the header, with the gap before it.
-ghost use Rattle.std.specs.Prelude.{◌≡◌, true, false, ◌+◌, ◌-◌, ◌*◌, ◌<◌, eqb, drop};
-ghost use Rattle.lists.specs.Lists.{pick};
-ghost use Rattle.p5.specs.Headers.{comment_after, is_blank, blank_length, gap_end, is_digit, digits_at, number_at};
-ghost use Rattle.p5.specs.Steps.{field_end};
+ghost use Rattle.std.specs.Prelude.{◌≡◌, true, false, ◌+◌, ◌≤◌, length, drop};
+ghost use Rattle.std.specs.List.{prefix_len};
+ghost use Rattle.lists.specs.Lists.{all};
+ghost use Rattle.p5.specs.Headers.{comment_after, is_blank, blank_length, gap_end, is_digit, decimal_value, digits_at, number_at};
 
 use crate::characters::{ends_line, is_digit, is_white, white_at};
 
-// A number with the position after it, or the unfit position.
+// A number of the header, and the position after it.
 #[derive(Clone, Copy)]
-pub enum Field {
-    Number(u32, usize),
-    Unfit(usize),
-}
-
-// The position where the reading of a field ended: behind its number, or the unfit one.
-pub fn field_end(field: Field) -> usize
-    ensures { result ≡ field_end field }
-{
-    match field {
-        Field::Number(_, end) => end,
-        Field::Unfit(place) => place,
-    }
+pub struct Number {
+    pub value: u32,
+    pub end: usize,
 }
 
 // Whether a comment runs after a byte, by whether one ran before it.
@@ -28,95 +18,94 @@ fn comment_after(comment: bool, byte: u8) -> bool
     ensures { result ≡ comment_after comment byte }
 {
     if comment {
-        return !ends_line(byte);
+        !ends_line(byte)
+    } else {
+        byte == b'#'
     }
-    byte == b'#'
 }
 
 // White space, # or, while a comment runs, any byte.
 fn is_blank(comment: bool, byte: u8) -> bool
     ensures { result ≡ is_blank comment byte }
 {
-    if comment {
-        return true;
-    }
-    if is_white(byte) {
-        return true;
-    }
-    byte == b'#'
+    comment || is_white(byte) || byte == b'#'
 }
 
-// White space and comments from `at` on: the position after them.
-fn blank_end(file: &[u8], at: usize) -> usize
-    ensures { result ≡ at + blank_length false (drop at file.now) }
+// The bytes from a position on; beyond the file there are none.
+fn bytes_from(file: &[u8], at: usize) -> &[u8]
+    ensures { result.now ≡ drop at file.now }
+{
+    &file[at.min(file.len())..]
+}
+
+// How many bytes at the front are white space and comments.
+fn blank_length(bytes: &[u8]) -> usize
+    ensures { result ≡ blank_length false bytes.now }
 {
     let mut comment = false;
-    let mut i = at;
-    while i < file.len() {
-        if !is_blank(comment, file[i]) {
+    for (i, byte) in bytes.iter().enumerate() {
+        if !is_blank(comment, *byte) {
             return i;
         }
-        comment = comment_after(comment, file[i]);
-        i += 1;
+        comment = comment_after(comment, *byte);
     }
-    i
+    bytes.len()
 }
 
 // The gap before a number: the position after it, `at` itself where there is none.
 fn gap_end(file: &[u8], at: usize) -> usize
     ensures { result ≡ gap_end file.now at }
 {
-    if !white_at(file, at) {
-        return at;
+    if white_at(file, at) {
+        at + blank_length(bytes_from(file, at))
+    } else {
+        at
     }
-    blank_end(file, at)
 }
 
-// The value of digits with one more digit.
-fn with_digit(value: u32, byte: u8) -> u32
-    requires { (value < 100000) × (is_digit byte ≡ true) }
-    ensures { result ≡ value * 10 + (byte - 48) }
+// How many bytes at the front are digits.
+fn digit_count(bytes: &[u8]) -> usize
+    ensures { result ≡ prefix_len is_digit bytes.now }
 {
-    let digit = byte - 48;
-    value * 10 + digit as u32
+    bytes.iter().take_while(|byte| is_digit(**byte)).count()
 }
 
-// The answer after digits from `at` up to `end`, of which there are at most five.
-fn digits_end(value: u32, at: usize, end: usize) -> Field
-    ensures { result ≡ pick (eqb end at) (Field.Unfit at) (Field.Number value end) }
+// The value of at most five digits.
+fn decimal_value(digits: &[u8]) -> u32
+    requires { (length digits.now ≤ 5) × (all is_digit digits.now ≡ true) }
+    ensures { result ≡ decimal_value digits.now }
 {
-    if end == at {
-        return Field::Unfit(at);
+    let mut value = 0;
+    for digit in digits {
+        value = value * 10 + u32::from(*digit - b'0');
     }
-    Field::Number(value, end)
+    value
 }
 
-// The digits of a number.
-pub fn digits_at(file: &[u8], at: usize) -> Field
+// The digits of a number: a missing digit or a sixth one is unfit.
+pub fn digits_at(file: &[u8], at: usize) -> Result<Number, usize>
     ensures { result ≡ digits_at file.now at }
 {
-    let mut value: u32 = 0;
-    let mut i = at;
-    while i < file.len() {
-        if !is_digit(file[i]) {
-            return digits_end(value, at, i);
-        }
-        if i - at == 5 {
-            return Field::Unfit(i);
-        }
-        value = with_digit(value, file[i]);
-        i += 1;
+    let bytes = bytes_from(file, at);
+    let count = digit_count(bytes);
+    match count {
+        0 => Err(at),
+        1..=5 => Ok(Number {
+            value: decimal_value(&bytes[..count]),
+            end: at + count,
+        }),
+        _ => Err(at + 5),
     }
-    digits_end(value, at, i)
 }
 
 // A header number from a position on: its gap, then its digits.
-pub fn number_at(file: &[u8], at: usize) -> Field
+pub fn number_at(file: &[u8], at: usize) -> Result<Number, usize>
     ensures { result ≡ number_at file.now at }
 {
     let start = gap_end(file, at);
     if start == at {
-        return Field::Unfit(at);
+        Err(at)
+    } else {
+        digits_at(file, start)
     }
-    digits_at(file, start)
 }

@@ -1,14 +1,12 @@
 // The header of a P5 file: three numbers and one white space byte.
 ghost use Rattle.std.specs.Prelude.{◌≡◌};
 ghost use Rattle.p5.specs.Headers.{walk, end_at};
-ghost use Rattle.p5.specs.Steps.{field_end, walk_end};
 
 use crate::characters::white_at;
-use crate::field::{Field, field_end};
 use crate::reader::Reader;
 
 // The numbers of a header, and where the pixels begin.
-#[derive(Clone, Copy)]
+#[derive(Clone, Copy, PartialEq, Eq)]
 pub struct Header {
     pub width: u32,
     pub height: u32,
@@ -16,48 +14,29 @@ pub struct Header {
     pub offset: usize,
 }
 
-// A whole header, or the unfit position where the walk stopped.
-#[derive(Clone, Copy)]
-pub enum Walk {
-    Walked(Header),
-    Stopped(usize),
-}
-
-// The position where a walk ended: behind the header, or the unfit one.
-pub fn walk_end(walk: Walk) -> usize
-    ensures { result ≡ walk_end walk }
-{
-    match walk {
-        Walk::Walked(header) => header.offset,
-        Walk::Stopped(place) => place,
-    }
-}
-
-// The walk that stops where the reading of a field ended; only an unfit field comes here.
-pub fn stopped(field: Field) -> Walk
-    ensures { result ≡ Walk.Stopped (field_end field) }
-{
-    Walk::Stopped(field_end(field))
-}
-
 // The white space byte after the third number ends the header.
-pub fn header_end(file: &[u8], width: u32, height: u32, largest: u32, at: usize) -> Walk
+pub fn header_end(
+    file: &[u8],
+    width: u32,
+    height: u32,
+    largest: u32,
+    at: usize,
+) -> Result<Header, usize>
     ensures { result ≡ end_at file.now width height largest at }
 {
     if !white_at(file, at) {
-        return Walk::Stopped(at);
+        return Err(at);
     }
-    let header = Header {
-        width: width,
-        height: height,
-        largest: largest,
+    Ok(Header {
+        width,
+        height,
+        largest,
         offset: at + 1,
-    };
-    Walk::Walked(header)
+    })
 }
 
-// Walks the header of a file that begins with P5.
-pub fn walk_header(file: &[u8]) -> Walk
+// Walks the header of a file that begins with P5; answers it, or the unfit position.
+pub fn walk_header(file: &[u8]) -> Result<Header, usize>
     ensures { result ≡ walk file.now }
 {
     Reader::new(file, 2).header()

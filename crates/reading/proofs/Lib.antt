@@ -1,2 +1,0 @@
--- Laws of the answer for a file.
-pub mod Files

@@ -1,2 +1,0 @@
--- The answer for a file.
-pub mod Reads
