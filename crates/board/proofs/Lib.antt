@@ -1,6 +1,6 @@
 -- Laws of what the public calls promise.
 pub mod Pixels
-pub mod Outputs
+pub mod Built
 pub mod Queries
 pub mod Touches
 pub mod LentTrees

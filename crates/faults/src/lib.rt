@@ -8,8 +8,9 @@ use refusals::Refusal;
 
 mod picture_fault;
 
-ghost use Rattle.std.specs.Prelude.{◌≡◌, ◌||◌, min, length, ltb, leb};
-ghost use Rattle.picture.specs.Pictures.{picture_of};
+ghost use Rattle.std.specs.Prelude.{IfOk, ◌≡◌, ◌*◌, ◌≤◌, ◌<◌, ◌||◌, min, length, ltb, leb};
+ghost use Rattle.picture.specs.Pictures.{picture_of, places};
+ghost use Rattle.geometry.specs.Rasters.{picture};
 ghost use Rattle.refusals.specs.Refusals.{fault_of};
 ghost use Rattle.faults.specs.PictureFault.{when};
 ghost use Rattle.faults.specs.Faults.{work_fault, output_fault, place_fault, size_unfit, size_fault};
@@ -64,7 +65,8 @@ pub fn with_work<'a>(
     pixels: &'a [u8],
     work: usize,
 ) -> Result<Raster<'a>, Refusal>
-    ensures { Admits (picture_of adjacency width height pixels.now) (work_fault adjacency width height (length pixels.now) work) result }
+    ensures admits { Admits (picture_of adjacency width height pixels.now) (work_fault adjacency width height (length pixels.now) work) result }
+    ensures room { IfOk result (λ raster. (places (picture raster) ≡ length pixels.now) × (length pixels.now ≤ 1600) × (5 * length pixels.now ≤ work)) }
 {
     let raster = raster(adjacency, width, height, pixels)?;
     room(work, 5 * pixels.len())?;
@@ -80,11 +82,31 @@ pub fn with_output<'a>(
     out: usize,
     work: usize,
 ) -> Result<Raster<'a>, Refusal>
-    ensures { Admits (picture_of adjacency width height pixels.now) (output_fault adjacency width height (length pixels.now) out work) result }
+    ensures admits { Admits (picture_of adjacency width height pixels.now) (output_fault adjacency width height (length pixels.now) out work) result }
+    ensures room { IfOk result (λ raster. (places (picture raster) ≡ length pixels.now) × (length pixels.now ≤ 1600) × (5 * length pixels.now ≤ work) × (length pixels.now ≤ out)) }
 {
     let raster = with_work(adjacency, width, height, pixels, work)?;
     room(out, pixels.len())?;
     Ok(raster)
+}
+
+// A call that lends work and the four lists of a tree.
+pub fn with_tree<'a>(
+    adjacency: u32,
+    width: u32,
+    height: u32,
+    pixels: &'a [u8],
+    heights: usize,
+    fathers: usize,
+    firsts: usize,
+    map: usize,
+    work: usize,
+) -> Result<Raster<'a>, Refusal>
+    ensures admits { Admits (picture_of adjacency width height pixels.now) (output_fault adjacency width height (length pixels.now) (min (min heights fathers) (min firsts map)) work) result }
+    ensures room { IfOk result (λ raster. (places (picture raster) ≡ length pixels.now) × (length pixels.now ≤ 1600) × (5 * length pixels.now ≤ work) × (length pixels.now ≤ heights) × (length pixels.now ≤ fathers) × (length pixels.now ≤ firsts) × (length pixels.now ≤ map)) }
+{
+    let shortest = least(heights, fathers, firsts, map);
+    with_output(adjacency, width, height, pixels, shortest, work)
 }
 
 // A call that lends work and names a place.
@@ -96,7 +118,8 @@ pub fn with_place<'a>(
     work: usize,
     place: u32,
 ) -> Result<Raster<'a>, Refusal>
-    ensures { Admits (picture_of adjacency width height pixels.now) (place_fault adjacency width height (length pixels.now) work place) result }
+    ensures admits { Admits (picture_of adjacency width height pixels.now) (place_fault adjacency width height (length pixels.now) work place) result }
+    ensures room { IfOk result (λ raster. (places (picture raster) ≡ length pixels.now) × (length pixels.now ≤ 1600) × (5 * length pixels.now ≤ work) × (place < length pixels.now)) }
 {
     let raster = with_work(adjacency, width, height, pixels, work)?;
     place_inside(pixels.len(), place)?;
@@ -113,7 +136,8 @@ pub fn with_size<'a>(
     work: usize,
     s: u32,
 ) -> Result<Raster<'a>, Refusal>
-    ensures { Admits (picture_of adjacency width height pixels.now) (size_fault adjacency width height (length pixels.now) out work s) result }
+    ensures admits { Admits (picture_of adjacency width height pixels.now) (size_fault adjacency width height (length pixels.now) out work s) result }
+    ensures room { IfOk result (λ raster. (places (picture raster) ≡ length pixels.now) × (length pixels.now ≤ 1600) × (5 * length pixels.now ≤ work) × (length pixels.now ≤ out) × (1 ≤ s) × (s ≤ length pixels.now)) }
 {
     let raster = with_output(adjacency, width, height, pixels, out, work)?;
     size_inside(pixels.len(), s)?;

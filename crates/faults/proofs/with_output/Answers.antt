@@ -4,15 +4,15 @@ use Rattle.std.proofs.lemmas.Result.{err_from_is_err_and}
 use Rattle.faults.proofs.Faults.{refused_first, refused_then, admitted_both, output-counted}
 use Rattle.faults.proofs.with_output.Goals as goal
 
-pub returns-in_err-raster : goal.returns-in_err-raster
-returns-in_err-raster c =
+pub returns-in_err-raster-clause-admits : goal.returns-in_err-raster-clause-admits
+returns-in_err-raster-clause-admits c =
     let p = err_from_is_err_and c.from_residual.result c.from_residual.ensures.1 in
-    rw (p.1, p.2) (refused_first _ _ _ _ _ (output-counted c.args.adjacency c.args.width c.args.height (length c.args.pixels.now) c.args.work c.args.out) c.in_err-raster.ensures.fault)
+    rw (p.1, p.2) (refused_first _ _ _ _ _ (output-counted c.args.adjacency c.args.width c.args.height (length c.args.pixels.now) c.args.work c.args.out) c.in_err-raster.ensures.admits.fault)
 
-pub returns-in_err-room : goal.returns-in_err-room
-returns-in_err-room c =
+pub returns-in_err-room-clause-admits : goal.returns-in_err-room-clause-admits
+returns-in_err-room-clause-admits c =
     let p = err_from_is_err_and c.from_residual-in_err-room.result c.from_residual-in_err-room.ensures.1 in
-    rw (p.1, p.2) (refused_then _ _ _ _ _ (output-counted c.args.adjacency c.args.width c.args.height (length c.args.pixels.now) c.args.work c.args.out) c.in_ok-raster.ensures.fault c.in_err-room.ensures)
+    rw (p.1, p.2) (refused_then _ _ _ _ _ (output-counted c.args.adjacency c.args.width c.args.height (length c.args.pixels.now) c.args.work c.args.out) c.in_ok-raster.ensures.admits.fault c.in_err-room.ensures)
 
-pub returns : goal.returns
-returns c = admitted_both _ _ _ _ _ (output-counted c.args.adjacency c.args.width c.args.height (length c.args.pixels.now) c.args.work c.args.out) c.in_ok-raster.ensures.fault c.in_ok-room.ensures c.in_ok-raster.ensures.raster
+pub returns-clause-admits : goal.returns-clause-admits
+returns-clause-admits c = admitted_both _ _ _ _ _ (output-counted c.args.adjacency c.args.width c.args.height (length c.args.pixels.now) c.args.work c.args.out) c.in_ok-raster.ensures.admits.fault c.in_ok-room.ensures c.in_ok-raster.ensures.admits.raster
