@@ -1,10 +1,5 @@
 -- The part of the tree's cells that holds the fathers, lent to the climb.
-use mathlib.Core.Path.{◌≡◌, refl, ◌∙◌}
-use mathlib.Core.List.{List}
-use Prim.Native.Nat.{ℕ, ◌+◌, ◌-◌, ◌*◌, ◌<◌}
-use native.Mathlib.Omega.{arith}
-use lib.ListN.{get_or, take, drop, length-drop}
-use lib.Seq.{length-take-le, get_or-take, get_or-drop}
+use Rattle.std.proofs.Common.{◌≡◌, refl, ◌∙◌, List, ℕ, ◌+◌, ◌-◌, ◌*◌, ◌<◌, arith, get_or, take, drop, length-drop, length-take-le, get_or-take, get_or-drop}
 use Rattle.topology.proofs.Climb.{Meet, meet-same}
 use Rattle.watershed_laws.proofs.Stopping.{Climbs, Meets}
 use Rattle.ancestors.specs.Ancestors.{Climbing}
@@ -29,13 +24,15 @@ module _ (n : ℕ) (tree : List ℕ) (c : Climbs n tree) (y z : ℕ) (hy : y < n
       }
 
   -- the climb ends at a node, whose height stands in front of the fathers
-  pub climb-meets : (r : ℕ) → Meet (λ i. get_or fathers i 0) (get_or tree (2 * n + y) 0) (get_or tree (2 * n + z) 0) r → (r < n) × Meets n tree y z (get_or tree r 0)
-  climb-meets r m =
+  pub climb-meets :
+      (a b r : ℕ) → a ≡ get_or tree (2 * n + y) 0 → b ≡ get_or tree (2 * n + z) 0 → Meet (λ i. get_or fathers i 0) a b r →
+      (r < n) × Meets n tree y z (get_or tree r 0)
+  climb-meets a b r ea eb m =
       let f = c.few in
       let (k, h) =
       meet-same c.count (λ i. get_or fathers i 0) (λ i. get_or tree (n + i) 0)
       (λ i l. father-at i (omega arith))
       (λ i l. (c.rises i l).1)
-      (c.mapped y hy) (c.mapped z hz) m
+      (c.mapped y hy) (c.mapped z hz) (rw (ea, eb) at m)
       in
       (omega arith, record { first = hy; second = hz; at = record { node = r; meet = k; height = refl } })

@@ -3,7 +3,6 @@ ghost use Rattle.std.specs.Prelude.{◌≤◌, ◌<◌};
 ghost use Rattle.watershed_laws.proofs.Stopping.{Climbs, Meets};
 
 use ancestors::nearest_common_ancestor;
-use cells::wide;
 
 // The height at which the climbs from the nodes of two places meet.
 pub fn meeting_height(tree: &[u16], n: usize, y: usize, z: usize) -> usize
@@ -11,8 +10,8 @@ pub fn meeting_height(tree: &[u16], n: usize, y: usize, z: usize) -> usize
     ensures { Meets n tree.now y z result }
 {
     let e = 2 * n;
-    let a = wide(tree[e + y]);
-    let b = wide(tree[e + z]);
+    let a = usize::from(tree[e + y]);
+    let b = usize::from(tree[e + z]);
     let top = nearest_common_ancestor(&tree[n..e], a, b);
-    wide(tree[top])
+    usize::from(tree[top])
 }

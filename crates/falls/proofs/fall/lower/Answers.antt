@@ -5,5 +5,5 @@ use Rattle.falls.proofs.fall.lower.Goals as goal
 pub returns-then-pixels-y : goal.returns-then-pixels-y
 returns-then-pixels-y c = moves c.if-pixels-y.true
 
-pub returns : goal.returns
-returns c = stays c.if-pixels-y.false
+pub returns-else-pixels-y : goal.returns-else-pixels-y
+returns-else-pixels-y c = stays c.if-pixels-y.false
