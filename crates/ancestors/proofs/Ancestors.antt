@@ -1,9 +1,5 @@
 -- The climb from two nodes to their nearest common ancestor, a step at a time.
-use mathlib.Core.Path.{◌≡◌, subst}
-use mathlib.Core.List.{List}
-use Prim.Native.Nat.{ℕ, ◌<◌}
-use native.Mathlib.Omega.{arith}
-use lib.ListN.{length, get_or}
+use Rattle.std.proofs.Common.{◌≡◌, subst, List, ℕ, ◌<◌, arith, length, get_or}
 use Rattle.topology.proofs.Climb.{Meet, same, left, right}
 use Rattle.ancestors.specs.Ancestors.{Climbing}
 

@@ -5,8 +5,6 @@ ghost use Rattle.std.specs.Prelude.{get_or};
 ghost use Rattle.topology.proofs.Climb.{Meet};
 ghost use Rattle.ancestors.specs.Ancestors.{Climbing};
 
-use cells::wide;
-
 // The father of the root, which has none.
 pub const NO_FATHER: u16 = 65535;
 
@@ -19,9 +17,9 @@ pub fn nearest_common_ancestor(fathers: &[u16], a: usize, b: usize) -> usize
     let mut d = b;
     while c != d {
         if c < d {
-            c = wide(fathers[c]);
+            c = usize::from(fathers[c]);
         } else {
-            d = wide(fathers[d]);
+            d = usize::from(fathers[d]);
         }
     }
     c

@@ -1,10 +1,6 @@
 -- The tree in its cells: after the last step, and in a longer slice.
-use mathlib.Core.Path.{◌≡◌, ap, ◌∙◌}
-use mathlib.Core.List.{List, ◌++◌}
-use Prim.Native.Nat.{ℕ, ◌+◌, ◌*◌, ◌≤◌}
-use native.Mathlib.Omega.{arith}
-use lib.ListN.{length, get_or, take, drop, length-append, length-drop, get_or-append}
-use lib.Seq.{length-take-le, drop_at}
+use Rattle.std.proofs.Common.{◌≡◌, ap, ◌∙◌, List, ◌++◌, ℕ, ◌+◌, ◌*◌, ◌≤◌, arith, length, get_or, take, drop, length-append, length-drop, length-take-le, drop_at}
+use Rattle.std.proofs.Math.ListN.{get_or-append}
 use Rattle.picture.specs.Pictures.{Picture, places}
 use Rattle.picture.specs.Trees.{nodes}
 use Rattle.topology.proofs.Nodes.{nodes-few}

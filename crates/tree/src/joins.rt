@@ -1,11 +1,12 @@
 // The pixels of one height join the classes of the places below them.
 ghost use Rattle.std.specs.Prelude.{◌<◌, ◌+◌, ◌*◌, length};
-ghost use Rattle.picture.specs.Pictures.{picture_of};
+ghost use Rattle.picture.specs.Pictures.{places};
+ghost use Rattle.geometry.specs.Rasters.{picture};
 ghost use Rattle.lists.specs.Blocks.{UntouchedOutside};
 ghost use Rattle.tree_laws.proofs.Chains.{EdgeReady, EdgeDone};
 ghost use Rattle.tree_laws.proofs.Walks.{WalkReady, PixelJoined};
 
-use cells::wide;
+use geometry::raster::Raster;
 use union_find::{comes_before, find, join};
 
 // Joins the place x, whose root is r, to its neighbour y if y comes before x, and answers the root then.
@@ -26,52 +27,33 @@ fn join_edge(
     }
     let q = find(cells, y);
     if q == r {
-        return r;
+        r
+    } else {
+        join(work, cells, q, r, x)
     }
-    join(work, cells, q, r, x)
 }
 
 // Joins the place x of value k to its neighbours that come before it, and answers the next place of its value.
-fn join_pixel(
-    a: u32,
-    w: u32,
-    h: u32,
-    pixels: &[u8],
-    work: &mut [u16],
-    cells: &mut [u16],
-    k: usize,
-    x: usize,
-) -> usize
-    requires { WalkReady (picture_of a w h pixels.now) k x cells.old work.old × (x < length cells.old) }
-    ensures { PixelJoined (picture_of a w h pixels.now) k x result cells.new work.old work.new }
+fn join_pixel(raster: &Raster, work: &mut [u16], cells: &mut [u16], k: usize, x: usize) -> usize
+    requires { WalkReady (picture raster.now) k x cells.old work.old × (x < length cells.old) }
+    ensures { PixelJoined (picture raster.now) k x result cells.new work.old work.new }
 {
     let mut near = [0u16; 8];
-    let count = geometry::neighbours(a, w, h, x, &mut near);
+    let count = raster.grid.neighbours(x, &mut near);
     let mut root = find(cells, x);
-    let mut i = 0;
-    while i < count {
-        root = join_edge(pixels, work, cells, k, x, root, wide(near[i]));
-        i += 1;
+    for y in &near[..count] {
+        root = join_edge(raster.pixels, work, cells, k, x, root, usize::from(*y));
     }
-    wide(work[2 * cells.len() + x])
+    usize::from(work[2 * cells.len() + x])
 }
 
 // The pixels of value k join the classes; their chain begins at head.
-pub fn join_pixels(
-    a: u32,
-    w: u32,
-    h: u32,
-    pixels: &[u8],
-    work: &mut [u16],
-    cells: &mut [u16],
-    k: usize,
-    head: usize,
-)
-    requires { WalkReady (picture_of a w h pixels.now) k head cells.old work.old }
-    ensures { WalkReady (picture_of a w h pixels.now) k (w * h) cells.new work.new × UntouchedOutside (w * h) (w * h) work.old work.new }
+pub fn join_pixels(raster: &Raster, work: &mut [u16], cells: &mut [u16], k: usize, head: usize)
+    requires { WalkReady (picture raster.now) k head cells.old work.old }
+    ensures { WalkReady (picture raster.now) k (places (picture raster.now)) cells.new work.new × UntouchedOutside (places (picture raster.now)) (places (picture raster.now)) work.old work.new }
 {
     let mut x = head;
     while x < cells.len() {
-        x = join_pixel(a, w, h, pixels, work, cells, k, x);
+        x = join_pixel(raster, work, cells, k, x);
     }
 }

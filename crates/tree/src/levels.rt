@@ -1,6 +1,6 @@
 // The heights one after the other: the pixels join, the new roots are listed and numbered, the pixels are mapped.
 ghost use Rattle.std.specs.Prelude.{◌≡◌, ◌<◌, ◌+◌, ◌*◌, length};
-ghost use Rattle.picture.specs.Pictures.{picture_of};
+ghost use Rattle.geometry.specs.Rasters.{picture};
 ghost use Rattle.tree_laws.proofs.Forests.{Parents};
 ghost use Rattle.tree_laws.proofs.Chains.{NextOfValue};
 ghost use Rattle.tree_laws.proofs.Buckets.{Heads};
@@ -9,7 +9,7 @@ ghost use Rattle.tree_laws.proofs.Mapped.{Between, NameReady, NameBounds, NamedO
 use crate::joins::join_pixels;
 use crate::list::list_level;
 use ancestors::NO_FATHER;
-use cells::wide;
+use geometry::raster::Raster;
 use union_find::{FIRST_NODE, find};
 
 // The node i gets its height and no father, and its root the number.
@@ -18,7 +18,7 @@ fn number_one(work: &mut [u16], cells: &mut [u16], k: usize, i: usize)
     ensures { NamedOne k i cells.old work.old cells.new work.new }
 {
     let n = cells.len();
-    let r = wide(work[3 * n + i]);
+    let r = usize::from(work[3 * n + i]);
     work[i] = k as u16;
     work[n + i] = NO_FATHER;
     cells[r] = FIRST_NODE + i as u16;
@@ -29,10 +29,8 @@ fn number_level(work: &mut [u16], cells: &mut [u16], k: usize, c: usize, d: usiz
     requires { NameReady k c d cells.old work.old × (k < 256) }
     ensures { NameWalk k c d d cells.old work.old cells.new work.new }
 {
-    let mut i = c;
-    while i < d {
+    for i in c..d {
         number_one(work, cells, k, i);
-        i += 1;
     }
 }
 
@@ -42,7 +40,7 @@ fn map_one(work: &mut [u16], cells: &mut [u16], x: usize) -> usize
     ensures { MappedOne x result cells.old work.old cells.new work.new }
 {
     let at = 2 * cells.len() + x;
-    let next = wide(work[at]);
+    let next = usize::from(work[at]);
     let r = find(cells, x);
     work[at] = cells[r] - FIRST_NODE;
     next
@@ -61,20 +59,17 @@ fn map_level(work: &mut [u16], cells: &mut [u16], head: usize)
 
 // The height k, whose chain begins at head: answers the number of nodes up to it.
 fn level(
-    a: u32,
-    w: u32,
-    h: u32,
-    pixels: &[u8],
+    raster: &Raster,
     work: &mut [u16],
     cells: &mut [u16],
     k: usize,
     head: usize,
     c: usize,
 ) -> usize
-    requires { Between (picture_of a w h pixels.now) k c cells.old work.old × NextOfValue (picture_of a w h pixels.now) k 0 head × (k < 256) }
-    ensures { Between (picture_of a w h pixels.now) (k + 1) result cells.new work.new }
+    requires { Between (picture raster.now) k c cells.old work.old × NextOfValue (picture raster.now) k 0 head × (k < 256) }
+    ensures { Between (picture raster.now) (k + 1) result cells.new work.new }
 {
-    join_pixels(a, w, h, pixels, work, cells, k, head);
+    join_pixels(raster, work, cells, k, head);
     let d = list_level(work, cells, head, c);
     number_level(work, cells, k, c, d);
     map_level(work, cells, head);
@@ -82,23 +77,13 @@ fn level(
 }
 
 // All heights: answers the number of nodes.
-pub fn levels(
-    a: u32,
-    w: u32,
-    h: u32,
-    pixels: &[u8],
-    work: &mut [u16],
-    cells: &mut [u16],
-    heads: &[u16; 256],
-) -> usize
-    requires { Between (picture_of a w h pixels.now) 0 0 cells.old work.old × Heads (picture_of a w h pixels.now) heads.now }
-    ensures { Between (picture_of a w h pixels.now) 256 result cells.new work.new }
+pub fn levels(raster: &Raster, work: &mut [u16], cells: &mut [u16], heads: &[u16; 256]) -> usize
+    requires { Between (picture raster.now) 0 0 cells.old work.old × Heads (picture raster.now) heads.now }
+    ensures { Between (picture raster.now) 256 result cells.new work.new }
 {
     let mut c = 0;
-    let mut k = 0;
-    while k < 256 {
-        c = level(a, w, h, pixels, work, cells, k, wide(heads[k]), c);
-        k += 1;
+    for (k, head) in heads.iter().enumerate() {
+        c = level(raster, work, cells, k, usize::from(*head), c);
     }
     c
 }

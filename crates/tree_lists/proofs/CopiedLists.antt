@@ -1,9 +1,5 @@
 -- The blocks of the tree copied into lists.
-use mathlib.Core.Path.{◌≡◌, sym, ap, subst, ◌∙◌}
-use mathlib.Core.List.{List}
-use Prim.Native.Nat.{ℕ, ◌+◌, ◌*◌, ◌≤◌, ◌<◌}
-use native.Mathlib.Omega.{arith}
-use lib.ListN.{length, get_or}
+use Rattle.std.proofs.Common.{◌≡◌, sym, ap, subst, ◌∙◌, List, ℕ, ◌+◌, ◌*◌, ◌≤◌, ◌<◌, arith, length, get_or, take, get_or-take, length-take-le}
 use Rattle.picture.specs.Pictures.{Picture, places}
 use Rattle.picture.specs.Trees.{nodes, node_at, tree_of}
 use Rattle.topology.proofs.Nodes.{nodes-few, node-is}
@@ -20,14 +16,22 @@ module _ (p : Picture) (r : ℕ) (work after cells left : List ℕ) (built : Bui
   pub built-few : r ≤ places p
   built-few = let e = built.count in let f = nodes-few p in omega arith
 
-  pub built-bytes : Bytes r after
+  pub built-taken : 4 * places p ≤ length work → length (take r after) ≡ r
+  built-taken h = length-take-le r after (omega (arith, built-few, built.room))
+
+  taken-height : (i : ℕ) → i < r → get_or (take r after) i 0 ≡ (node_at p i).height
+  taken-height i h =
+      get_or-take r after i 0 h ∙
+      (ap (λ (j : ℕ). get_or after j 0) {y = 0 + i} (omega arith) ∙ built.tree.heights i (subst (λ (n : ℕ). i < n) built.count h))
+
+  pub built-bytes : Bytes r (take r after)
   built-bytes =
       record {
         byte =
             λ i h.
             let b : i < length (nodes p) = subst (λ (n : ℕ). i < n) built.count h in
-            let e : get_or after i 0 ≡ (node_at p i).height = ap (λ (j : ℕ). get_or after j 0) {y = 0 + i} (omega arith) ∙ built.tree.heights i b in
-            let l = (node-is p i b).low in omega (arith, e, l);
+            let l = (node-is p i b).low in
+            omega (arith, taken-height i h, l);
       }
 
   -- the lists of the tree from its blocks
@@ -38,10 +42,11 @@ module _ (p : Picture) (r : ℕ) (work after cells left : List ℕ) (built : Bui
     below : (i : ℕ) → i < r → i < length (nodes p)
     below i h = subst (λ (n : ℕ). i < n) built.count h
 
-    pub heights-handed : Copied after 0 r old new → new ≡ over (tree_of p).heights old
+    pub heights-handed : Copied (take r after) 0 r old new → new ≡ over (tree_of p).heights old
     heights-handed c =
         overwritten-front _ old new r (tree_of p).heights (length-heights p ∙ sym built.count) enough
-        (λ i h. built.tree.heights i (below i h) ∙ sym (heights-at p i (below i h)))
+        (λ i h.
+        ap (λ (j : ℕ). get_or (take r after) j 0) {x = 0 + i} (omega arith) ∙ (taken-height i h ∙ sym (heights-at p i (below i h))))
         c
 
     pub fathers-handed : (n : ℕ) → n ≡ places p → Copied after n r old new → new ≡ over (tree_of p).fathers old

@@ -6,8 +6,6 @@ ghost use Rattle.tree_laws.proofs.Chains.{Comes};
 ghost use Rattle.tree_laws.proofs.Forests.{Parents, Split, Found, Linked};
 ghost use Rattle.tree_laws.proofs.Marks.{Marked, Names, MergedIn, LinkedIn};
 
-use cells::{value, wide};
-
 // The states of a root: FIRST_NODE + i where one node i is beneath, and three marks.
 pub const FIRST_NODE: u16 = 2048;
 
@@ -25,11 +23,10 @@ fn split(cells: &mut [u16], x: usize) -> usize
     requires { Parents cells.old × (x < length cells.old) × (get_or cells.old x 0 < 2048) }
     ensures { Split cells.old x result cells.new }
 {
-    let up = wide(cells[x]);
+    let up = usize::from(cells[x]);
     let above = cells[up];
     if above < FIRST_NODE {
         cells[x] = above;
-        return up;
     }
     up
 }
@@ -52,7 +49,7 @@ fn mark(work: &mut [u16], n: usize, state: u16, x: usize)
     ensures { Marked n state x work.old work.new }
 {
     if state < SEVERAL {
-        work[n + wide(state - FIRST_NODE)] = x as u16;
+        work[n + usize::from(state - FIRST_NODE)] = x as u16;
     }
 }
 
@@ -62,14 +59,14 @@ fn merge(work: &mut [u16], n: usize, a: u16, b: u16, x: usize) -> u16
     ensures { MergedIn n x a b result work.old work.new }
 {
     if a == NOTHING {
-        return b;
+        b
+    } else if b == NOTHING {
+        a
+    } else {
+        mark(work, n, a, x);
+        mark(work, n, b, x);
+        SEVERAL
     }
-    if b == NOTHING {
-        return a;
-    }
-    mark(work, n, a, x);
-    mark(work, n, b, x);
-    SEVERAL
 }
 
 // Links the greater of two roots below the smaller, which gets the state, and answers the smaller.
@@ -80,11 +77,12 @@ pub fn link(cells: &mut [u16], q: usize, r: usize, state: u16) -> usize
     if q < r {
         cells[r] = q as u16;
         cells[q] = state;
-        return q;
+        q
+    } else {
+        cells[q] = r as u16;
+        cells[r] = state;
+        r
     }
-    cells[q] = r as u16;
-    cells[r] = state;
-    r
 }
 
 // Links two roots at the pixel x, and answers the root that is left.
@@ -104,15 +102,6 @@ pub fn comes_before(pixels: &[u8], k: usize, x: usize, y: usize) -> bool
     requires { y < length pixels.now }
     ensures { Comes k x y (get_or pixels.now y 0) result }
 {
-    let v = value(pixels[y]);
-    if v < k {
-        return true;
-    }
-    if k < v {
-        return false;
-    }
-    if y < x {
-        return true;
-    }
-    false
+    let v = usize::from(pixels[y]);
+    v < k || (v == k && y < x)
 }

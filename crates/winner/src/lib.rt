@@ -1,12 +1,10 @@
 // The winner tree over the candidates: cell n + x is the leaf of the place x, cell i below n the better of the cells 2 i and 2 i + 1.
 #![tactic(auto)]
 
-ghost use Rattle.std.specs.Prelude.{◌≡◌, ◌⊎◌, ◌+◌, ◌*◌, ◌≤◌, ◌<◌, length, get_or};
+ghost use Rattle.std.specs.Prelude.{◌≡◌, ◌⊎◌, ◌+◌, ◌*◌, ◌/◌, ◌≤◌, ◌<◌, if◌then◌else◌, length, get_or};
 ghost use Rattle.watershed_laws.proofs.WinnerTree.{Better, Candidate, Played};
 ghost use Rattle.watershed_laws.proofs.WinnerSteps.{WinnerReady, Replaying, Assigned, Filling, Building, MadeCandidate, MakingCandidates};
 ghost use Rattle.watershed_laws.proofs.Stopping.{Places};
-
-use cells::{value, wide};
 
 // The mark of no candidate.
 pub const NO_CANDIDATE: u16 = 65535;
@@ -22,25 +20,23 @@ fn better(pixels: &[u8], a: u16, b: u16) -> u16
     if b == NO_CANDIDATE {
         return a;
     }
-    let first = value(pixels[a as usize]) * 65536 + wide(a);
-    let second = value(pixels[b as usize]) * 65536 + wide(b);
-    if first < second {
-        return a;
-    }
-    b
+    let first = usize::from(pixels[usize::from(a)]) * 65536 + usize::from(a);
+    let second = usize::from(pixels[usize::from(b)]) * 65536 + usize::from(b);
+    if first < second { a } else { b }
 }
 
-// Plays a cell again, and answers the cell above it, or 0 if it stays as it is.
-fn play(pixels: &[u8], cells: &mut [u16], i: usize) -> usize
+// Plays a cell again, and answers whether it has changed.
+fn play(pixels: &[u8], cells: &mut [u16], i: usize) -> bool
     requires { (i < 1600) × (2 * i + 1 < length cells.old) × Candidate (length pixels.now) (get_or cells.old (2 * i) 0) × Candidate (length pixels.now) (get_or cells.old (2 * i + 1) 0) }
-    ensures { Played pixels.now cells.old i cells.new result }
+    ensures { Played pixels.now cells.old i cells.new (if result then i / 2 else 0) }
 {
     let best = better(pixels, cells[2 * i], cells[2 * i + 1]);
     if cells[i] == best {
-        return 0;
+        false
+    } else {
+        cells[i] = best;
+        true
     }
-    cells[i] = best;
-    i / 2
 }
 
 // Plays a cell and those above it again until one stays as it is.
@@ -49,8 +45,8 @@ fn replay(pixels: &[u8], cells: &mut [u16], n: usize, i: usize)
     ensures { Replaying n pixels.now cells.old cells.new 0 }
 {
     let mut j = i;
-    while 0 < j {
-        j = play(pixels, cells, j);
+    while 0 < j && play(pixels, cells, j) {
+        j /= 2;
     }
 }
 
@@ -68,10 +64,8 @@ fn fill_leaves(cells: &mut [u16], n: usize)
     requires { (length cells.old ≡ 2 * n) × (n ≤ 1600) }
     ensures { Filling n cells.new n }
 {
-    let mut x = 0;
-    while x < n {
+    for x in 0..n {
         cells[n + x] = x as u16;
-        x += 1;
     }
 }
 
@@ -81,9 +75,7 @@ pub fn build_winners(pixels: &[u8], cells: &mut [u16], n: usize)
     ensures { Building n pixels.now cells.new 1 }
 {
     fill_leaves(cells, n);
-    let mut i = n;
-    while 1 < i {
-        i -= 1;
+    for i in (1..n).rev() {
         play(pixels, cells, i);
     }
 }
@@ -93,17 +85,10 @@ fn make_candidate(pixels: &[u8], cells: &mut [u16], n: usize, y: usize, stop: us
     requires { WinnerReady n pixels.now cells.old × (y < n) }
     ensures { MadeCandidate n pixels.now cells.old stop k y cells.new }
 {
-    let own = value(pixels[y]);
-    if own <= stop {
-        return;
+    let own = usize::from(pixels[y]);
+    if stop < own && own <= k && usize::from(cells[n + y]) != y {
+        assign(pixels, cells, n, y, y as u16);
     }
-    if k < own {
-        return;
-    }
-    if wide(cells[n + y]) == y {
-        return;
-    }
-    assign(pixels, cells, n, y, y as u16);
 }
 
 // Makes candidates of the neighbours whose value is above the stop and at most k.
@@ -111,17 +96,14 @@ pub fn make_candidates(
     pixels: &[u8],
     cells: &mut [u16],
     n: usize,
-    near: &[u16; 8],
-    m: usize,
+    near: &[u16],
     stop: usize,
     k: usize,
 )
-    requires { WinnerReady n pixels.now cells.old × Places n near.now m }
-    ensures { MakingCandidates n pixels.now cells.old stop k near.now cells.new m }
+    requires { WinnerReady n pixels.now cells.old × Places n near.now (length near.now) }
+    ensures { MakingCandidates n pixels.now cells.old stop k near.now cells.new (length near.now) }
 {
-    let mut i = 0;
-    while i < m {
-        make_candidate(pixels, cells, n, wide(near[i]), stop, k);
-        i += 1;
+    for y in near {
+        make_candidate(pixels, cells, n, usize::from(*y), stop, k);
     }
 }

@@ -1,6 +1,5 @@
 -- `ancestors::nearest_common_ancestor` meets its contract. The invariant is Climbed: a climb from the two nodes is on its way.
-use Prim.Native.Nat.{◌-◌, ◌*◌}
-use lib.ListN.{length}
+use Rattle.std.proofs.Common.{◌-◌, ◌*◌, length}
 use Rattle.ancestors.proofs.Ancestors.{Climbed}
 use Rattle.ancestors.proofs.nearest_common_ancestor.Given as goal
 

@@ -1,10 +1,6 @@
 -- `tree_lists::copy_bytes` meets its contract. The loop's invariant: the first i entries are copied.
-use Prim.Native.Nat.{◌-◌, ◌≤◌}
 use Rattle.lists.specs.Blocks.{Copied}
 use Rattle.tree_lists.proofs.copy_bytes.Given as goal
 
 abbrev pub invariant-loop-i : goal.invariant-loop-i
-invariant-loop-i l = (l.i ≤ l.m) × Copied l.from 0 l.i l.initial.to l.to
-
-abbrev pub decreases-loop-i : goal.decreases-loop-i
-decreases-loop-i l = l.m - l.i
+invariant-loop-i l = Copied l.from 0 l.i l.initial.to l.to

@@ -1,17 +1,17 @@
 -- `tree::build::build_exactly` meets its contract.
 use Rattle.tree.proofs.Trees.{tree-resolved}
-use Rattle.picture.specs.Pictures.{picture_of}
+use Rattle.geometry.specs.Rasters.{picture}
 use Rattle.tree_laws.proofs.Resolving.{resolve-ready, resolved}
 use Rattle.tree_laws.proofs.Buckets.{chain-ready, fits-of}
 use Rattle.tree.proofs.build.build_exactly.Goals as goal
 
 pub chain-requires : goal.chain-requires
 chain-requires c =
-    chain-ready (picture_of c.args.a c.args.w c.args.h c.args.pixels.now) _ _ c.requires.pixels_value c.requires.work_len.0 c.requires.work_len.1
+    chain-ready (picture c.args.raster.now) _ _ c.args.raster.now.accepted c.requires.0 c.requires.1
 
 pub levels-c-requires : goal.levels-c-requires
 levels-c-requires c =
-    let f = fits-of (picture_of c.args.a c.args.w c.args.h c.args.pixels.now) _ _ c.requires.pixels_value c.requires.work_len.0 c.requires.work_len.1 in
+    let f = fits-of (picture c.args.raster.now) _ _ c.args.raster.now.accepted c.requires.0 c.requires.1 in
     let b = c.chain.ensures in
     (b.between _ f, b.heads _ f)
 

@@ -2,7 +2,6 @@
 use Rattle.tree_laws.proofs.Decided.{decided-yes, decided-never}
 use Rattle.tree_laws.proofs.Chains.{edge-bounds, edge-parents, join-ready, done-skip, done-same, done-linked}
 use Rattle.lists.proofs.Blocks.{untouched-refl}
-use native.Mathlib.Omega.{arith}
 use Rattle.tree.proofs.joins.join_edge.Goals as goal
 
 pub comes_before-requires : goal.comes_before-requires
@@ -21,17 +20,13 @@ returns-then-q-r c =
     let earlier = decided-yes c.if-not-comes_before.false c.comes_before.ensures in
     done-same _ _ _ _ _ _ _ earlier _ _ c.find-q.ensures c.if-q-r.true (untouched-refl _ _ _)
 
-pub join-requires : goal.join-requires
-join-requires c =
+pub join-requires-clause-names : goal.join-requires-clause-names
+join-requires-clause-names c =
     let earlier = decided-yes c.if-not-comes_before.false c.comes_before.ensures in
-    let (j, room) = join-ready _ _ _ _ _ _ _ earlier _ _ c.find-q.ensures c.requires in
-    record {
-      q_nonzero = (c.if-q-r.false, j.in-q, j.in-r, j.few, omega (arith, j.few, j.place));
-      names = (j.name-q, j.name-r);
-      cells_in_bounds = room;
-    }
+    let j = (join-ready _ _ _ _ _ _ _ earlier _ _ c.find-q.ensures c.requires).0 in
+    (j.name-q, j.name-r)
 
-pub returns : goal.returns
-returns c =
+pub returns-else-q-r : goal.returns-else-q-r
+returns-else-q-r c =
     let earlier = decided-yes c.if-not-comes_before.false c.comes_before.ensures in
     done-linked _ _ _ _ _ _ _ earlier _ _ c.find-q.ensures _ _ _ c.join.ensures

@@ -1,31 +1,24 @@
 -- `tree::joins::join_pixel` meets its contract.
-use Rattle.picture.proofs.Neighbours.{listed_at}
+use Rattle.std.proofs.Common.{arith, ℕ, ◌+◌, ◌*◌, get_or, ap, ◌∙◌}
+use Rattle.geometry.proofs.Listed.{listed-front}
 use Rattle.tree_laws.proofs.Walks.{joining-start, joining-turn, joining-end}
-use lib.ListN.{get_or}
-use mathlib.Core.Path.{ap, ◌∙◌}
-use native.Mathlib.Omega.{arith}
-use Prim.Native.Nat.{ℕ, ◌+◌, ◌*◌}
 use Rattle.tree.proofs.joins.join_pixel.Goals as goal
 
-pub loop-i-init : goal.loop-i-init
-loop-i-init c =
+pub loop-y-init : goal.loop-y-init
+loop-y-init c =
     let e = c.requires.0.classes.size in
     joining-start _ _ _ _ _ _ _ c.requires.0 (omega (arith, c.requires.1)) c.find-root.ensures
 
-pub loop-i-preserved : goal.loop-i-preserved
-loop-i-preserved c =
-    let s = c.neighbours-count.ensures in
-    let b = c.loop-i-test.true in
-    let e = s.count in
-    joining-turn _ _ _ _ _ _ _ _ _ _ _ _ c.loop-i.invariant
-    (record { listed = omega arith; is = c.wide.ensures ∙ listed_at _ _ _ _ s _ b })
+pub loop-y-preserved : goal.loop-y-preserved
+loop-y-preserved c =
+    let front = listed-front _ _ _ _ c.neighbours-count.ensures in
+    joining-turn _ _ _ _ _ _ _ _ _ _ _ _ c.loop-y.invariant
+    (record { listed = rw front at c.loop-y-test.true; is = rw front at c.from.ensures })
     c.join_edge-root.ensures
 
 pub returns : goal.returns
 returns c =
-    let s = c.neighbours-count.ensures in
-    let i = c.loop-i.invariant in
-    let b = c.loop-i-test.false in
-    let e = s.count in
-    joining-end _ _ _ _ _ _ _ _ _ _ i (omega arith) c.requires.0
-    (c.wide-2.ensures ∙ ap (λ (n : ℕ). get_or c.loop-i.work (2 * n + c.args.x) 0) i.near.classes.size)
+    let front = listed-front _ _ _ _ c.neighbours-count.ensures in
+    let i = c.loop-y.invariant in
+    joining-end _ _ _ _ _ _ _ _ _ _ i (rw front at c.loop-y-test.false) c.requires.0
+    (c.from-2.ensures ∙ ap (λ (n : ℕ). get_or c.loop-y.work (2 * n + c.args.x) 0) i.near.classes.size)

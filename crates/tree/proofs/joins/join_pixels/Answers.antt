@@ -1,6 +1,6 @@
 -- `tree::joins::join_pixels` meets its contract.
 use Rattle.tree_laws.proofs.Walks.{ready-end}
-use native.Mathlib.Omega.{arith}
+use Rattle.std.proofs.Common.{arith}
 use Rattle.tree.proofs.joins.join_pixels.Goals as goal
 
 pub returns : goal.returns

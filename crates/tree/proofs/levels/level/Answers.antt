@@ -1,14 +1,11 @@
 -- `tree::levels::level` meets its contract.
-use mathlib.Core.List.{List}
-use mathlib.Core.Path.{refl}
-use Prim.Native.Nat.{ℕ, ◌<◌}
-use native.Mathlib.Omega.{arith}
+use Rattle.std.proofs.Common.{List, refl, ℕ, ◌<◌, arith}
 use Rattle.picture.specs.Pictures.{Picture, places}
 use Rattle.lists.specs.Blocks.{UntouchedOutside}
 use Rattle.tree_laws.proofs.Chains.{NextOfValue}
 use Rattle.tree_laws.proofs.Walks.{WalkReady}
 use Rattle.tree_laws.proofs.ListWalks.{ListFrom}
-use Rattle.tree_laws.proofs.Mapped.{Between, between-list, list-ready, name-ready, name-map, map-from-ready}
+use Rattle.tree_laws.proofs.Mapped.{Between, between-ready, between-list, list-ready, name-ready, name-map, map-from-ready}
 use Rattle.tree.proofs.levels.level.Goals as goal
 
 -- the pixels have joined: the list of the new roots begins
@@ -16,6 +13,9 @@ begun :
     {p : Picture} {k c x : ℕ} {l w m v : List ℕ} → Between p k c l w × NextOfValue p k 0 x × (k < 256) →
     WalkReady p k (places p) m v × UntouchedOutside (places p) (places p) w v → ListFrom p k c c x m v
 begun b e = let low = b.2 in between-list _ _ _ _ _ _ _ _ (omega arith) b.0 b.1 e.0 e.1
+
+pub join_pixels-requires : goal.join_pixels-requires
+join_pixels-requires c = between-ready _ _ _ _ _ _ c.requires.0 c.requires.1
 
 pub list_level-d-requires : goal.list_level-d-requires
 list_level-d-requires c = list-ready (begun c.requires c.join_pixels.ensures)

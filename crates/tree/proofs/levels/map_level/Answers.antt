@@ -1,6 +1,6 @@
 -- `tree::levels::map_level` meets its contract.
 use Rattle.tree_laws.proofs.Mapped.{map-ready, map-parents, map-bounds, map_more, map-less, map_whole}
-use native.Mathlib.Omega.{arith}
+use Rattle.std.proofs.Common.{arith}
 use Rattle.tree.proofs.levels.map_level.Goals as goal
 
 pub map_one-x-requires : goal.map_one-x-requires

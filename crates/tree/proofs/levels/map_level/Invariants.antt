@@ -1,7 +1,6 @@
 -- `tree::levels::map_level` meets its contract.
 use Rattle.tree_laws.proofs.Mapped.{MapWalk}
-use lib.ListN.{length}
-use Prim.Native.Nat.{◌-◌}
+use Rattle.std.proofs.Common.{length, ◌-◌}
 use Rattle.tree.proofs.levels.map_level.Given as goal
 
 abbrev pub invariant-loop-x : goal.invariant-loop-x
