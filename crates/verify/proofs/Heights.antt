@@ -1,40 +1,42 @@
 -- A height of the check, all heights, and their start.
-use mathlib.Core.Path.{◌≡◌, refl, sym, subst, ◌∙◌}
+use mathlib.Core.Path.{◌≡◌, refl, sym, subst}
 use mathlib.Core.Bool.{Bool, true, false}
-use mathlib.Core.Logic.{inl, by_cases, ◌≢◌}
+use mathlib.Core.Logic.{inl}
 use mathlib.Core.List.{List}
 use Prim.Native.Nat.{ℕ, ◌+◌, ◌-◌, ◌≤◌, ◌<◌}
 use native.Mathlib.Numerals.{add-one}
-use native.Mathlib.Decide.{dec_lt}
 use native.Mathlib.Omega.{arith}
+use lib.Dec.{eqb}
+use Rattle.std.proofs.Common.{Option, Some, None}
+use Rattle.std.specs.Option.{option_eq}
 use lib.ListN.{length, get_or}
-use Rattle.lists.specs.Blocks.{Filled}
-use Rattle.lists.proofs.Blocks.{overwritten-entry}
+use borrow.Author.Tests.{eqb-true, eqb-false}
 use Rattle.picture.specs.Pictures.{Picture, places, is_picture}
 use Rattle.topology.proofs.Accepted.{accepted-is, places-bound}
 use Rattle.topology.proofs.Nodes.{nodes-few}
 use Rattle.topology.proofs.Descent.{nodes-some}
 use Rattle.tree_laws.proofs.Counts.{so-none}
 use Rattle.tree_laws.proofs.Classes.{classes-start}
-use Rattle.tree_laws.proofs.Checks.{Differs, Checking}
+use Rattle.tree_laws.proofs.Checks.{Checking}
 use Rattle.tree_laws.proofs.Decided.{yes, never, decided-yes, decided-never}
+use Rattle.lent_tree.specs.Lent.{HoldsTree}
 use Rattle.verify.specs.Checked.{IsTreeAnswer}
 use Rattle.verify_nodes.specs.NodeChecks.{SameHeights, Counted, Matched, CountReady, NodesChecked, LentMapReady, MapChecked}
 use Rattle.verify.specs.Heights.{ListsLong, Verified, LevelChecked}
 use Rattle.verify_nodes.proofs.Counted.{counted_start}
 use Rattle.verify_nodes.proofs.Matched.{matched-start}
-use Rattle.verify.proofs.Verified.{differs-tree, verified-next, verified-tree, tree-ends}
+use Rattle.verify.proofs.Verified.{verified-next, verified-tree, tree-ends}
 
 module _ (p : Picture) (count : ℕ) (hs fs ss m : List ℕ) where
-  pub verified-start : (n : ℕ) (o l : List ℕ) → is_picture p ≡ true → length o ≡ places p → Filled 0 n 65535 o l → n ≡ places p → Verified p 0 0 count l hs fs ss m
-  verified-start n o l ok size f e =
-      let same = f.kept.size in
+  pub verified-start :
+      (l : List ℕ) → is_picture p ≡ true → length l ≡ places p → ((y : ℕ) → y < length l → get_or l y 0 ≡ 65535) → Verified p 0 0 count l hs fs ss m
+  verified-start l ok size f =
       record {
         checking =
             record {
               ok = accepted-is p ok;
               fa = λ j. 65535;
-              classes = classes-start p l (λ j. 65535) (same ∙ size) (λ y h. overwritten-entry f y (omega arith));
+              classes = classes-start p l (λ j. 65535) size (λ y h. f y (omega arith));
               agree = record { same = λ j h. inl refl };
             };
         number = sym (so-none p);
@@ -45,10 +47,6 @@ module _ (p : Picture) (count : ℕ) (hs fs ss m : List ℕ) where
       }
 
   module _ (k c : ℕ) (l : List ℕ) (v : Verified p k c count l hs fs ss m) where
-    pub level-differs : (z : ℕ) (o : List ℕ) → z ≡ count + 1 → Differs p fs m → LevelChecked p k count o hs fs ss m z
-    level-differs z o e d =
-        record { yes = λ h. absurd (omega arith); never = λ h t. differs-tree p count hs fs ss m d t }
-
     module _ (low : k < 256) (o : List ℕ) (checked : Checking p k (places p) o fs m) where
       counted : Counted p k c c o fs ss m
       counted = counted_start p k c o fs ss m (omega arith) v.number checked
@@ -57,9 +55,8 @@ module _ (p : Picture) (count : ℕ) (hs fs ss m : List ℕ) where
       level-count = record { p = p; fs = fs; m = m; is = refl; counted = counted }
 
       module _ (d : ℕ) (run : SameHeights k c d count hs) (u : List ℕ) (a : Bool) (n : NodesChecked p.pixels k c d o ss u a) where
-        pub level-nodes : (z : ℕ) → z ≡ count + 1 → a ≡ false → LevelChecked p k count u hs fs ss m z
-        level-nodes z e g =
-            record { yes = λ h. absurd (omega arith); never = λ h t. decided-never g n p fs m refl counted count hs run t }
+        pub level-nodes : a ≡ false → HoldsTree p count hs fs ss m → ⊥
+        level-nodes g t = decided-never g n p fs m refl counted count hs run t
 
         module _ (g : a ≡ true) where
           matched : Matched p k c d 0 u fs ss m
@@ -72,23 +69,14 @@ module _ (p : Picture) (count : ℕ) (hs fs ss m : List ℕ) where
           level-same = matched.counted.cells.size
 
           module _ (w : List ℕ) (i : Bool) (t : MapChecked p.pixels k 0 (length u) u m w i) where
-            pub level-mapped : (z : ℕ) → i ≡ false → z ≡ count + 1 → LevelChecked p k count w hs fs ss m z
-            level-mapped z h e =
-                record {
-                  yes = λ r. absurd (omega arith);
-                  never = λ r tree. decided-never h t p c d fs ss refl matched count hs run tree;
-                }
+            pub level-mapped : i ≡ false → HoldsTree p count hs fs ss m → ⊥
+            level-mapped h tree = decided-never h t p c d fs ss refl matched count hs run tree
 
-            pub level-done : i ≡ true → LevelChecked p k count w hs fs ss m d
+            pub level-done : i ≡ true → Verified p (k + 1) d count w hs fs ss m
             level-done h =
-                record {
-                  yes =
-                      λ r.
-                      subst (λ (j : ℕ). Verified p j d count w hs fs ss m) (sym (add-one k))
-                      (verified-next p k c d count l w hs fs ss m v run (length u) (decided-yes h t p c d fs ss refl matched)
-                      (let z = level-same in omega arith));
-                  never = λ r. absurd (let z = run.most in omega arith);
-                }
+                rw add-one
+                (verified-next p k c d count l w hs fs ss m v run (length u) (decided-yes h t p c d fs ss refl matched)
+                (let z = level-same in omega arith))
 
 -- the answer
 module _ (p : Picture) (count : ℕ) (hs fs ss m : List ℕ) where
@@ -103,24 +91,19 @@ module _ (p : Picture) (count : ℕ) (hs fs ss m : List ℕ) where
   pub answer-many : places p < count → IsTreeAnswer p count hs fs ss m false
   answer-many h = never (λ t. let total = t.total in let few = nodes-few p in omega arith)
 
-  module _ (l : List ℕ) (c : ℕ) (s : LevelChecked p 255 count l hs fs ss m c) where
-    pub answer-count : c ≢ count → IsTreeAnswer p count hs fs ss m false
-    answer-count d =
-        never
-        (λ t.
-        by_cases (dec_lt count c)
-        (λ h. s.never h t)
-        (λ h. d (tree-ends p c count l hs fs ss m (s.yes (omega arith)) t).0))
+  -- the number of nodes is compared with the count, then the last node's father
+  module _ (l : List ℕ) where
+    pub answer-other : (answer : Option ℕ) → LevelChecked p 255 count l hs fs ss m answer → option_eq eqb answer (Some count) ≡ false → IsTreeAnswer p count hs fs ss m false
+    answer-other None v e = never v
+    answer-other (Some c) v e = never (λ t. eqb-false c count e (tree-ends p c count l hs fs ss m v t).0)
 
-    module _ (e : c ≡ count) where
-      verified : Verified p 256 count count l hs fs ss m
-      verified = subst (λ (z : ℕ). Verified p 256 z count l hs fs ss m) e (s.yes (omega arith))
+    pub answer-same : (answer : Option ℕ) → LevelChecked p 255 count l hs fs ss m answer → option_eq eqb answer (Some count) ≡ true → Verified p 256 count count l hs fs ss m
+    answer-same None v e = absurd (cc)
+    answer-same (Some c) v e = subst (λ (n : ℕ). Verified p 256 n count l hs fs ss m) (eqb-true c count e) v
 
-      pub answer-father : get_or fs (count - 1) 0 ≢ 65535 → IsTreeAnswer p count hs fs ss m false
-      answer-father d = never (λ t. d (tree-ends p count count l hs fs ss m verified t).1)
-
-      pub answer-tree : get_or fs (count - 1) 0 ≡ 65535 → IsTreeAnswer p count hs fs ss m true
-      answer-tree q = yes (verified-tree p count l hs fs ss m verified q)
+    pub answer-father : Verified p 256 count count l hs fs ss m → (b : Bool) → eqb (get_or fs (count - 1) 0) 65535 ≡ b → IsTreeAnswer p count hs fs ss m b
+    answer-father v true e = yes (verified-tree p count l hs fs ss m v (eqb-true (get_or fs (count - 1) 0) 65535 e))
+    answer-father v false e = never (λ t. eqb-false (get_or fs (count - 1) 0) 65535 e (tree-ends p count count l hs fs ss m v t).1)
 
 pub lists-long-at : (n : ℕ) (xs hs fs ss m o l : List ℕ) → length l ≡ length o → ListsLong n xs hs fs ss m o → ListsLong n xs hs fs ss m l
 lists-long-at n xs hs fs ss m o l e s =
@@ -149,14 +132,4 @@ lists-long-of p n hs fs ss m l ok e h a b c d =
       fathers = omega arith;
       firsts = omega arith;
       map = omega arith;
-    }
-
-pub level-stop : (p : Picture) (k count : ℕ) (l hs fs ss m : List ℕ) (d : ℕ) → LevelChecked p k count l hs fs ss m d → count < d → LevelChecked p 255 count l hs fs ss m d
-level-stop p k count l hs fs ss m d s h = record { yes = λ g. absurd (omega arith); never = s.never }
-
-pub level_all : (p : Picture) (k c count : ℕ) (l hs fs ss m : List ℕ) → Verified p k c count l hs fs ss m → k ≡ 256 → LevelChecked p 255 count l hs fs ss m c
-level_all p k c count l hs fs ss m v e =
-    record {
-      yes = λ g. subst (λ (j : ℕ). Verified p j c count l hs fs ss m) e v;
-      never = λ g. absurd (let a = v.most in omega arith);
     }

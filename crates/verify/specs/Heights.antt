@@ -1,6 +1,6 @@
 -- What the heights of the check ask and leave.
 -- p the picture, hs fs ss m the lent heights, fathers, first places and map; l the cells.
-use Rattle.std.specs.Prelude.{◌≡◌, List, ℕ, ◌+◌, ◌≤◌, ◌<◌, length, get_or}
+use Rattle.std.specs.Prelude.{◌≡◌, List, ℕ, ◌+◌, ◌≤◌, ◌<◌, length, get_or, Option, MatchOption}
 use Rattle.picture.specs.Pictures.{Picture, places, value_at}
 use Rattle.picture.specs.Trees.{node_at, map_of}
 use Rattle.lent_tree.specs.Lent.{HoldsTree}
@@ -26,7 +26,7 @@ pub record Verified (p : Picture) (k c count : ℕ) (l hs fs ss m : List ℕ) : 
   pub firsts : (i : ℕ) → i < c → get_or ss i 0 ≡ (node_at p i).first
   pub map : (x : ℕ) → x < places p → value_at p x < k → get_or m x 0 ≡ map_of p x
 
--- after the height k: d nodes, or more than the count if the lists are not the tree
-pub record LevelChecked (p : Picture) (k count : ℕ) (l hs fs ss m : List ℕ) (d : ℕ) : Type 0 where
-  pub yes : d ≤ count → Verified p (k + 1) d count l hs fs ss m
-  pub never : count < d → HoldsTree p count hs fs ss m → ⊥
+-- after the height k: the number of nodes, or none if the lists are not the tree
+abbrev pub LevelChecked : Picture → ℕ → ℕ → List ℕ → List ℕ → List ℕ → List ℕ → List ℕ → Option ℕ → Type 0
+LevelChecked p k count l hs fs ss m answer =
+    MatchOption answer (HoldsTree p count hs fs ss m → ⊥) (λ d. Verified p (k + 1) d count l hs fs ss m)

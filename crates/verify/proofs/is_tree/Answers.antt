@@ -1,38 +1,50 @@
 -- `verify::is_tree` meets its contract: the first n cells are checked with.
-use Rattle.verify.proofs.Heights.{verified-start, lists-long-of, answer-none, answer-many, answer-count, answer-father, answer-tree}
-use Rattle.picture.specs.Pictures.{picture_of}
-use lib.Seq.{length-take-le}
-use mathlib.Core.Path.{refl, ◌∙◌}
-use native.Mathlib.Omega.{arith}
+use Rattle.std.proofs.Common.{arith, rules, refl, sym, ◌∙◌, length, length-take-le}
+use Rattle.geometry.specs.Rasters.{picture}
+use Rattle.topology.proofs.Accepted.{accepted-is}
+use Rattle.verify.proofs.Heights.{verified-start, lists-long-of, answer-none, answer-many, answer-other, answer-same, answer-father}
 use Rattle.verify.proofs.is_tree.Goals as goal
+use Rattle.verify.proofs.is_tree.Goals.{then-tree-eq0-via-then-tree-eq0, then-tree-eq0-via-else-tree-eq0+then-n-tree}
 
-pub returns-then-count-eq0 : goal.returns-then-count-eq0
-returns-then-count-eq0 c = answer-none _ _ _ _ _ _ c.requires.pixels_value c.if-count-eq0.true
+pub returns-then-tree-eq0 : goal.returns-then-tree-eq0
+returns-then-tree-eq0 c =
+    let raster = c.args.raster.now in
+    let size = (accepted-is (picture raster) raster.accepted).size in
+    elim c.then-tree-eq0.branch [
+      | then-tree-eq0-via-then-tree-eq0 w ↦ answer-none (picture raster) _ _ _ _ _ raster.accepted w.if-tree-eq0.true
+      | then-tree-eq0-via-else-tree-eq0+then-n-tree w ↦ answer-many (picture raster) _ _ _ _ _ (omega (arith, w.if-n-tree.true))
+    ]
 
-pub returns-then-n-count : goal.returns-then-n-count
-returns-then-n-count c = answer-many (picture_of c.args.a c.args.w c.args.h c.args.pixels.now) _ _ _ _ _ c.if-n-count.true
+pub slice_bounds-part-end : goal.slice_bounds-part-end
+slice_bounds-part-end c =
+    let raster = c.args.raster.now in
+    omega (arith, (accepted-is (picture raster) raster.accepted).size, c.requires.0)
 
-pub check_levels-c-requires : goal.check_levels-c-requires
-check_levels-c-requires c =
-    let s = c.requires in
-    let room = s.h_in_bounds in
+pub slice_bounds-part-end-2 : goal.slice_bounds-part-end-2
+slice_bounds-part-end-2 c =
+    let raster = c.args.raster.now in
+    sym (length-take-le (length raster.pixels.now) c.args.cells.now (omega (arith, (accepted-is (picture raster) raster.accepted).size, c.requires.0)))
+
+pub check_levels-requires-clause-verified : goal.check_levels-requires-clause-verified
+check_levels-requires-clause-verified c =
+    let raster = c.args.raster.now in
+    let size = (accepted-is (picture raster) raster.accepted).size in
+    let e = length-take-le (length raster.pixels.now) c.args.cells.now (omega (arith, size, c.requires.0)) in
     let f = c.fill.ensures in
-    let e = length-take-le _ _ room.0 in
-    record {
-      verified = verified-start _ _ _ _ _ _ _ _ _ s.pixels_value e f refl;
-      lists_long =
-          lists-long-of (picture_of c.args.a c.args.w c.args.h c.args.pixels.now) _ _ _ _ _ _ s.pixels_value (f.kept.size ∙ e)
-          (omega (arith, f.kept.size, e, c.if-n-count.false)) room.1 room.2 room.3 room.4;
-    }
+    verified-start (picture raster) _ _ _ _ _ _ raster.accepted (omega arith) (search rules)
 
-pub returns-then-c-count : goal.returns-then-c-count
-returns-then-c-count c =
-    answer-count _ _ _ _ _ _ _ _ c.check_levels-c.ensures c.if-c-count.true
+pub check_levels-requires-clause-lists_long : goal.check_levels-requires-clause-lists_long
+check_levels-requires-clause-lists_long c =
+    let raster = c.args.raster.now in
+    let size = (accepted-is (picture raster) raster.accepted).size in
+    let e = length-take-le (length raster.pixels.now) c.args.cells.now (omega (arith, size, c.requires.0)) in
+    let p = c.requires in
+    lists-long-of (picture raster) _ _ _ _ _ _ raster.accepted (omega arith) (omega arith) p.1 p.2 p.3 p.4
 
-pub returns-then-last : goal.returns-then-last
-returns-then-last c =
-    answer-father _ _ _ _ _ _ _ _ c.check_levels-c.ensures c.if-c-count.false c.if-last.true
+pub returns-then-eq : goal.returns-then-eq
+returns-then-eq c =
+    answer-father _ _ _ _ _ _ _ (answer-same _ _ _ _ _ _ _ _ c.check_levels.ensures (sym c.eq.ensures ∙ c.if-eq.true)) _ refl
 
-pub returns : goal.returns
-returns c =
-    answer-tree _ _ _ _ _ _ _ _ c.check_levels-c.ensures c.if-c-count.false c.if-last.false
+pub returns-else-eq : goal.returns-else-eq
+returns-else-eq c =
+    rw c.if-eq.false (answer-other _ _ _ _ _ _ _ _ c.check_levels.ensures (sym c.eq.ensures ∙ c.if-eq.false))
