@@ -1,15 +1,13 @@
 -- The laws of all figures together, and of the places on the line.
 use mathlib.Core.Path.{◌≡◌, refl, sym, ap, ◌∙◌}
 use mathlib.Core.Bool.{true}
-use mathlib.Core.Logic.{inl, inr, ⊎_elim, ◌≢◌}
+use mathlib.Core.Logic.{inl, inr, ⊎_elim}
 use mathlib.Core.List.{List}
 use Prim.Native.Nat.{ℕ, ◌+◌, ◌*◌, ◌≤◌, ◌<◌}
 use native.Mathlib.Nat.{mul-le-mul_left}
-use native.Mathlib.Numerals.{add-one}
 use native.Mathlib.Omega.{arith}
 use lib.Dec.{eqb}
 use lib.ListN.{length, get_or}
-use borrow.Author.Tests.{eq-eqb, ne_eqb}
 use Rattle.lists.specs.Lists.{pick, range, highest, tally}
 use Rattle.picture.specs.Pictures.{Picture, places, is_picture}
 use Rattle.picture.specs.Trees.{nodes, node_at}
@@ -17,8 +15,7 @@ use Rattle.picture.specs.Patches.{patches, patch_at, line_count}
 use Rattle.tree.specs.Arrays.{TreeIn}
 use Rattle.tree.specs.Built.{Built}
 use Rattle.lists.proofs.Tests.{pick-in, pick_out}
-use Rattle.lists.proofs.Lists.{tally-same, range-mem}
-use Rattle.lists.proofs.Positions.{tally-next-in, tally-next-out, tally-bound}
+use Rattle.lists.proofs.Lists.{tally-same, tally-map, by_index, range-mem}
 use Rattle.topology.proofs.Accepted.{Accepted, accepted-is, places-bound}
 use Rattle.topology.proofs.Nodes.{nodes-few, node-is}
 use Rattle.topology.proofs.Fathers.{father-found}
@@ -185,29 +182,14 @@ module _ (p : Picture) (r : ℕ) (work after cells left : List ℕ) (h : is_pict
   pub built-sizes : FiveBlocks (places p) after left
   built-sizes = record { few = z.few; blocks = b.room ∙ z.blocks; beside = b.size ∙ z.beside }
 
--- how many of the first x places have the number 0
-abbrev pub on_line : List ℕ → ℕ → ℕ
-on_line l x = tally (λ y. eqb (get_or l y 0) 0) (range 0 x)
-
-module _ (l : List ℕ) (x : ℕ) where
-  pub line-few : on_line l x ≤ x
-  line-few = tally-bound (λ y. eqb (get_or l y 0) 0) x
-
-  pub line-in : get_or l x 0 ≡ 0 → on_line l (x + 1) ≡ on_line l x + 1
-  line-in e =
-      ap (on_line l) (add-one x) ∙
-      (tally-next-in (λ y. eqb (get_or l y 0) 0) x (eq-eqb (get_or l x 0) 0 e) ∙ sym (add-one (on_line l x)))
-
-  pub line-out : get_or l x 0 ≢ 0 → on_line l (x + 1) ≡ on_line l x
-  line-out d = ap (on_line l) (add-one x) ∙ tally-next-out (λ y. eqb (get_or l y 0) 0) x (ne_eqb (get_or l x 0) 0 d)
-
 -- the places with no patch are those on the line
-pub line-count : (p : Picture) (cells : List ℕ) (r : ℕ) → r ≡ on_line cells (length cells) → PatchMap p cells → r ≡ line_count p
+pub line-count : (p : Picture) (cells : List ℕ) → PatchMap p cells → tally (λ (v : ℕ). eqb v 0) cells ≡ line_count p
 unfolding line_count
-line-count p cells r e m =
-    e ∙
-    (ap (on_line cells) m.size ∙
+line-count p cells m =
+    ap (tally (λ (v : ℕ). eqb v 0)) (sym (by_index 0 cells)) ∙
+    (tally-map (λ (v : ℕ). eqb v 0) (λ (x : ℕ). get_or cells x 0) (range 0 (length cells)) ∙
+    (ap (λ (n : ℕ). tally (λ x. eqb (get_or cells x 0) 0) (range 0 n)) m.size ∙
     tally-same (λ x. eqb (get_or cells x 0) 0) (λ x. eqb (patch_at p x) 0) (range 0 (places p))
     (λ x k.
     let b = range-mem 0 (places p) k in
-    ap (λ (v : ℕ). eqb v 0) (m.patch x (omega arith))))
+    ap (λ (v : ℕ). eqb v 0) (m.patch x (omega arith)))))

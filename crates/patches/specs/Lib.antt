@@ -1,2 +1,3 @@
--- What the cores of the patches promise.
+-- What the cores of the patches promise, and the handbooks.
 pub mod Figures
+pub mod Handbooks

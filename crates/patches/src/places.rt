@@ -1,12 +1,15 @@
 // The patch that a touch belongs to, from the tree, and the places on the line.
-ghost use Rattle.std.specs.Prelude.{◌≡◌, ◌*◌, ◌<◌, eqb};
+ghost use Rattle.std.specs.Prelude.{◌≡◌, ◌<◌, eqb};
 ghost use Rattle.lists.specs.Lists.{pick};
-ghost use Rattle.picture.specs.Pictures.{Picture, picture_of};
+ghost use Rattle.picture.specs.Pictures.{Picture, places};
 ghost use Rattle.picture.specs.Patches.{touched_patch, line_count};
+ghost use Rattle.geometry.specs.Rasters.{picture};
 ghost use Rattle.patch_numbers.specs.Numbers.{FiveBlocks};
 ghost use Rattle.patches.specs.Figures.{TreeInWork, PatchMap};
+ghost use Rattle.patches.specs.Handbooks.{handbook_number};
 
-use cells::wide;
+use crate::handbook::Handbook;
+use geometry::raster::Raster;
 use least_labels::least_label;
 use patch_numbers::{number, patch_at};
 
@@ -17,47 +20,33 @@ const NO_PATCH: u16 = 65535;
 fn patch_or_0(number: u16) -> u16
     ensures { result ≡ pick (eqb number 65535) 0 number }
 {
-    if number == NO_PATCH {
-        return 0;
-    }
-    number
+    if number == NO_PATCH { 0 } else { number }
 }
 
 // The number of the patch that a touch at the place x of a picture belongs to by a handbook, 0 for none; the tree of count nodes is
-// in work. Under handbook 5 it is the least number of the leaves at or below the node of x, inside a patch too (`touched-five`).
+// in work. Under the fifth handbook it is the least number of the leaves at or below the node of x, inside a patch too (`touched-five`).
 pub fn touched_patch(
-    handbook: u32,
-    a: u32,
-    w: u32,
-    h: u32,
-    pixels: &[u8],
+    handbook: Handbook,
+    raster: &Raster,
     count: usize,
     x: usize,
     work: &mut [u16],
     cells: &mut [u16],
 ) -> u16
-    requires { TreeInWork (picture_of a w h pixels.now) count work.old × FiveBlocks (w * h) work.old cells.old × (x < w * h) }
-    ensures { result ≡ touched_patch handbook (picture_of a w h pixels.now) x }
+    requires { TreeInWork (picture raster.now) count work.old × FiveBlocks (places (picture raster.now)) work.old cells.old × (x < places (picture raster.now)) }
+    ensures { result ≡ touched_patch (handbook_number handbook) (picture raster.now) x }
 {
-    let n = w as usize * h as usize;
+    let n = raster.pixels.len();
     number(n, count, NO_PATCH, work, cells);
-    if handbook == 5 {
-        return least_label(n, wide(work[2 * n + x]), work);
+    match handbook {
+        Handbook::Fourth => patch_or_0(patch_at(n, raster.pixels, work, x)),
+        Handbook::Fifth => least_label(n, usize::from(work[2 * n + x]), work),
     }
-    patch_or_0(patch_at(n, pixels, work, x))
 }
 
 // How many places have the number 0, and so are on the line.
 pub fn count_line(numbers: &[u16]) -> usize
     ensures { (p : Picture) → PatchMap p numbers.now → result ≡ line_count p }
 {
-    let mut r = 0;
-    let mut x = 0;
-    while x < numbers.len() {
-        if numbers[x] == 0 {
-            r += 1;
-        }
-        x += 1;
-    }
-    r
+    numbers.iter().filter(|x| **x == 0).count()
 }

@@ -1,10 +1,9 @@
 -- `patches::figures::put_patches` meets its contract. The invariant is Patched.
-use native.Mathlib.Omega.{arith}
-use borrow.Author.Rules.{rules}
+use Rattle.std.proofs.Common.{arith}
 use Rattle.patches.proofs.Depths.{patched-more}
 use Rattle.patches.proofs.figures.put_patches.Goals as goal
 
 pub loop-x-preserved : goal.loop-x-preserved
 loop-x-preserved c =
     let e = c.requires.0.blocks in
-    (search rules, patched-more _ _ _ _ _ _ _ c.loop-x-test.true c.loop-x.invariant.1 _ _ (omega arith) c.put_patch-r.ensures)
+    patched-more _ _ _ _ _ _ _ c.loop-x-test.true c.loop-x.invariant _ _ (omega arith) c.put_patch-r.ensures

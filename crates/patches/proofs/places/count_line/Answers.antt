@@ -1,30 +1,20 @@
--- `patches::places::count_line` meets its contract. The invariant: r is the tally of the places before x.
-use mathlib.Core.Path.{◌≡◌, sym, ap, ◌∙◌}
-use Prim.Native.Nat.{ℕ, ◌+◌}
-use native.Mathlib.Omega.{arith}
-use lib.ListN.{length}
-use borrow.Author.Rules.{rules}
-use Rattle.patches.proofs.FigureLaws.{on_line, line-few, line-in, line-out, line-count}
+-- `patches::places::count_line` meets its contract: the count is the tally over the places.
+use Rattle.std.proofs.Common.{◌≡◌, ◌==◌, Bool, true, false, List, ℕ, ◌+◌, count_by, cond, refl, sym, ◌∙◌, eqb, rules, arith}
+use Rattle.std.proofs.lemmas.List.Recursion.{is_count_by}
+use Rattle.lists.specs.Lists.{pick, tally}
+use Rattle.patches.proofs.FigureLaws.{line-count}
 use Rattle.patches.proofs.places.count_line.Goals as goal
-use Rattle.patches.proofs.places.count_line.Goals.{then-numbers-x-eq0, else-numbers-x-eq0}
 
-pub overflow_add-r : goal.overflow_add-r
-overflow_add-r c = omega (arith, line-few c.args.numbers.now c.loop-x.x)
+one_more : (b : Bool) (n : ℕ) → pick b 1 0 + n ≡ cond b (1 + n) n
+one_more true n = refl
+one_more false n = omega arith
 
-pub loop-x-preserved : goal.loop-x-preserved
-loop-x-preserved c =
-    let l = c.args.numbers.now in
-    let x = c.loop-x.x in
-    let e = c.loop-x.invariant.1 in (
-      search rules,
-      elim c.if-numbers-x-eq0.branch [
-        | then-numbers-x-eq0 w ↦ w.r-is ∙ (ap (λ (r : ℕ). r + 1) e ∙ sym (line-in l x w.if-numbers-x-eq0.true))
-        | else-numbers-x-eq0 w ↦ w.r-is ∙ (e ∙ sym (line-out l x w.if-numbers-x-eq0.false))
-      ],
-    )
+counted : (l : List ℕ) → count_by (λ x. x == 0) l ≡ tally (λ x. eqb x 0) l
+counted l =
+    sym (is_count_by (tally (λ x. eqb x 0)) (λ x. x == 0) refl (λ x xs. one_more (eqb x 0) (tally (λ y. eqb y 0) xs)) l)
 
 pub returns : goal.returns
 returns c =
     let l = c.args.numbers.now in
-    let e : c.loop-x.x ≡ length l = omega arith in
-    λ p m. line-count p l _ (c.loop-x.invariant.1 ∙ ap (on_line l) e) m
+    let count : c.count.result ≡ count_by (λ x. x == 0) l = search rules in
+    λ p m. count ∙ (counted l ∙ line-count p l m)
