@@ -1,27 +1,28 @@
 -- The text for a file that is saved again, by the file's fault, and what the calls behind it leave.
-use mathlib.Core.Path.{◌≡◌, sym, ap, ◌∙◌}
+use mathlib.Core.Path.{◌≡◌, refl, sym, ap, ◌∙◌}
 use mathlib.Core.Logic.{◌≢◌}
 use mathlib.Core.List.{List}
 use Prim.Native.Nat.{ℕ, ◌≤◌, ◌<◌}
 use native.Mathlib.Omega.{arith}
-use lib.ListN.{length, take, drop}
+use lib.ListN.{length, take}
+use Rattle.std.specs.Prelude.{Result, Ok, Err}
 use Rattle.lists.specs.Writing.{Written}
 use Rattle.lists.proofs.Cuts.{from, take_rest}
 use Rattle.lists.proofs.Writings.{front-written}
-use Rattle.p5.specs.Files.{read_file, outcome_number, header_of}
-use Rattle.p5.proofs.Accepted.{accepted, accepted-number}
+use Rattle.refusals.specs.declared.Refusal.{Refusal}
+use Rattle.refusals.proofs.Numbers.{number-some}
+use Rattle.p5.specs.declared.header.Header.{Header}
+use Rattle.p5.specs.Files.{read_file, outcome_number}
 use Rattle.hold_lines.specs.Lines.{refused_line}
-use Rattle.reading.specs.declared.Read.{Read}
-use Rattle.reading.specs.Reads.{ReadSays}
 use Rattle.file_text.specs.FileText.{input_most, file_fault}
 use Rattle.file_text.proofs.FileTexts.{fault-none, fault-read, text-refused, text-print, text-counted}
 use Rattle.saving.specs.ShortFiles.{file_most, saved_again}
-use Rattle.saving.specs.Calls.{SaveSays}
+use Rattle.saving.specs.Calls.{Saved, saved_of, SaveSays}
 use Rattle.saving.specs.Reading.{ReadsAs}
-use Rattle.saving.specs.declared.Saved.{Saved}
 use Rattle.saving.proofs.Contents.{savable, room-given, save-left}
 use Rattle.saving.proofs.Headers.{file-most}
 use Rattle.saving.proofs.Reading.{saved-file, saved-once, saved-shortest, accepted-saves, equal-bytes}
+use Rattle.resaving.specs.Steps.{SavesAgain}
 use Rattle.resaving.specs.Resaved.{resaved_text, ResavedOnce, EqualTexts}
 
 module _ (f : List ℕ) where
@@ -39,18 +40,15 @@ unfolding resaved_text
 resaved-counted count input h g = text-counted _ count input h g
 
 -- what reading answers for an accepted file is its picture
-pub answer-reads :
-    (f : List ℕ) (r : Read) → outcome_number (read_file f) ≡ 0 → ReadSays f r →
-    ReadsAs f r.width r.height r.largest (from r.offset f)
-answer-reads f r e s =
-    let h = header_of (read_file f) in
+pub answer-reads : (f : List ℕ) (h : Header) → read_file f ≡ Ok h → ReadsAs f h.width h.height h.largest (from h.offset f)
+answer-reads f h e =
     record {
       header = h;
-      read = (accepted f h).1 ((accepted-number f).0 e);
-      width = sym s.width;
-      height = sym s.height;
-      largest = sym s.largest;
-      pixels = ap (λ (i : ℕ). drop i f) (sym s.offset) ∙ sym (take_rest r.offset f);
+      read = e;
+      width = refl;
+      height = refl;
+      largest = refl;
+      pixels = sym (take_rest h.offset f);
     }
 
 -- the picture of an accepted file is saved without a refusal where there is room for every file, and its file is written
@@ -62,6 +60,14 @@ module _ (f : List ℕ) (w h m : ℕ) (xs : List ℕ) (a : ReadsAs f w h m xs) w
       let none = room-given w h m xs (length o) c (omega (arith, file-most (savable c))) in
       let left = save-left s (s.number ∙ none) in
       rw (saved-file f w h m xs a) (front-written left.0 left.1)
+
+  pub saved-again :
+      (o o' : List ℕ) (r : Result ℕ Refusal) → file_fault f ≡ 0 → file_most ≤ length o → SaveSays w h m xs o o' (saved_of r) → SavesAgain f o o' r
+  saved-again o o' (Ok n) z room s = record { none = z; written = saved-written o o' (saved_of (Ok n)) room s }
+  saved-again o o' (Err e) z room s =
+      let c = accepted-saves f w h m xs a in
+      let none = room-given w h m xs (length o) c (omega (arith, room, file-most (savable c))) in
+      absurd (omega (arith, number-some e, s.number, none))
 
 pub resaved-once : ResavedOnce
 resaved-once f w h m xs e a =

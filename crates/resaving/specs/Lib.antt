@@ -1,2 +1,3 @@
 -- What the program `resave` prints for a file.
 pub mod Resaved
+pub mod Steps

@@ -7,31 +7,37 @@ ghost use Rattle.hold_lines.specs.Lines.{refused_line};
 ghost use Rattle.file_text.specs.FileText.{input_most};
 ghost use Rattle.saving.specs.ShortFiles.{file_most};
 ghost use Rattle.resaving.specs.Resaved.{resaved_text};
+ghost use Rattle.resaving.specs.Steps.{SavesAgain};
 
 use file_text::read_handed;
 use hold_lines::put_refusal;
-use ranges::lesser;
+use refusals::Refusal;
 use saving::write_file;
+
+// Reads a file and saves its picture again; answers the count of bytes written.
+fn save_again(file: &[u8], out: &mut [u8]) -> Result<u16, Refusal>
+    requires { file_most ≤ length out.old }
+    ensures { SavesAgain file.now out.old out.new result }
+{
+    let header = read_handed(file)?;
+    write_file(
+        header.width,
+        header.height,
+        header.largest,
+        &file[header.offset..],
+        out,
+    )
+}
 
 // Writes the text for a file and answers the position behind it.
 fn put_file_text(file: &[u8], out: &mut [u8]) -> usize
     requires { file_most ≤ length out.old }
     ensures { Written 0 (resaved_text file.now) out.old result out.new }
 {
-    let answer = read_handed(file);
-    let number = answer.number;
-    if number != 0 {
-        return put_refusal(out, number as u32);
+    match save_again(file, out) {
+        Ok(count) => usize::from(count),
+        Err(refusal) => put_refusal(out, u32::from(refusal.number())),
     }
-    let offset = answer.offset;
-    let saved = write_file(
-        answer.width,
-        answer.height,
-        answer.largest,
-        &file[offset..],
-        out,
-    );
-    saved.count as usize
 }
 
 // Writes the text for the first `count` bytes of an input and answers the position behind it.
@@ -41,7 +47,6 @@ pub fn put_text(input: &[u8; 4097], count: usize, out: &mut [u8; 1613]) -> usize
     ensures written { Written 0 (resaved_text (take count input.now)) out.old result out.new }
     ensures input_value { input_most < count → resaved_text (take count input.now) ≡ refused_line 12 }
 {
-    let bytes: &[u8] = input;
-    let length = lesser(count, bytes.len());
-    put_file_text(&bytes[..length], out)
+    let length = count.min(input.len());
+    put_file_text(&input[..length], out)
 }

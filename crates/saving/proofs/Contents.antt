@@ -15,9 +15,8 @@ use Rattle.lists.proofs.Tests.{on_test, pick-in, pick_out}
 use Rattle.faults.specs.PictureFault.{first_of, when}
 use Rattle.faults.proofs.Faults.{first-none, then-first, then-failed, then-none}
 use Rattle.saving.specs.ShortFiles.{file_of}
-use Rattle.saving.specs.Calls.{first_above, content_fault, saving_fault, SaveSays}
+use Rattle.saving.specs.Calls.{first_above, content_fault, saving_fault, Saved, SaveSays}
 use Rattle.saving.specs.Steps.{IsSaved, ContentSays}
-use Rattle.saving.specs.declared.Saved.{Saved}
 
 -- no fault: sides and largest sample in range, as many pixels as places, none above the largest sample
 pub record Savable (w h m : ℕ) (xs : List ℕ) : Type 0 where

@@ -17,9 +17,8 @@ use Rattle.p5.proofs.Leading.{leading_le, leading-next, leading-below, leading-f
 use Rattle.p5.proofs.Shape.{headed-rest}
 use Rattle.lists.proofs.Tests.{and_left, and_right, and_both}
 use Rattle.saving.specs.ShortFiles.{short_header, file_of, saved_again}
-use Rattle.saving.specs.Calls.{first_above, SaveSays}
+use Rattle.saving.specs.Calls.{first_above, Saved, SaveSays}
 use Rattle.saving.specs.Reading.{ReadsAs, SavedReads, CallReads, AcceptedSaves, EqualBytes, SavedOnce, Shortest, CallSaves, CallPlace}
-use Rattle.saving.specs.declared.Saved.{Saved}
 use Rattle.saving.proofs.Numerals.{numeral, numeral-shortest}
 use Rattle.saving.proofs.Contents.{Savable, savable, faultless, saving-none, save-left, save-above}
 use Rattle.saving.proofs.Headers.{file-length, few-digits}

@@ -1,6 +1,6 @@
 -- What saving a picture promises.
 -- w h the sides, m the largest sample, xs the pixels, o output, r the answer; a prime: after the call.
-use Rattle.std.specs.Prelude.{◌≡◌, ◌&&◌, not, List, ℕ, ◌*◌, eqb, ltb, length}
+use Rattle.std.specs.Prelude.{◌≡◌, ◌&&◌, not, List, ℕ, ◌*◌, eqb, ltb, length, Result, Ok, Err}
 use Rattle.lists.specs.Lists.{pick, over}
 use Rattle.picture.specs.Pictures.{side_fits}
 use Rattle.p5.specs.Headers.{leading}
@@ -8,7 +8,19 @@ use Rattle.p5.specs.Files.{largest_fits, at_most}
 use Rattle.faults.specs.PictureFault.{first_of, when}
 use Rattle.answers.specs.Answers.{after_call}
 use Rattle.saving.specs.ShortFiles.{file_of}
-use Rattle.saving.specs.declared.Saved.{Saved}
+use Rattle.refusals.specs.declared.Refusal.{Refusal}
+use Rattle.refusals.specs.Refusals.{number_of, place_of}
+
+-- the number of a refusal, of 6 with the first place above the largest sample; or 0 with the count of bytes written
+pub record Saved : Type 0 where
+  pub number : ℕ
+  pub place : ℕ
+  pub count : ℕ
+
+-- the answer of a call: the number 0 with its count, or a refusal's number and place with the count 0
+abbrev pub saved_of : Result ℕ Refusal → Saved
+saved_of (Ok n) = record { number = 0; place = 0; count = n }
+saved_of (Err e) = record { number = number_of e; place = place_of e; count = 0 }
 
 -- the first place above the largest sample, the number of pixels where there is none
 abbrev pub first_above : ℕ → List ℕ → ℕ

@@ -1,16 +1,14 @@
 -- What is shown of saving: reading yields the picture again, equal pictures yield equal bytes, no file of a picture is shorter, and 6 names the first place.
-use Rattle.std.specs.Prelude.{◌≡◌, List, ℕ, ◌≤◌, ◌<◌, length, get_or, take, drop}
+use Rattle.std.specs.Prelude.{◌≡◌, List, ℕ, ◌≤◌, ◌<◌, length, get_or, take, drop, Ok}
 use Rattle.p5.specs.declared.header.Header.{Header}
-use Rattle.p5.specs.declared.file.Outcome.TheVariants.{Accepted}
 use Rattle.p5.specs.Files.{read_file}
 use Rattle.saving.specs.ShortFiles.{file_of, saved_again}
-use Rattle.saving.specs.Calls.{content_fault, SaveSays}
-use Rattle.saving.specs.declared.Saved.{Saved}
+use Rattle.saving.specs.Calls.{content_fault, Saved, SaveSays}
 
 -- a file is accepted and read as the picture with sides w and h, largest sample m and pixels xs
 pub record ReadsAs (f : List ℕ) (w h m : ℕ) (xs : List ℕ) : Type 0 where
   pub header : Header
-  pub read : read_file f ≡ Accepted header
+  pub read : read_file f ≡ Ok header
   pub width : header.width ≡ w
   pub height : header.height ≡ h
   pub largest : header.largest ≡ m

@@ -1,8 +1,13 @@
--- What the functions inside say: the record of an answer, and the refusal of what is to be saved.
-use Rattle.std.specs.Prelude.{◌≡◌, List, ℕ, eqb}
+-- What the functions inside say: the refusal of what is to be saved, as a record.
+use Rattle.std.specs.Prelude.{◌≡◌, List, ℕ, eqb, Result, Ok, Err}
 use Rattle.lists.specs.Lists.{pick}
-use Rattle.saving.specs.Calls.{first_above, content_fault}
-use Rattle.saving.specs.declared.Saved.{Saved}
+use Rattle.refusals.specs.declared.Refusal.{Refusal}
+use Rattle.saving.specs.Calls.{first_above, content_fault, Saved, saved_of}
+
+-- the record of a refusal, with the number 0 for none
+abbrev pub refusal_of : {A : Type 0} → Result A Refusal → Saved
+refusal_of (Ok a) = saved_of (Ok 0)
+refusal_of (Err e) = saved_of (Err e)
 
 -- the record of an answer
 abbrev pub IsSaved : ℕ → ℕ → ℕ → Saved → Type 0

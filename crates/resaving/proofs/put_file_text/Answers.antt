@@ -1,39 +1,25 @@
--- `resaving::put_file_text` meets its contract: a refused file, an accepted one, for which there is room.
-use mathlib.Core.Path.{◌≡◌, sym, ◌∙◌}
-use mathlib.Core.List.{List}
-use Prim.Native.Nat.{ℕ}
-use native.Mathlib.Omega.{arith}
-use Rattle.p5.proofs.Verdicts.{answer-within}
-use Rattle.reading.specs.declared.Read.{Read}
-use Rattle.file_text.specs.FileText.{file_fault}
-use Rattle.file_text.specs.Handed.{HandedSays}
-use Rattle.file_text.proofs.FileTexts.{fault-none, handed-number, handed-read}
-use Rattle.resaving.proofs.ResavedTexts.{resaved-refused, resaved-file, answer-reads, saved-written}
+-- `resaving::put_file_text` meets its contract: an accepted file, a refused one.
+use Rattle.std.proofs.Common.{◌≡◌, ◌∙◌, List, ℕ}
+use Rattle.lists.specs.Writing.{Written}
+use Rattle.refusals.specs.declared.Refusal.{Refusal}
+use Rattle.refusals.specs.Refusals.{number_of}
+use Rattle.hold_lines.specs.Lines.{refused_line}
+use Rattle.resaving.specs.Resaved.{resaved_text}
+use Rattle.resaving.specs.Steps.{SavedAs, RefusedAs}
+use Rattle.resaving.proofs.ResavedTexts.{resaved-refused, resaved-file}
 use Rattle.resaving.proofs.put_file_text.Goals as goal
 
--- past the refusal the file is accepted
-none : (f : List ℕ) (r : Read) → HandedSays f r → r.number ≡ 0 → file_fault f ≡ 0
-none f r s z = sym (handed-number f r s) ∙ z
+accepted : (f o o' : List ℕ) (n r : ℕ) → SavedAs f o o' n → r ≡ n → Written 0 (resaved_text f) o r o'
+accepted f o o' n r s e = rw (resaved-file f s.none, e) s.written
 
-pub returns-then-number-ne0 : goal.returns-then-number-ne0
-returns-then-number-ne0 c =
-    let fault = handed-number _ _ c.read_handed-answer.ensures in
-    rw (resaved-refused c.args.file.now (λ z. c.if-number-ne0.true (fault ∙ z)), ← fault) c.put_refusal.ensures.0
+refused :
+    (f o o' t : List ℕ) (e : Refusal) (n r : ℕ) → RefusedAs f o o' e → n ≡ number_of e → Written 0 (refused_line n) o' r t →
+    Written 0 (resaved_text f) o r t
+refused f o o' t e n r s same w = rw (resaved-refused f s.some, ← s.number, ← same, ← s.kept) w
 
-pub slice_bounds-write_file-start : goal.slice_bounds-write_file-start
-slice_bounds-write_file-start c =
-    let read = c.read_handed-answer.ensures in
-    omega (arith, (handed-read _ _ read (none _ _ read c.if-number-ne0.false)).offset, answer-within c.args.file.now)
+pub returns-in-Ok : goal.returns-in-Ok
+returns-in-Ok c = accepted _ _ _ _ _ c.in-Ok.ensures c.from.ensures
 
-pub slice_bounds-write_file-count : goal.slice_bounds-write_file-count
-slice_bounds-write_file-count c =
-    let read = c.read_handed-answer.ensures in
-    omega (arith, (handed-read _ _ read (none _ _ read c.if-number-ne0.false)).offset, answer-within c.args.file.now)
-
-pub returns : goal.returns
-returns c =
-    let f = c.args.file.now in
-    let read = c.read_handed-answer.ensures in
-    let e = none _ _ read c.if-number-ne0.false in
-    let reads = answer-reads f c.read_handed-answer.result (fault-none f e).1 (handed-read _ _ read e) in
-    rw (resaved-file f e) (saved-written f _ _ _ _ reads _ _ _ (omega arith) c.write_file-saved.ensures)
+pub returns-in-Err : goal.returns-in-Err
+returns-in-Err c =
+    refused c.args.file.now _ _ _ c.in-Err.refusal _ _ c.in-Err.ensures (c.from-in-Err.ensures ∙ c.number.ensures) c.put_refusal.ensures.0

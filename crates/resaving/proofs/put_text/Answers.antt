@@ -8,6 +8,6 @@ pub returns : goal.returns
 returns c =
     let input = c.args.input.now in
     record {
-      written = rw (take_counted input c.args.count c.lesser-length.result (omega arith)) at c.put_file_text.ensures;
+      written = rw (take_counted input c.args.count c.min-length.result (omega arith)) at c.put_file_text.ensures;
       input_value = λ h. resaved-counted c.args.count input h (omega arith);
     }
