@@ -1,7 +1,7 @@
 -- The figures of patches as lists: each is copied from its block of work, and stands in front of what was lent.
 use mathlib.Core.Path.{◌≡◌, refl, sym, ap, ◌∙◌}
-use mathlib.Core.Logic.{◌≢◌, by_cases}
-use mathlib.Core.List.{List, [], map, map-map}
+use mathlib.Core.Logic.{by_cases}
+use mathlib.Core.List.{List, map, map-map}
 use Prim.Native.Nat.{ℕ, ◌+◌, ◌-◌, ◌*◌, ◌≤◌}
 use native.Mathlib.Omega.{arith}
 use native.Mathlib.Decide.{dec_lt}
@@ -9,17 +9,18 @@ use lib.ListN.{length, get_or, length-map}
 use Rattle.lists.specs.Lists.{over, range}
 use Rattle.lists.specs.Blocks.{block_entry, Copied}
 use Rattle.lists.proofs.Lists.{length-range, get_or-map-range}
-use Rattle.lists.proofs.Tests.{pick-in}
 use Rattle.lists.proofs.Blocks.{overwritten-front}
-use Rattle.picture.specs.Pictures.{Picture}
+use Rattle.picture.specs.Pictures.{Picture, places}
 use Rattle.picture.specs.Patches.{Patch, patches}
 use Rattle.patch_records.specs.declared.Patch.{Patch as PatchRecord}
 use Rattle.patch_records.specs.Records.{record_at, records}
 use Rattle.patch_lists.specs.PatchLists.{record_of}
-use Rattle.patch_lists.specs.Steps.{Gathered}
-use Rattle.answers.specs.Answers.{Answer}
-use Rattle.answers.specs.Answers.{work_after, cleared}
-use Rattle.answers.proofs.Calls.{refused-left, written-left}
+use Rattle.patch_lists.specs.Steps.{Figured}
+use Rattle.std.proofs.Common.{Ok, Err}
+use Rattle.refusals.specs.declared.Refusal.{Refusal}
+use Rattle.refusals.specs.Refusals.{number_of}
+use Rattle.answers.specs.Answers.{answer_of, cleared}
+use Rattle.answers.proofs.Calls.{refused-left, written-left, work-refused, work-done}
 use Rattle.figure_lists.specs.Figures.{shortest, figures_fault, figures_after, FiguresSay}
 use Rattle.figure_lists.specs.Steps.{Room}
 
@@ -58,66 +59,64 @@ module _ (n : ℕ) (figures : List ℕ) (i : ℕ) where
   unfolding record_at
   height-stands = refl
 
--- a list that is as it was after a refusal, or has the figures of the patches in front
-module _ {p : Picture} (zs hs ds cs rs : List ℕ) {q q' : List ℕ} {r : Answer} (g : Gathered p (shortest zs hs ds cs rs) q q' r) where
-  -- every list has room for as many entries as the answer says
-  pub room : (z : r.number ≡ 0) → Room (length p.pixels) r.value q' zs hs ds cs rs
-  room z =
-      let f = g.fits in
+-- the lists of a call: p the picture
+module _ (p : Picture) (zs hs ds cs rs q : List ℕ) where
+  abbrev fault : ℕ
+  fault = figures_fault p zs hs ds cs rs q
+
+  -- a refusal leaves every list as it was
+  pub refused-lists : (e : Refusal) → number_of e ≡ fault → FiguresSay p zs zs hs hs ds ds cs cs rs rs q q (answer_of (Err e))
+  refused-lists e n =
       record {
-        blocks =
-            by_cases (dec_lt 0 r.value)
-            (λ u. omega (arith, (g.entries.entry (r.value - 1) (omega arith)).last))
-            (λ u. omega (arith, (g.enough z).1));
-        sizes = omega arith;
-        heights = omega arith;
-        depths = omega arith;
-        columns = omega arith;
-        rows = omega arith;
+        call = work-refused fault (length (patches p)) p q e n;
+        sizes = refused-left fault e n _ zs;
+        heights = refused-left fault e n _ hs;
+        depths = refused-left fault e n _ ds;
+        columns = refused-left fault e n _ cs;
+        rows = refused-left fault e n _ rs;
       }
 
-  pub refused-lists : r.number ≢ 0 → FiguresSay p zs zs hs hs ds ds cs cs rs rs q q' r
-  refused-lists d =
-      let fault = figures_fault p zs hs ds cs rs q in
-      let e = g.answer.number in
-      record {
-        call = record { answer = g.answer; work = refused-left r.number r.number refl d _ q' ∙ (g.left ∙ ap (λ (k : ℕ). work_after k p q) e) };
-        sizes = refused-left fault r.number e d _ zs;
-        heights = refused-left fault r.number e d _ hs;
-        depths = refused-left fault r.number e d _ ds;
-        columns = refused-left fault r.number e d _ cs;
-        rows = refused-left fault r.number e d _ rs;
-      }
-
-  module _ (z : r.number ≡ 0) where
-    -- the figures of the records are those of the patches
-    figures-left :
-        (figure : PatchRecord → ℕ) (old new : List ℕ) → new ≡ over (map figure (records (length p.pixels) q' r.value)) old →
-        new ≡ figures_after (figures_fault p zs hs ds cs rs q) p (λ x. figure (record_of x)) old
-    figures-left figure old new w =
-        let fault = figures_fault p zs hs ds cs rs q in
-        w ∙
-        (ap (λ (l : List PatchRecord). over (map figure l) old) (g.records ∙ pick-in r.number 0 (map record_of (patches p)) [] z) ∙
-        (ap (λ (l : List ℕ). over l old) (map-map figure record_of (patches p)) ∙
-        written-left fault (over (map (λ (x : Patch). figure (record_of x)) (patches p)) old) old (sym g.answer.number ∙ z)))
-
-    pub listed :
-        {zs' hs' ds' cs' rs' q'' : List ℕ} →
-        let n = length p.pixels in
-        let figures : (PatchRecord → ℕ) → List ℕ = λ figure. map figure (records n q' r.value) in
-        zs' ≡ over (figures (λ x. x.size)) zs → hs' ≡ over (figures (λ x. x.height)) hs → ds' ≡ over (figures (λ x. x.depth)) ds →
-        cs' ≡ over (figures (λ x. x.columns)) cs → rs' ≡ over (figures (λ x. x.rows)) rs → q'' ≡ cleared n q' →
-        FiguresSay p zs zs' hs hs' ds ds' cs cs' rs rs' q q'' r
-    listed {zs'} {hs'} {ds'} {cs'} {rs'} a b c d e v =
+  -- else the figures of count patches are left in work
+  module _ (q' : List ℕ) (count : ℕ) (g : Figured p q q' count) where
+    -- every list has room for as many entries as there are patches
+    pub room : count ≤ shortest zs hs ds cs rs → 4 * length p.pixels ≤ length q' → Room (length p.pixels) count q' zs hs ds cs rs
+    room fits long =
         record {
-          call =
-              record {
-                answer = g.answer;
-                work = v ∙ (written-left r.number (cleared (length p.pixels) q') q' z ∙ (g.left ∙ ap (λ (k : ℕ). work_after k p q) g.answer.number));
-              };
-          sizes = figures-left (λ x. x.size) zs zs' a;
-          heights = figures-left (λ x. x.height) hs hs' b;
-          depths = figures-left (λ x. x.depth) ds ds' c;
-          columns = figures-left (λ x. x.columns) cs cs' d;
-          rows = figures-left (λ x. x.rows) rs rs' e;
+          blocks =
+              by_cases (dec_lt 0 count)
+              (λ u. omega (arith, (g.entries.entry (count - 1) (omega arith)).last))
+              (λ u. omega arith);
+          sizes = omega arith;
+          heights = omega arith;
+          depths = omega arith;
+          columns = omega arith;
+          rows = omega arith;
         }
+
+    module _ (z : fault ≡ 0) where
+      -- the figures of the records are those of the patches
+      figures-left :
+          (figure : PatchRecord → ℕ) (old new : List ℕ) → new ≡ over (map figure (records (length p.pixels) q' count)) old →
+          new ≡ figures_after fault p (λ x. figure (record_of x)) old
+      figures-left figure old new w =
+          w ∙
+          (ap (λ (l : List PatchRecord). over (map figure l) old) g.records ∙
+          (ap (λ (l : List ℕ). over l old) (map-map figure record_of (patches p)) ∙
+          written-left fault (over (map (λ (x : Patch). figure (record_of x)) (patches p)) old) old z))
+
+      pub listed :
+          {zs' hs' ds' cs' rs' q'' : List ℕ} → length p.pixels ≡ places p →
+          let n = length p.pixels in
+          let figures : (PatchRecord → ℕ) → List ℕ = λ figure. map figure (records n q' count) in
+          zs' ≡ over (figures (λ x. x.size)) zs → hs' ≡ over (figures (λ x. x.height)) hs → ds' ≡ over (figures (λ x. x.depth)) ds →
+          cs' ≡ over (figures (λ x. x.columns)) cs → rs' ≡ over (figures (λ x. x.rows)) rs → q'' ≡ cleared n q' →
+          FiguresSay p zs zs' hs hs' ds ds' cs cs' rs rs' q q'' (answer_of (Ok count))
+      listed {zs'} {hs'} {ds'} {cs'} {rs'} size a b c d e v =
+          record {
+            call = work-done fault (length (patches p)) count (length p.pixels) p q q' _ z g.count size g.rest v;
+            sizes = figures-left (λ x. x.size) zs zs' a;
+            heights = figures-left (λ x. x.height) hs hs' b;
+            depths = figures-left (λ x. x.depth) ds ds' c;
+            columns = figures-left (λ x. x.columns) cs cs' d;
+            rows = figures-left (λ x. x.rows) rs rs' e;
+          }

@@ -1,8 +1,7 @@
 -- The laws of the call that lists the patches: its fault, the records read off the figures, and what the call leaves.
 use mathlib.Core.Path.{◌≡◌, refl, sym, ap, subst, ◌∙◌}
 use mathlib.Core.Bool.{true}
-use mathlib.Core.Logic.{◌≢◌}
-use mathlib.Core.List.{List, [], ◌++◌, map}
+use mathlib.Core.List.{List, ◌++◌, map}
 use Prim.Native.Nat.{ℕ, ◌+◌, ◌*◌, ◌≤◌, ◌<◌}
 use native.Mathlib.Numerals.{add-one}
 use native.Mathlib.Omega.{arith}
@@ -14,20 +13,17 @@ use Rattle.lists.specs.Lists.{range}
 use Rattle.picture.specs.Pictures.{Picture, places, is_picture}
 use Rattle.faults.specs.PictureFault.{first_of, when}
 use Rattle.picture.specs.Patches.{patches}
-use Rattle.lists.proofs.Tests.{pick_out}
 use Rattle.lists.proofs.Lists.{length-range, get_or-map-range}
 use Rattle.topology.proofs.Accepted.{Accepted, accepted-is, pixels-few}
 use Rattle.topology.proofs.PatchSums.{count-few, patch-number}
 use Rattle.topology.proofs.PatchBounds.{patches-few, height-fits, depth-fits}
 use Rattle.patches.specs.Figures.{no_patch, Figures}
 use Rattle.patch_records.specs.Records.{Entry, Entries, record_at, records}
-use Rattle.answers.specs.Answers.{Answer}
 use Rattle.faults.specs.Faults.{work_fault_of}
-use Rattle.answers.specs.Steps.{IsRefusal, IsValue}
 use Rattle.patch_lists.specs.PatchLists.{list_fault, record_of}
-use Rattle.patch_lists.specs.Steps.{Figured, Gathered}
+use Rattle.patch_lists.specs.Steps.{Figured}
 use Rattle.faults.proofs.Faults.{then-none}
-use Rattle.answers.proofs.Calls.{refused-answer, refused-left, accepted-answer, cleared-left, lent_length, behind-lent}
+use Rattle.answers.proofs.Calls.{lent_length, behind-lent}
 
 -- the fault, after that of the picture and of work
 module _ (p : Picture) (room work : ℕ) where
@@ -109,31 +105,3 @@ module _ (p : Picture) (h : is_picture p ≡ true) where
           records = subst (λ (n : ℕ). records n after r ≡ map record_of (patches p)) (sym ok.size) records-are;
           rest = behind-lent (5 * length p.pixels) (5 * length p.pixels) ys q (let l = lent_length (5 * length p.pixels) q room in let e = ok.size in omega (arith, long, l, e)) (omega arith) room;
         }
-
--- the answer of a refusal, and that of an accepted call
-module _ (p : Picture) (room : ℕ) (q : List ℕ) where
-  pub gathered-refused : (g : ℕ) (r : Answer) → g ≡ list_fault p room (length q) → g ≢ 0 → IsRefusal g r → Gathered p room q q r
-  gathered-refused g r e d w =
-      subst (λ (s : Answer). Gathered p room q q s) (sym w)
-      (record {
-        answer = refused-answer (list_fault p room (length q)) g e d (length (patches p)) _ refl;
-        fits = omega arith;
-        entries = record { entry = λ i b. absurd (omega arith) };
-        records = sym (pick_out g 0 (map record_of (patches p)) [] d);
-        enough = λ z. absurd (d z);
-        left = sym (refused-left g g refl d _ q) ∙ refused-left g g refl d _ q;
-      })
-
-  pub gathered-accepted :
-      (q' : List ℕ) (c : ℕ) (r : Answer) → list_fault p room (length q) ≡ 0 → is_picture p ≡ true →
-      5 * length p.pixels ≤ length q' → Figured p q q' c → IsValue c r → Gathered p room q q' r
-  gathered-accepted q' c r z h long f w =
-      subst (λ (s : Answer). Gathered p room q q' s) (sym w)
-      (record {
-        answer = accepted-answer (list_fault p room (length q)) (length (patches p)) c _ z f.count refl;
-        fits = let b = (list-enough p room (length q) z).1 in let e = f.count in omega (arith, b, e);
-        entries = f.entries;
-        records = f.records;
-        enough = λ _. (pixels-few p h, long);
-        left = cleared-left 0 (length p.pixels) p q q' _ refl (ok p h).size f.rest refl;
-      })

@@ -64,6 +64,7 @@ pub fn gather(
 ) -> Result<usize, Refusal>
     ensures fault { fault_of result ≡ list_fault (picture_of adjacency width height pixels.now) records (length work.old) }
     ensures figured { IfOk result (λ count. Figured (picture_of adjacency width height pixels.now) work.old work.new count) }
+    ensures room { IfOk result (λ count. (count ≤ records) × (length pixels.now ≤ 1600) × (5 * length pixels.now ≤ length work.old)) }
     ensures kept { OnErr result (work.new ≡ work.old) }
 {
     // one array for the count and the figures: two would not fit the controller

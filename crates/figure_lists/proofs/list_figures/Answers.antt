@@ -1,11 +1,22 @@
 -- `figure_lists::list_figures` meets its contract: a refusal leaves all as it was; else each list has its figures in front, and work is cleared.
-use Rattle.figure_lists.proofs.Handed.{listed}
+use Rattle.std.proofs.Common.{sym, arith}
+use Rattle.picture.specs.Pictures.{Picture, picture_of}
+use Rattle.faults.proofs.Faults.{faultless}
+use Rattle.patch_lists.proofs.PatchLists.{list-enough}
+use Rattle.figure_lists.proofs.Handed.{room, listed}
 use Rattle.figure_lists.proofs.list_figures.Goals as goal
+
+pub hand_out-requires : goal.hand_out-requires
+hand_out-requires c =
+    let lends = c.in_ok-count.ensures in
+    let fits = rw (c.least-shortest.ensures, c.min.ensures) at lends.room.0 in
+    room _ _ _ _ _ _ c.args.work.now _ _ lends.figured fits (omega (arith, lends.room.2, c.gather.auto.work))
 
 pub returns : goal.returns
 returns c =
-    -- the room is the length of the shortest list
-    let g = rw (c.least-room.ensures, c.lesser.ensures) at c.gather-answer.ensures in
+    let p : Picture = picture_of c.args.adjacency c.args.width c.args.height c.args.pixels.now in
+    let lends = c.in_ok-count.ensures in
+    let none = sym (rw (c.least-shortest.ensures, c.min.ensures) at lends.fault) in
     let h = c.hand_out.ensures in
-    listed _ _ _ _ _ g c.if-answer-ne0.false h.sizes_after h.heights_after h.depths_after h.columns_after h.rows_after
-    c.clear_work.ensures
+    listed p _ _ _ _ _ _ _ _ lends.figured none (faultless p _ (list-enough p _ _ none).0).size
+    h.sizes_after h.heights_after h.depths_after h.columns_after h.rows_after c.clear_work.ensures
