@@ -1,51 +1,34 @@
 -- `watershed::run::lower_all` meets its contract. The invariant is Running with the watershed unchanged, the measure that of TurnDone.
-use mathlib.Core.Path.{refl, sym, ap, ◌∙◌}
-use mathlib.Core.List.{[]}
-use Prim.Native.Nat.{◌*◌}
-use native.Mathlib.Omega.{arith}
-use lib.Seq.{get_or-drop}
-use Rattle.picture.specs.Pictures.{Picture, picture_of}
+use Rattle.std.proofs.Common.{[], refl, sym, ap, ◌∙◌, arith}
+use Rattle.picture.specs.Pictures.{Picture}
+use Rattle.geometry.specs.Rasters.{on}
 use Rattle.topology.proofs.Accepted.{accepted-is, places-bound, places-some}
-use Rattle.watershed_laws.proofs.Turns.{running-end}
-use Rattle.watershed_laws.proofs.Lending.{start-lent, start_back, size_back}
+use Rattle.watershed_laws.proofs.Turns.{running-start, running-end}
 use Rattle.watershed.proofs.BuiltTree.{tree-holds}
 use Rattle.watershed.proofs.run.lower_all.Goals as goal
 
--- p is the picture of the arguments, frame its frame
 pub build_winners-requires : goal.build_winners-requires
 build_winners-requires c =
-    let p = picture_of c.args.a c.args.w c.args.h c.args.out.now in
-    let frame = picture_of c.args.a c.args.w c.args.h [] in
+    let p = on c.args.grid c.args.out.now in
     let ok = accepted-is p c.requires.0 in
-    (start-lent frame c.args.out.now c.args.work.now c.requires.1, places-some p ok, places-bound p ok, ok.size)
+    rw ok.size (omega (arith, c.split_at_mut-tree.ensures.back_len, c.requires.1, ok.size), places-some p ok, places-bound p ok, refl)
 
-pub bounds-work-e : goal.bounds-work-e
-bounds-work-e c =
-    let p = picture_of c.args.a c.args.w c.args.h c.args.out.now in
-    let frame = picture_of c.args.a c.args.w c.args.h [] in
-    let b = c.build_winners in
-    omega (
-      arith,
-      places-some p (accepted-is p c.requires.0),
-      size_back frame c.args.out.now c.args.work.now b.new.cells c.requires.1 b.ensures.size,
-    )
+pub bounds-cells-1 : goal.bounds-cells-1
+bounds-cells-1 c =
+    let p = on c.args.grid c.args.out.now in
+    let ok = accepted-is p c.requires.0 in
+    omega (arith, c.build_winners.ensures.size, places-some p ok, ok.size)
 
-pub loop-x-init : goal.loop-x-init
-loop-x-init c =
-    let p = picture_of c.args.a c.args.w c.args.h c.args.out.now in
-    let frame = picture_of c.args.a c.args.w c.args.h [] in
-    let b = c.build_winners in
-    let l = c.args.work.now in
-    let tree = tree-holds p l (omega (arith, c.requires.1)) c.requires.2 in (
-      start_back frame c.args.out.now l b.new.cells c.requires.1 (accepted-is p c.requires.0) tree b.ensures,
-      c.wide-x.ensures ∙ sym (get_or-drop (3 * (c.args.w * c.args.h)) _ 1 0),
-      refl,
-      size_back frame c.args.out.now l b.new.cells c.requires.1 b.ensures.size,
-    )
+pub loop-winner-init : goal.loop-winner-init
+loop-winner-init c =
+    let p = on c.args.grid c.args.out.now in
+    let ok = accepted-is p c.requires.0 in
+    let cut = c.split_at_mut-tree.ensures in
+    let holds = tree-holds p _ _ (rw ok.size at cut.front_len) (rw cut.value at c.requires.2) in
+    (running-start (on c.args.grid []) _ _ _ ok holds (rw ok.size at c.build_winners.ensures), refl, refl)
 
 pub returns : goal.returns
 returns c =
-    let frame = picture_of c.args.a c.args.w c.args.h [] in
-    let i = c.loop-x.invariant in
-    let same = sym (running-end frame _ _ _ i.0 (sym i.1 ∙ c.loop-x-test.false)) ∙ i.2 in
+    let i = c.loop-winner.invariant in
+    let same = sym (running-end (on c.args.grid []) _ _ _ i.0 (sym i.1 ∙ c.loop-winner-test.false)) ∙ i.2 in
     ap (λ (p : Picture). p.pixels) same

@@ -1,18 +1,16 @@
 -- `watershed::run::lower_all` meets its contract. The invariant is Running with the watershed unchanged, the measure that of TurnDone.
-use mathlib.Core.Path.{◌≡◌}
-use mathlib.Core.List.{[]}
-use Prim.Native.Nat.{◌*◌}
-use lib.ListN.{length, get_or, take, drop}
-use Rattle.picture.specs.Pictures.{picture_of}
+use Rattle.std.proofs.Common.{◌≡◌, [], get_or}
+use Rattle.picture.specs.Pictures.{places}
 use Rattle.picture.specs.Watersheds.{watershed}
+use Rattle.geometry.specs.Rasters.{on}
 use Rattle.watershed_laws.proofs.Running.{Running, NoPlace, measure}
 use Rattle.watershed.proofs.run.lower_all.Given as goal
 
-abbrev pub invariant-loop-x : goal.invariant-loop-x
-invariant-loop-x l = Running (picture_of l.a l.w l.h []) l.out (take (3 * (l.w * l.h)) l.work) (drop (3 * (l.w * l.h)) l.work) NoPlace ×
-    (l.x ≡ get_or (drop (3 * (l.w * l.h)) l.work) 1 0) ×
-    (watershed (picture_of l.a l.w l.h l.out) ≡ watershed (picture_of l.a l.w l.h l.initial.out)) ×
-    (length l.work ≡ 5 * (l.w * l.h))
+abbrev pub invariant-loop-winner : goal.invariant-loop-winner
+invariant-loop-winner l =
+    Running (on l.grid []) l.out l.tree l.cells NoPlace ×
+    (l.winner ≡ get_or l.cells 1 0) ×
+    (watershed (on l.grid l.out) ≡ watershed (on l.grid l.fn.out))
 
-abbrev pub decreases-loop-x : goal.decreases-loop-x
-decreases-loop-x l = measure (l.w * l.h) l.out (drop (3 * (l.w * l.h)) l.work)
+abbrev pub decreases-loop-winner : goal.decreases-loop-winner
+decreases-loop-winner l = measure (places (on l.grid [])) l.out l.cells
