@@ -1,6 +1,6 @@
 // The heights one after the other: the pixels join, and the classes that have become large are settled.
 ghost use Rattle.std.specs.Prelude.{◌<◌, ◌≤◌, ◌+◌, length};
-ghost use Rattle.picture.specs.Pictures.{picture_of};
+ghost use Rattle.geometry.specs.Rasters.{picture};
 ghost use Rattle.tree_laws.proofs.Forests.{Parents};
 ghost use Rattle.tree_laws.proofs.Chains.{NextOfValue};
 ghost use Rattle.tree_laws.proofs.Buckets.{Heads};
@@ -8,7 +8,7 @@ ghost use Rattle.filling_laws.proofs.FillWalks.{Links};
 ghost use Rattle.filling_laws.proofs.FillSettling.{SettledOne, SettleReady, SettleDone, FillBetween};
 
 use crate::joins::{SETTLED, fill_pixels};
-use cells::wide;
+use geometry::raster::Raster;
 use union_find::{FIRST_NODE, find};
 
 // The class of x is settled at k if it counts s.
@@ -30,46 +30,25 @@ fn settle(work: &[u16], cells: &mut [u16], s: usize, k: usize, head: usize)
     let mut x = head;
     while x < cells.len() {
         settle_one(cells, s, k, x);
-        x = wide(work[2 * cells.len() + x]);
+        x = usize::from(work[2 * cells.len() + x]);
     }
 }
 
 // The height k, whose chain begins at head.
-fn fill_height(
-    a: u32,
-    w: u32,
-    h: u32,
-    pixels: &[u8],
-    work: &[u16],
-    cells: &mut [u16],
-    s: usize,
-    k: usize,
-    head: usize,
-)
-    requires { FillBetween (picture_of a w h pixels.now) s k cells.old × Links (picture_of a w h pixels.now) work.now × NextOfValue (picture_of a w h pixels.now) k 0 head × (k < 256) }
-    ensures { FillBetween (picture_of a w h pixels.now) s (k + 1) cells.new }
+fn fill_height(raster: &Raster, work: &[u16], cells: &mut [u16], s: usize, k: usize, head: usize)
+    requires { FillBetween (picture raster.now) s k cells.old × Links (picture raster.now) work.now × NextOfValue (picture raster.now) k 0 head × (k < 256) }
+    ensures { FillBetween (picture raster.now) s (k + 1) cells.new }
 {
-    fill_pixels(a, w, h, pixels, work, cells, s, k, head);
+    fill_pixels(raster, work, cells, s, k, head);
     settle(work, cells, s, k, head);
 }
 
 // All heights.
-pub fn fill_heights(
-    a: u32,
-    w: u32,
-    h: u32,
-    pixels: &[u8],
-    work: &[u16],
-    cells: &mut [u16],
-    s: usize,
-    heads: &[u16; 256],
-)
-    requires { FillBetween (picture_of a w h pixels.now) s 0 cells.old × Links (picture_of a w h pixels.now) work.now × Heads (picture_of a w h pixels.now) heads.now }
-    ensures { FillBetween (picture_of a w h pixels.now) s 256 cells.new }
+pub fn fill_heights(raster: &Raster, work: &[u16], cells: &mut [u16], s: usize, heads: &[u16; 256])
+    requires { FillBetween (picture raster.now) s 0 cells.old × Links (picture raster.now) work.now × Heads (picture raster.now) heads.now }
+    ensures { FillBetween (picture raster.now) s 256 cells.new }
 {
-    let mut k = 0;
-    while k < 256 {
-        fill_height(a, w, h, pixels, work, cells, s, k, wide(heads[k]));
-        k += 1;
+    for (k, head) in heads.iter().enumerate() {
+        fill_height(raster, work, cells, s, k, usize::from(*head));
     }
 }

@@ -1,12 +1,13 @@
 // The whole filling: the chains of equal values, the heights, the values.
-ghost use Rattle.std.specs.Prelude.{◌≡◌, true, ◌<◌, ◌≤◌, ◌*◌, length};
-ghost use Rattle.picture.specs.Pictures.{is_picture, picture_of};
+ghost use Rattle.std.specs.Prelude.{◌≡◌, ◌<◌, ◌≤◌, ◌*◌, length};
+ghost use Rattle.picture.specs.Pictures.{places};
 ghost use Rattle.picture.specs.Filling.{filled};
+ghost use Rattle.geometry.specs.Rasters.{picture};
 ghost use Rattle.filling_laws.proofs.FillValues.{SettledIn, ValueRead, ValuesWritten};
 
 use crate::heights::fill_heights;
 use crate::joins::SETTLED;
-use cells::fill;
+use geometry::raster::Raster;
 use tree::buckets::{NO_PLACE, chain};
 use union_find::{FIRST_NODE, find};
 
@@ -24,43 +25,32 @@ fn write_values(cells: &mut [u16], out: &mut [u8])
     requires { SettledIn cells.old × (length out.old ≡ length cells.old) }
     ensures { ValuesWritten cells.old out.new }
 {
-    let mut x = 0;
-    while x < out.len() {
-        out[x] = read_value(cells, x);
-        x += 1;
+    for (x, value) in out.iter_mut().enumerate() {
+        *value = read_value(cells, x);
     }
 }
 
-// Fills an accepted picture with work of exactly 4 n cells, n cells for the union-find and n bytes of output.
-fn fill_exactly(
-    a: u32,
-    w: u32,
-    h: u32,
-    pixels: &[u8],
-    s: usize,
-    out: &mut [u8],
-    work: &mut [u16],
-    cells: &mut [u16],
-)
-    requires pixels_value { (is_picture (picture_of a w h pixels.now) ≡ true) × (1 ≤ s) × (s ≤ w * h) }
-    requires out_len { (length out.old ≡ w * h) × (length work.old ≡ 4 * (w * h)) × (length cells.old ≡ w * h) }
-    ensures { out.new ≡ (filled (picture_of a w h pixels.now) s).pixels }
+// Fills a picture with work of exactly 4 n cells, n cells for the union-find and n bytes of output.
+fn fill_exactly(raster: &Raster, s: usize, out: &mut [u8], work: &mut [u16], cells: &mut [u16])
+    requires size { (1 ≤ s) × (s ≤ places (picture raster.now)) }
+    requires out_len { (length out.old ≡ places (picture raster.now)) × (length work.old ≡ 4 * places (picture raster.now)) × (length cells.old ≡ places (picture raster.now)) }
+    ensures { out.new ≡ (filled (picture raster.now) s).pixels }
 {
     let mut heads = [NO_PLACE; 256];
-    chain(pixels, work, cells, &mut heads);
-    fill(cells, 0, cells.len(), FIRST_NODE + 1);
-    fill_heights(a, w, h, pixels, work, cells, s, &heads);
+    chain(raster.pixels, work, cells, &mut heads);
+    cells.fill(FIRST_NODE + 1);
+    fill_heights(raster, work, cells, s, &heads);
     write_values(cells, out);
 }
 
-// Leaves the accepted picture of n pixels, filled with the size s, in the n bytes of out; work has 5 n cells.
-pub fn fill_core(a: u32, w: u32, h: u32, pixels: &[u8], s: usize, out: &mut [u8], work: &mut [u16])
-    requires pixels_value { (is_picture (picture_of a w h pixels.now) ≡ true) × (1 ≤ s) × (s ≤ w * h) }
-    requires out_len { (length out.old ≡ w * h) × (length work.old ≡ 5 * (w * h)) }
-    ensures { out.new ≡ (filled (picture_of a w h pixels.now) s).pixels }
+// Leaves the picture of n pixels, filled with the size s, in the n bytes of out; work has 5 n cells.
+pub fn fill_core(raster: &Raster, s: usize, out: &mut [u8], work: &mut [u16])
+    requires size { (1 ≤ s) × (s ≤ places (picture raster.now)) }
+    requires out_len { (length out.old ≡ places (picture raster.now)) × (length work.old ≡ 5 * places (picture raster.now)) }
+    ensures { out.new ≡ (filled (picture raster.now) s).pixels }
 {
     let mut cells = [0u16; 1600];
-    let n = w as usize * h as usize;
+    let n = raster.pixels.len();
     let room = 4 * n;
-    fill_exactly(a, w, h, pixels, s, out, &mut work[..room], &mut cells[..n]);
+    fill_exactly(raster, s, out, &mut work[..room], &mut cells[..n]);
 }

@@ -1,11 +1,5 @@
 -- The laws of the lowerable test.
-use mathlib.Core.Path.{◌≡◌, sym, subst, ◌∙◌}
-use mathlib.Core.Bool.{Bool, true, false}
-use mathlib.Core.Logic.{◌≢◌}
-use mathlib.Core.List.{List}
-use Prim.Native.Nat.{ℕ, suc, ◌-◌, ◌<◌}
-use native.Mathlib.Omega.{arith}
-use lib.ListN.{length, get_or}
+use Rattle.std.proofs.Common.{◌≡◌, sym, subst, ◌∙◌, Bool, true, false, ◌≢◌, List, ℕ, suc, ◌-◌, ◌<◌, arith, length, get_or}
 use Rattle.picture.specs.Pictures.{Picture, places, value_at, is_picture}
 use Rattle.picture.specs.Labels.{labels}
 use Rattle.picture.specs.Geometry.{neighbours_in}

@@ -1,12 +1,5 @@
 -- The laws of the scan.
-use mathlib.Core.Path.{◌≡◌, subst, ◌∙◌}
-use mathlib.Core.Bool.{true, false}
-use mathlib.Core.Logic.{◌≢◌}
-use mathlib.Core.List.{List}
-use Prim.Native.Nat.{ℕ, ◌+◌, ◌≤◌, ◌<◌}
-use native.Mathlib.Omega.{arith}
-use lib.Dec.{eqb}
-use lib.ListN.{length, get_or}
+use Rattle.std.proofs.Common.{◌≡◌, subst, ◌∙◌, true, false, ◌≢◌, List, ℕ, ◌+◌, ◌≤◌, ◌<◌, arith, eqb, length, get_or}
 use Rattle.picture.specs.Pictures.{Picture, places, is_picture}
 use Rattle.picture.specs.Components.{in_section}
 use Rattle.lists.proofs.Lists.{tally-length}

@@ -1,10 +1,5 @@
 -- The climb along the fathers of a lent tree meets at the nearest common ancestor, whose height decides the pass.
-use mathlib.Core.Path.{◌≡◌, sym, ap, ◌∙◌}
-use mathlib.Core.Bool.{true}
-use mathlib.Core.List.{List}
-use Prim.Native.Nat.{ℕ, ◌≤◌, ◌<◌, max}
-use native.Mathlib.Omega.{arith}
-use lib.ListN.{length, get_or}
+use Rattle.std.proofs.Common.{◌≡◌, sym, ap, ◌∙◌, true, List, ℕ, ◌≤◌, ◌<◌, max, arith, length, get_or}
 use Rattle.picture.specs.Pictures.{Picture, places, value_at, is_picture}
 use Rattle.picture.specs.Passes.{pass}
 use Rattle.picture.specs.Trees.{nodes}

@@ -1,11 +1,7 @@
 -- The heights of a lent tree checked one after the other.
-use mathlib.Core.Path.{◌≡◌, sym, ap, ◌∙◌}
-use mathlib.Core.Logic.{⊎_elim, by_cases}
-use mathlib.Core.List.{List}
-use Prim.Native.Nat.{ℕ, suc, ◌-◌, ◌≤◌, ◌<◌}
+use Rattle.std.proofs.Common.{◌≡◌, sym, ap, ◌∙◌, ⊎_elim, List, ℕ, suc, ◌-◌, ◌≤◌, ◌<◌, arith, length, get_or}
+use mathlib.Core.Logic.{by_cases}
 use native.Mathlib.Decide.{dec_lt}
-use native.Mathlib.Omega.{arith}
-use lib.ListN.{length, get_or}
 use Rattle.picture.specs.Pictures.{Picture, places, value_at}
 use Rattle.picture.specs.Trees.{Node, nodes, node_at, father_of, map_of}
 use Rattle.topology.proofs.Connected.{conn-target}

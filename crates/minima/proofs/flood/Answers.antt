@@ -2,24 +2,24 @@
 use Rattle.std.proofs.Common.{arith}
 use Rattle.picture.proofs.Neighbours.{placed-other}
 use Rattle.geometry.specs.Rasters.{picture}
-use Rattle.topology.proofs.Accepted.{accepted-is}
+use Rattle.geometry.proofs.Listed.{raster-size}
 use Rattle.minima.proofs.Floods.{running-start, running-top, running-turn, running-end}
 use Rattle.minima.proofs.flood.Goals as goal
 
 pub bounds-raster-x : goal.bounds-raster-x
 bounds-raster-x c =
     let raster = c.args.raster.now in
-    omega (arith, (accepted-is (picture raster) raster.accepted).size, c.requires.0.inside)
+    omega (arith, raster-size raster, c.requires.0.inside)
 
 pub bounds-cells-x : goal.bounds-cells-x
 bounds-cells-x c =
     let raster = c.args.raster.now in
-    omega (arith, (accepted-is (picture raster) raster.accepted).size, c.requires.0.inside, c.requires.1.size)
+    omega (arith, raster-size raster, c.requires.0.inside, c.requires.1.size)
 
 pub loop-stack-init : goal.loop-stack-init
 loop-stack-init c =
     let raster = c.args.raster.now in
-    running-start (picture raster) _ _ c.requires.1 (accepted-is (picture raster) raster.accepted).size c.requires.0.inside c.requires.2
+    running-start (picture raster) _ _ c.requires.1 (raster-size raster) c.requires.0.inside c.requires.2
 
 pub spread-stack-requires : goal.spread-stack-requires
 spread-stack-requires c =

@@ -1,7 +1,7 @@
 -- `verify::is_tree` meets its contract: the first n cells are checked with.
 use Rattle.std.proofs.Common.{arith, rules, refl, sym, ◌∙◌, length, length-take-le}
 use Rattle.geometry.specs.Rasters.{picture}
-use Rattle.topology.proofs.Accepted.{accepted-is}
+use Rattle.geometry.proofs.Listed.{raster-size}
 use Rattle.verify.proofs.Heights.{verified-start, lists-long-of, answer-none, answer-many, answer-other, answer-same, answer-father}
 use Rattle.verify.proofs.is_tree.Goals as goal
 use Rattle.verify.proofs.is_tree.Goals.{then-tree-eq0-via-then-tree-eq0, then-tree-eq0-via-else-tree-eq0+then-n-tree}
@@ -9,7 +9,7 @@ use Rattle.verify.proofs.is_tree.Goals.{then-tree-eq0-via-then-tree-eq0, then-tr
 pub returns-then-tree-eq0 : goal.returns-then-tree-eq0
 returns-then-tree-eq0 c =
     let raster = c.args.raster.now in
-    let size = (accepted-is (picture raster) raster.accepted).size in
+    let size = raster-size raster in
     elim c.then-tree-eq0.branch [
       | then-tree-eq0-via-then-tree-eq0 w ↦ answer-none (picture raster) _ _ _ _ _ raster.accepted w.if-tree-eq0.true
       | then-tree-eq0-via-else-tree-eq0+then-n-tree w ↦ answer-many (picture raster) _ _ _ _ _ (omega (arith, w.if-n-tree.true))
@@ -18,17 +18,17 @@ returns-then-tree-eq0 c =
 pub slice_bounds-part-end : goal.slice_bounds-part-end
 slice_bounds-part-end c =
     let raster = c.args.raster.now in
-    omega (arith, (accepted-is (picture raster) raster.accepted).size, c.requires.0)
+    omega (arith, raster-size raster, c.requires.0)
 
 pub slice_bounds-part-end-2 : goal.slice_bounds-part-end-2
 slice_bounds-part-end-2 c =
     let raster = c.args.raster.now in
-    sym (length-take-le (length raster.pixels.now) c.args.cells.now (omega (arith, (accepted-is (picture raster) raster.accepted).size, c.requires.0)))
+    sym (length-take-le (length raster.pixels.now) c.args.cells.now (omega (arith, raster-size raster, c.requires.0)))
 
 pub check_levels-requires-clause-verified : goal.check_levels-requires-clause-verified
 check_levels-requires-clause-verified c =
     let raster = c.args.raster.now in
-    let size = (accepted-is (picture raster) raster.accepted).size in
+    let size = raster-size raster in
     let e = length-take-le (length raster.pixels.now) c.args.cells.now (omega (arith, size, c.requires.0)) in
     let f = c.fill.ensures in
     verified-start (picture raster) _ _ _ _ _ _ raster.accepted (omega arith) (search rules)
@@ -36,7 +36,7 @@ check_levels-requires-clause-verified c =
 pub check_levels-requires-clause-lists_long : goal.check_levels-requires-clause-lists_long
 check_levels-requires-clause-lists_long c =
     let raster = c.args.raster.now in
-    let size = (accepted-is (picture raster) raster.accepted).size in
+    let size = raster-size raster in
     let e = length-take-le (length raster.pixels.now) c.args.cells.now (omega (arith, size, c.requires.0)) in
     let p = c.requires in
     lists-long-of (picture raster) _ _ _ _ _ _ raster.accepted (omega arith) (omega arith) p.1 p.2 p.3 p.4

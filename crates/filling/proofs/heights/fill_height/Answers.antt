@@ -1,5 +1,5 @@
 -- `filling::heights::fill_height` meets its contract: the pixels have joined, then the large classes are settled.
-use native.Mathlib.Omega.{arith}
+use Rattle.std.proofs.Common.{arith}
 use Rattle.filling_laws.proofs.FillSettling.{between-walk, between_next, settling-start}
 use Rattle.filling.proofs.heights.fill_height.Goals as goal
 

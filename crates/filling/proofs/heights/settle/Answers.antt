@@ -3,7 +3,7 @@ use Rattle.filling_laws.proofs.FillSettling.{settle-turn, settle-end}
 use Rattle.filling.proofs.heights.settle.Goals as goal
 
 pub loop-x-preserved : goal.loop-x-preserved
-loop-x-preserved c = settle-turn c.loop-x.invariant c.requires c.loop-x-test.true c.settle_one.ensures c.wide-x.ensures
+loop-x-preserved c = settle-turn c.loop-x.invariant c.requires c.loop-x-test.true c.settle_one.ensures c.from-x.ensures
 
 pub returns : goal.returns
 returns c = settle-end c.loop-x.invariant c.loop-x-test.false

@@ -1,6 +1,5 @@
 -- `filling::heights::settle` meets its contract. The invariant is SettleWalk; the places from x on fall, since a chain rises.
-use Prim.Native.Nat.{◌-◌}
-use lib.ListN.{length}
+use Rattle.std.proofs.Common.{◌-◌, length}
 use Rattle.filling_laws.proofs.FillSettling.{SettleWalk}
 use Rattle.filling.proofs.heights.settle.Given as goal
 

@@ -1,5 +1,5 @@
 -- `filling::heights::settle_one` meets its contract: the class counts s, or it is left.
-use mathlib.Core.Path.{refl}
+use Rattle.std.proofs.Common.{refl}
 use Rattle.filling_laws.proofs.FillSettling.{settled-one-pass, settled-one-set}
 use Rattle.filling.proofs.heights.settle_one.Goals as goal
 

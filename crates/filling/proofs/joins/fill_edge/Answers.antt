@@ -1,5 +1,5 @@
 -- `filling::joins::fill_edge` meets its contract: y comes later, has the same root, is settled, or its class is linked.
-use mathlib.Core.Path.{refl}
+use Rattle.std.proofs.Common.{refl}
 use Rattle.tree_laws.proofs.Decided.{decided-yes, decided-never}
 use Rattle.filling_laws.proofs.FillWalks.{neighbour-seen, fill-roots, fill-done-skip, fill-done-same, fill-done-touched, fill-done-linked}
 use Rattle.filling.proofs.joins.fill_edge.Goals as goal

@@ -1,5 +1,5 @@
 -- `filling::whole::read_value` meets its contract: the root that is found is that of a settled class.
-use native.Mathlib.Omega.{arith}
+use Rattle.std.proofs.Common.{arith}
 use Rattle.filling_laws.proofs.FillValues.{read-bounds, value_read}
 use Rattle.filling.proofs.whole.read_value.Goals as goal
 

@@ -1,6 +1,7 @@
 -- `labels::lowerable::lowerable` meets its contract: the labels are those of the section below, and they agree or not.
 use Rattle.std.proofs.Common.{rules, arith}
 use Rattle.geometry.specs.Rasters.{picture}
+use Rattle.geometry.proofs.Listed.{raster-size}
 use Rattle.topology.proofs.Accepted.{accepted-is, placed}
 use Rattle.labels.proofs.LowerableTest.{labels-small, value_none, lower-end}
 use Rattle.labels.proofs.lowerable.lowerable.Goals as goal
@@ -8,7 +9,7 @@ use Rattle.labels.proofs.lowerable.lowerable.Goals as goal
 pub bounds-raster-x : goal.bounds-raster-x
 bounds-raster-x c =
     let raster = c.args.raster.now in
-    omega (arith, (accepted-is (picture raster) raster.accepted).size)
+    omega (arith, raster-size raster)
 
 pub returns-then-value-eq0 : goal.returns-then-value-eq0
 returns-then-value-eq0 c =

@@ -1,6 +1,7 @@
 -- `labels::scan::label_place` meets its contract: each return is one law of the scan.
 use Rattle.std.proofs.Common.{arith, sym, ◌∙◌}
 use Rattle.geometry.specs.Rasters.{picture}
+use Rattle.geometry.proofs.Listed.{raster-size}
 use Rattle.topology.proofs.Accepted.{accepted-is, placed}
 use Rattle.labels.proofs.Scans.{ready-room, scan-outside, scan-labelled, scan-count, scan-seed, scan-flood}
 use Rattle.labels.proofs.scan.label_place.Goals as goal
@@ -9,7 +10,7 @@ use Rattle.labels.proofs.scan.label_place.Goals.{then-not-in_section-via-then-no
 pub bounds-raster-x : goal.bounds-raster-x
 bounds-raster-x c =
     let raster = c.args.raster.now in
-    omega (arith, (accepted-is (picture raster) raster.accepted).size)
+    omega (arith, raster-size raster)
 
 pub returns-then-not-in_section : goal.returns-then-not-in_section
 returns-then-not-in_section c =

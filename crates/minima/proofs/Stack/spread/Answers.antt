@@ -2,15 +2,14 @@
 use Rattle.std.proofs.Common.{arith, ap, length}
 use Rattle.picture.proofs.Neighbours.{neighbour-at}
 use Rattle.geometry.specs.Rasters.{picture}
-use Rattle.geometry.proofs.Listed.{listed-front}
-use Rattle.topology.proofs.Accepted.{accepted-is}
+use Rattle.geometry.proofs.Listed.{listed-front, raster-size}
 use Rattle.minima.proofs.Floods.{zone-moved-room, spread-next, spread-turn}
 use Rattle.minima.proofs.Stack.spread.Goals as goal
 
 pub bounds-cells-x : goal.bounds-cells-x
 bounds-cells-x c =
     let raster = c.args.raster.now in
-    omega (arith, (accepted-is (picture raster) raster.accepted).size, c.requires.1.sizes.size, c.requires.0.inside)
+    omega (arith, raster-size raster, c.requires.1.sizes.size, c.requires.0.inside)
 
 pub visit-stack-requires : goal.visit-stack-requires
 visit-stack-requires c =
@@ -19,7 +18,7 @@ visit-stack-requires c =
     let below = rw front at c.loop-y-test.true in
     let at = rw front at c.from.ensures in (
       zone-moved-room _ _ _ _ _ _ c.requires.1 c.loop-y.invariant.moved,
-      omega (arith, (accepted-is (picture raster) raster.accepted).size, (neighbour-at (picture raster) c.from-x.result c.loop-y.y-index below).0),
+      omega (arith, raster-size raster, (neighbour-at (picture raster) c.from-x.result c.loop-y.y-index below).0),
     )
 
 pub loop-y-preserved : goal.loop-y-preserved

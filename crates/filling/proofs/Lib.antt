@@ -1,0 +1,2 @@
+-- Laws of the cells that the filling begins with.
+pub mod Begun
