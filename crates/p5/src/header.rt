@@ -6,7 +6,7 @@ use crate::characters::white_at;
 use crate::reader::Reader;
 
 // The numbers of a header, and where the pixels begin.
-#[derive(Clone, Copy, PartialEq, Eq)]
+#[derive(Clone, Copy)]
 pub struct Header {
     pub width: u32,
     pub height: u32,

@@ -3,11 +3,11 @@ ghost use Rattle.std.specs.Prelude.{◌≡◌};
 ghost use Rattle.p5.specs.Headers.{number_at, end_at, from_width};
 ghost use Rattle.p5.specs.Steps.{taken, end_of};
 
-use crate::field::{Number, number_at};
+use crate::field::number_at;
 use crate::header::{Header, header_end};
 
 // A file and a position in it.
-#[derive(Clone, Copy)]
+#[derive(Drop)]
 pub struct Reader<'a> {
     pub file: &'a [u8],
     pub at: usize,

@@ -9,7 +9,9 @@ use borrow.Author.Tests.{eqb-true, eqb-false, eq-eqb, le-ltb, ltb-false}
 use lib.Dec.{eqb, ltb}
 use lib.ListN.{length}
 use Rattle.picture.specs.Pictures.{side_fits}
-use Rattle.p5.specs.Files.{largest_fits}
+use Rattle.p5.specs.Files.{largest_fits, at_most}
+use Rattle.p5.proofs.Leading.{leading_le}
+use Rattle.picture.proofs.Sides.{sides-area}
 use Rattle.lists.specs.Lists.{pick, over}
 use Rattle.lists.proofs.Tests.{on_test, pick-in, pick_out}
 use Rattle.faults.specs.PictureFault.{first_of, when}
@@ -51,14 +53,16 @@ module _ (w h m : ℕ) (xs : List ℕ) where
 
   -- the fault by its cases
   content-cases :
-      (P : ℕ → Type 0) → P 3 → P 4 → P 8 → (first_above m xs ≢ length xs → P 6) → (Savable w h m xs → P 0) → P (content_fault w h m xs)
+      (P : ℕ → Type 0) → P 3 → P 4 → P 8 →
+      (side_fits w && side_fits h ≡ true → length xs ≡ w * h → first_above m xs ≢ length xs → P 6) → (Savable w h m xs → P 0) →
+      P (content_fault w h m xs)
   content-cases P three four eight six none =
       on_test (side_fits w && side_fits h)
       (λ a. on_test (largest_fits m)
       (λ b. on_test (eqb (length xs) (w * h))
       (λ c. on_test (eqb (first_above m xs) (length xs))
       (λ d. subst P (fault-none a b c d) (none record { sides = a; largest = b; count = eqb-true _ _ c; pixels = eqb-true _ _ d }))
-      (λ d. subst P (fault-above a b c d) (six (eqb-false _ _ d))))
+      (λ d. subst P (fault-above a b c d) (six a (eqb-true _ _ c) (eqb-false _ _ d))))
       (λ c. subst P (fault-count a b c) eight))
       (λ b. subst P (fault-largest a b) four))
       (λ a. subst P (fault-sides a) three)
@@ -67,13 +71,21 @@ module _ (w h m : ℕ) (xs : List ℕ) where
   pub above-some : content_fault w h m xs ≡ 6 → first_above m xs ≢ length xs
   above-some =
       content-cases (λ (n : ℕ). n ≡ 6 → first_above m xs ≢ length xs)
-      (λ e. absurd (omega arith)) (λ e. absurd (omega arith)) (λ e. absurd (omega arith)) (λ d _. d) (λ _ e. absurd (omega arith))
+      (λ e. absurd (omega arith)) (λ e. absurd (omega arith)) (λ e. absurd (omega arith)) (λ _ _ d _. d) (λ _ e. absurd (omega arith))
+
+  -- and they are at most 1,600 pixels
+  pub above-few : content_fault w h m xs ≡ 6 → length xs ≤ 1600
+  above-few =
+      content-cases (λ (n : ℕ). n ≡ 6 → length xs ≤ 1600)
+      (λ e. absurd (omega arith)) (λ e. absurd (omega arith)) (λ e. absurd (omega arith))
+      (λ a c _ _. omega (arith, sides-area w h a))
+      (λ _ e. absurd (omega arith))
 
 module _ {w h m : ℕ} {xs : List ℕ} where
   pub savable : content_fault w h m xs ≡ 0 → Savable w h m xs
   savable =
       content-cases w h m xs (λ (n : ℕ). n ≡ 0 → Savable w h m xs)
-      (λ e. absurd (omega arith)) (λ e. absurd (omega arith)) (λ e. absurd (omega arith)) (λ _ e. absurd (omega arith)) (λ s _. s)
+      (λ e. absurd (omega arith)) (λ e. absurd (omega arith)) (λ e. absurd (omega arith)) (λ _ _ _ e. absurd (omega arith)) (λ s _. s)
 
   pub faultless : Savable w h m xs → content_fault w h m xs ≡ 0
   faultless s = sym (fault-none w h m xs s.sides s.largest (eq-eqb _ _ s.count) (eq-eqb _ _ s.pixels))
@@ -182,3 +194,14 @@ module _ {w h m : ℕ} {xs o : List ℕ} where
       let fault = saving_fault w h m xs (length o) in
       let n : fault ≡ 6 = sym s.number ∙ z in
       (s.place ∙ pick-in fault 6 _ _ n, above-some w h m xs (saving-above w h m xs (length o) n))
+
+  -- the place that a call answers fits 16 bits
+  pub save-place : {o' : List ℕ} {r : Saved} → SaveSays w h m xs o o' r → r.place ≤ 1600
+  save-place {r = r} s =
+      let fault = saving_fault w h m xs (length o) in
+      on_test (eqb fault 6)
+      (λ t.
+      let n : fault ≡ 6 = eqb-true fault 6 t in
+      let place : r.place ≡ first_above m xs = s.place ∙ pick-in fault 6 _ _ n in
+      omega (arith, leading_le (at_most m) xs, above-few w h m xs (saving-above w h m xs (length o) n)))
+      (λ t. let place : r.place ≡ 0 = s.place ∙ pick_out fault 6 _ _ (eqb-false fault 6 t) in omega arith)

@@ -1,18 +1,18 @@
 -- Rows in either direction: which row is read, and that one way undoes the other.
-use mathlib.Core.Path.{◌≡◌, sym, ap, ◌∙◌}
+use mathlib.Core.Path.{◌≡◌, refl, sym, ap, ◌∙◌}
 use mathlib.Core.Bool.{Bool, true, false, not}
-use mathlib.Core.List.{List, flat_map}
+use mathlib.Core.List.{List, ◌∷◌, flat_map}
 use Prim.Native.Nat.{ℕ, ◌*◌, ◌<◌}
 use native.Mathlib.Omega.{arith}
 use lib.Dec.{eqb, ltb}
-use lib.ListN.{length}
-use Rattle.lists.specs.Lists.{range, index_from}
+use lib.ListN.{length, get_or}
+use Rattle.lists.specs.Lists.{pick, range, index_from}
 use Rattle.picture.specs.Pictures.{all_bytes}
 use Rattle.lists.proofs.Lists.{range-mem, all-flat_map, flat_map-same, flat_map-map}
 use Rattle.stored_rows.specs.Rows.{row_order, row_at, differences, sums, stored_rows, restored_rows}
-use Rattle.stored_rows.specs.Steps.{position_of, row_at_position, source_row, converted, converted_row, converted_rows}
+use Rattle.stored_rows.specs.Steps.{position_of, row_at_position, source_row, written_byte, converted, converted_from, row_pixels, converted_row, converted_rows}
 use Rattle.stored_rows.specs.Restoring.{Bytes}
-use Rattle.stored_rows.proofs.Differences.{length-differences, length-sums, sums-differences, differences-sums, bytes-differences, bytes-sums}
+use Rattle.stored_rows.proofs.Differences.{length-differences-from, length-differences, length-sums-from, length-sums, differences-zero, sums-zero, difference-at, sum-at, sums-differences, differences-sums, bytes-differences, bytes-sums}
 use Rattle.stored_rows.proofs.Orders.{position-below, row_below, position-row, row-position, order-rows, index-order}
 use Rattle.stored_rows.proofs.EqualRows.{rows-length, rows_at, rows_all, row-length, row-bytes}
 
@@ -37,6 +37,24 @@ converted-back false row e = sums-differences row e
 converted-bytes : (back : Bool) (row : List ℕ) → all_bytes row ≡ true → all_bytes (converted back row) ≡ true
 converted-bytes true row e = bytes-sums row e
 converted-bytes false row e = bytes-differences row e
+
+-- a row converted from a pixel 0: its length, its entries, the pixels passed, and the row converted
+pub from-length : (back : Bool) (row : List ℕ) → length (converted_from back row) ≡ length row
+from-length true row = length-sums-from 0 row
+from-length false row = length-differences-from 0 row
+
+pub from-at : (back : Bool) (row : List ℕ) (i : ℕ) → i < length row
+    → written_byte back (get_or (0 ∷ row_pixels back row) i 0) (get_or row i 0) ≡ get_or (converted_from back row) i 0
+from-at true row i h = sym (sum-at 0 row i h)
+from-at false row i h = sym (difference-at 0 row i h)
+
+pub from-pixel : (back : Bool) (row : List ℕ) (i : ℕ) → pick back (get_or (converted_from back row) i 0) (get_or row i 0) ≡ get_or (row_pixels back row) i 0
+from-pixel true row i = refl
+from-pixel false row i = refl
+
+pub from-zero : (back : Bool) (row : List ℕ) → all_bytes row ≡ true → converted back row ≡ converted_from back row
+from-zero true row e = sums-zero row e
+from-zero false row e = differences-zero row e
 
 -- all rows by their numbers
 pub converted-rows : (back : Bool) (w h : ℕ) (xs : List ℕ) → flat_map (converted_row back w h xs) (range 0 h) ≡ converted_rows back w h xs

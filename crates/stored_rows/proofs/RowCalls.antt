@@ -1,9 +1,10 @@
 -- Laws of the fault of storing and restoring rows and of the calls' answers, and the theorems of calls.
 use mathlib.Core.Path.{◌≡◌, refl, sym, ap, ◌∙◌}
 use mathlib.Core.Bool.{Bool, true, false, not}
-use mathlib.Core.Logic.{◌≢◌, ⊎_elim}
+use mathlib.Core.Logic.{⊎_elim}
 use mathlib.Core.List.{List}
 use Prim.Native.Nat.{ℕ, ◌*◌, ◌≤◌}
+use native.Mathlib.Omega.{arith}
 use borrow.Author.Tests.{eqb-true, eq-eqb, le-ltb, ltb-false}
 use lib.Dec.{eqb, ltb}
 use lib.ListN.{length, take, drop}
@@ -15,11 +16,13 @@ use Rattle.picture.proofs.Sides.{side-most, is_within}
 use Rattle.topology.proofs.Accepted.{accepted-is}
 use Rattle.faults.specs.PictureFault.{first_of, when, sides_fault}
 use Rattle.faults.proofs.Accepted.{Sized, sides-none, no-sides-fault}
-use Rattle.faults.proofs.Faults.{first-later, then-failed, then-none}
-use Rattle.answers.specs.declared.Answer.{Answer}
-use Rattle.answers.specs.Steps.{IsRefusal, IsValue}
-use Rattle.answers.proofs.Calls.{refused-answer, refused-left, accepted-answer, written-left}
-use Rattle.stored_rows.specs.Calls.{rows_fault, RowsSay}
+use Rattle.faults.proofs.Faults.{first_some, first-none, first-later, then-failed, then-none}
+use Rattle.answers.specs.Answers.{Answer}
+use Rattle.refusals.specs.declared.Refusal.{Refusal}
+use Rattle.refusals.specs.Refusals.{number_of}
+use Rattle.refusals.proofs.Numbers.{number-some}
+use Rattle.answers.proofs.Calls.{written-left}
+use Rattle.stored_rows.specs.Calls.{rows_fault}
 use Rattle.stored_rows.specs.Steps.{converted_rows, ConvertSays, Fits}
 use Rattle.stored_rows.specs.Restoring.{AcceptedUnrefused, BehindKept, CallRestores, CallStores}
 use Rattle.stored_rows.proofs.Conversions.{converted-count, conversion-undone}
@@ -58,14 +61,13 @@ fits {w} {h} {bytes} {out} z =
       room = m;
     }
 
--- the refusal of a call, and its end
-pub rows-refused : {f g : ℕ} {new out : List ℕ} {r : Answer} → g ≡ f → g ≢ 0 → IsRefusal g r → RowsSay f new out out r
-rows-refused {f} {g} {new} {out} {r} e d q =
-    record { answer = refused-answer f g e d 0 r q; output = refused-left f g e d _ out }
+-- the fault by its two causes
+pub sides-refused : (w h count room : ℕ) (e : Refusal) → number_of e ≡ sides_fault w h count → number_of e ≡ rows_fault w h count room
+sides-refused w h count room e n =
+    first_some _ (when (ltb room count) 9) _ n (λ z. omega (arith, number-some e)) ∙ rows-counted w h count room
 
-pub rows-done : {f : ℕ} {new out out' : List ℕ} {r : Answer} → f ≡ 0 → IsValue 0 r → out' ≡ over new out → RowsSay f new out out' r
-rows-done {f} {new} {out} {out'} {r} z q w =
-    record { answer = accepted-answer f 0 0 r z refl q; output = w ∙ written-left f (over new out) out z }
+pub room-left : (w h count room : ℕ) → 0 ≡ sides_fault w h count → rows_fault w h count room ≡ when (ltb room count) 9
+room-left w h count room z = sym (rows-counted w h count room) ∙ first-none _ _ (sym z)
 
 -- what an unrefused call leaves
 module _

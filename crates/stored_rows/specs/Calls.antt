@@ -3,8 +3,7 @@
 use Rattle.std.specs.Prelude.{◌≡◌, List, ℕ, ◌*◌, ltb, length}
 use Rattle.lists.specs.Lists.{over}
 use Rattle.faults.specs.PictureFault.{first_of, when, sides_fault}
-use Rattle.answers.specs.declared.Answer.{Answer}
-use Rattle.answers.specs.Answers.{after_call, Answered}
+use Rattle.answers.specs.Answers.{Answer, after_call, Answered}
 use Rattle.stored_rows.specs.Rows.{stored_rows, restored_rows}
 
 -- the fault of two sides, a count of bytes and the room in the output: 3, 8, then 9

@@ -5,7 +5,7 @@
 use Rattle.std.specs.Prelude.{◌≡◌, true, ◌&&◌, ◌||◌, ◌⊎◌, List, ℕ, ◌*◌, ◌≤◌, eqb, ltb, length, take, drop}
 use Rattle.lists.specs.Lists.{pick, tally}
 use Rattle.picture.specs.Pictures.{Picture, places, picture_of, side_fits, all_bytes, is_picture}
-use Rattle.answers.specs.declared.Answer.{Answer}
+use Rattle.answers.specs.Answers.{Answer}
 use Rattle.stored_rows.specs.Rows.{row_order, stored_rows, restored_rows}
 use Rattle.stored_rows.specs.Calls.{rows_fault, StoreSays, RestoreSays}
 

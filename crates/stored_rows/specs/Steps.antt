@@ -2,8 +2,8 @@
 -- `back` is false for storing, true for the way back; bytes are the pixels or their stored form.
 use Rattle.std.specs.Prelude.{◌≡◌, Bool, List, ℕ, ◌+◌, ◌-◌, ◌*◌, ◌/◌, ◌≤◌, ◌<◌, ltb, length}
 use Rattle.lists.specs.Lists.{pick}
-use Rattle.answers.specs.declared.Answer.{Answer}
-use Rattle.stored_rows.specs.Rows.{is_even, row_at, differences, sums, stored_rows, restored_rows}
+use Rattle.answers.specs.Answers.{Answer}
+use Rattle.stored_rows.specs.Rows.{is_even, row_at, difference, pixel_after, differences_from, differences, sums_from, sums, stored_rows, restored_rows}
 use Rattle.stored_rows.specs.Calls.{rows_fault, RowsSay}
 
 -- how many of h rows are even
@@ -22,9 +22,21 @@ row_at_position h i = pick (ltb i (even_rows h)) (2 * i) (2 * (i - even_rows h) 
 abbrev pub source_row : Bool → ℕ → ℕ → ℕ
 source_row back h i = pick back (position_of h i) (row_at_position h i)
 
+-- what is written for a byte, by the pixel left of it
+abbrev pub written_byte : Bool → ℕ → ℕ → ℕ
+written_byte back l b = pick back (pixel_after l b) (difference l b)
+
 -- a row as it is written
 abbrev pub converted : Bool → List ℕ → List ℕ
 converted back row = pick back (sums row) (differences row)
+
+-- a row as it is written, where the first byte stands behind a pixel 0
+abbrev pub converted_from : Bool → List ℕ → List ℕ
+converted_from back row = pick back (sums_from 0 row) (differences_from 0 row)
+
+-- the pixels of a row that is read
+abbrev pub row_pixels : Bool → List ℕ → List ℕ
+row_pixels back row = pick back (sums_from 0 row) row
 
 -- row i of what is written
 abbrev pub converted_row : Bool → ℕ → ℕ → List ℕ → ℕ → List ℕ

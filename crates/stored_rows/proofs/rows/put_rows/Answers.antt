@@ -1,20 +1,18 @@
--- `stored_rows::rows::put_rows` meets its contract. The invariant is RowsBegun: the first i rows are written. The rows that are left fall.
-use mathlib.Core.Path.{ap, ◌∙◌}
-use mathlib.Core.List.{List}
-use Prim.Native.Nat.{ℕ}
+-- `stored_rows::rows::put_rows` meets its contract. The invariant is RowsBegun: the first i rows are written.
+use Rattle.std.proofs.Common.{ap, ◌∙◌, List, ℕ, arith}
 use Rattle.lists.specs.Lists.{over}
 use Rattle.stored_rows.proofs.Conversions.{converted-rows}
 use Rattle.stored_rows.proofs.RowWrites.{rows_start, rows-turn, rows_end}
 use Rattle.stored_rows.proofs.rows.put_rows.Goals as goal
 
 pub loop-i-init : goal.loop-i-init
-loop-i-init c = rows_start
+loop-i-init g c = rows_start
 
 pub loop-i-preserved : goal.loop-i-preserved
-loop-i-preserved c = rows-turn c.loop-i.invariant c.loop-i-test.true c.put_row.ensures
+loop-i-preserved g c = rows-turn c.loop-i.invariant c.loop-i-test.true c.put_row.ensures
 
 pub returns : goal.returns
-returns c =
+returns g c =
     let a = c.args in
-    rows_end c.loop-i.invariant c.loop-i-test.false
-    ∙ ap (λ (l : List ℕ). over l a.out.now) (converted-rows a.back a.w a.h a.bytes.now)
+    rows_end c.loop-i.invariant (omega arith)
+    ∙ ap (λ (l : List ℕ). over l a.out.now) (converted-rows g.D.Direction.back a.w a.h a.bytes.now)

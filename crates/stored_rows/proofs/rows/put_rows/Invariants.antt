@@ -1,11 +1,7 @@
--- `stored_rows::rows::put_rows` meets its contract. The invariant is RowsBegun: the first i rows are written. The rows that are left fall.
-use Prim.Native.Nat.{◌-◌}
+-- `stored_rows::rows::put_rows` meets its contract. The invariant is RowsBegun: the first i rows are written.
 use Rattle.stored_rows.specs.Steps.{converted_row}
 use Rattle.stored_rows.proofs.RowWrites.{RowsBegun}
 use Rattle.stored_rows.proofs.rows.put_rows.Given as goal
 
 abbrev pub invariant-loop-i : goal.invariant-loop-i
-invariant-loop-i l = RowsBegun (converted_row l.back l.w l.h l.bytes) l.w l.h l.initial.out l.i l.out
-
-abbrev pub decreases-loop-i : goal.decreases-loop-i
-decreases-loop-i l = l.h - l.i
+invariant-loop-i g l = RowsBegun (converted_row g.D.Direction.back l.w l.h l.bytes) l.w l.h l.initial.out l.i l.out
