@@ -4,6 +4,7 @@ pub mod Built
 pub mod Queries
 pub mod Touches
 pub mod LentTrees
+pub mod Checked
 pub mod Demands
 pub mod FilledDemands
 pub mod Answers

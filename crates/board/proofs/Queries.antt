@@ -1,10 +1,14 @@
 -- The laws of the place query and of the touch: their ground, their refusal and their answer.
 use mathlib.Core.Path.{◌≡◌, refl, sym, ap, ap₂, ◌∙◌}
-use mathlib.Core.Bool.{Bool}
+use mathlib.Core.Bool.{Bool, true, false, ◌||◌}
 use mathlib.Core.Logic.{◌≢◌}
 use mathlib.Core.List.{List}
 use Prim.Native.Nat.{ℕ, zero, suc}
+use lib.Dec.{eqb}
 use lib.ListN.{length}
+use Rattle.patches.specs.declared.handbook.Handbook.{Handbook}
+use Rattle.patches.specs.declared.handbook.Handbook.TheVariants.{Fourth, Fifth}
+use Rattle.patches.specs.Handbooks.{handbook_number}
 use borrow.Author.Tests.{eq-eqb, ne_eqb}
 use Rattle.lists.specs.Lists.{pick}
 use Rattle.picture.specs.Pictures.{Picture, places}
@@ -23,6 +27,14 @@ use Rattle.board.specs.Calls.{QueryAnswer, queried_of, ground_of, QueryIs, Queri
 pub ground-patch : (n : ℕ) → n ≢ 0 → G.Patch n ≡ ground_of n
 ground-patch zero d = absurd (d refl)
 ground-patch (suc n) d = refl
+
+-- a handbook that has a number is one of two, and a number that is neither is refused
+pub handbook-named : (b : Handbook) (n : ℕ) → handbook_number b ≡ n → (eqb n 4 || eqb n 5) ≡ true
+handbook-named Fourth n e = rw (← e) refl
+handbook-named Fifth n e = rw (← e) refl
+
+pub handbook-other : (n : ℕ) → n ≢ 4 → n ≢ 5 → (eqb n 4 || eqb n 5) ≡ false
+handbook-other n p q = rw (ne_eqb n 4 p, ne_eqb n 5 q) refl
 
 -- a refused query, and an answered one: of the fault f, the value v and the patch number m
 module _ (f v m : ℕ) (p : Picture) (q : List ℕ) where
