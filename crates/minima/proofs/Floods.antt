@@ -87,9 +87,6 @@ module _ (pixels : List ℕ) (k y : ℕ) (cells : List ℕ) (s : Stack) (room : 
       }
 
 module _ (p : Picture) (k q : ℕ) where
-  pub spread_none : (zs cells : List ℕ) (s : Stack) → s.top ≢ 65535 → ZoneSpread p k q zs zs cells s cells s
-  spread_none zs cells s d = record { moved = zone-moved-none cells s s.low d; follows = λ x before f. f }
-
   -- the visit to the next of the neighbours of q
   pub spread-next :
       (i y : ℕ) (cells : List ℕ) (s : Stack) (m : List ℕ) (u : Stack) (o : List ℕ) (v : Stack) →

@@ -96,18 +96,6 @@ module _ (p : Picture) (count : ℕ) (hs fs ss m : List ℕ) where
     answer-father v true e = yes (verified-tree p count l hs fs ss m v (eqb-true (get_or fs (count - 1) 0) 65535 e))
     answer-father v false e = never (λ t. eqb-false (get_or fs (count - 1) 0) 65535 e (tree-ends p count count l hs fs ss m v t).1)
 
-pub lists-long-at : (n : ℕ) (xs hs fs ss m o l : List ℕ) → length l ≡ length o → ListsLong n xs hs fs ss m o → ListsLong n xs hs fs ss m l
-lists-long-at n xs hs fs ss m o l e s =
-    record {
-      count = let a = s.count in omega arith;
-      few = let a = s.few in omega arith;
-      pixels = let a = s.pixels in omega arith;
-      heights = let a = s.heights in omega arith;
-      fathers = let a = s.fathers in omega arith;
-      firsts = let a = s.firsts in omega arith;
-      map = let a = s.map in omega arith;
-    }
-
 pub lists-long-of :
     (p : Picture) (n : ℕ) (hs fs ss m l : List ℕ) → is_picture p ≡ true → length l ≡ places p → n ≤ length l → places p ≤ length hs → places p ≤ length fs →
     places p ≤ length ss → places p ≤ length m → ListsLong n p.pixels hs fs ss m l

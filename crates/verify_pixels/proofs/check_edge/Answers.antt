@@ -1,5 +1,4 @@
 -- `verify_pixels::check_edge` meets its contract.
-use Rattle.std.proofs.Common.{arith}
 use Rattle.tree_laws.proofs.Decided.{decided-yes, decided-never}
 use Rattle.tree_laws.proofs.Checks.{checked-bounds, checked-parents, checked-skip, checked-same, checked-join}
 use Rattle.verify_pixels.proofs.Edges.{root-in, edge-joined}
@@ -27,18 +26,11 @@ returns-then-q-r c =
       checked-same _ _ _ _ _ _ _ _ earlier _ _ c.find-q.ensures c.if-q-r.true,
     )
 
-pub check_join-requires : goal.check_join-requires
-check_join-requires c =
+pub check_join-requires-clause-names : goal.check_join-requires-clause-names
+check_join-requires-clause-names c =
     let earlier = decided-yes c.if-not-comes_before.false c.comes_before.ensures in
-    let s = c.requires in
-    let f = c.find-q.ensures in
-    let j = checked-join _ _ _ _ _ _ _ _ earlier _ _ f s.edge_check_ready in
-    let z = f.walked.size in
-    record {
-      q_nonzero = (c.if-q-r.false, j.in-q, j.in-r, j.few, j.place);
-      names = (j.name-q, j.name-r);
-      cells_in_bounds = (omega (arith, s.cells_in_bounds.0), omega (arith, s.cells_in_bounds.1));
-    }
+    let j = checked-join _ _ _ _ _ _ _ _ earlier _ _ c.find-q.ensures c.requires.edge_check_ready in
+    (j.name-q, j.name-r)
 
 pub returns-else-q-r : goal.returns-else-q-r
 returns-else-q-r c =
