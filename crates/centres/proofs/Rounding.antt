@@ -1,11 +1,6 @@
 -- A centre is the nearest tenth, at a half the even one, and the only such number.
-use mathlib.Core.Path.{◌≡◌, ap, subst}
-use mathlib.Core.Logic.{inl, inr}
-use Prim.Native.Nat.{ℕ, suc, ◌+◌, ◌*◌, ◌/◌, ◌%◌, ◌≤◌, ◌<◌}
-use native.Mathlib.Nat.{div-le_self, mod-lt, div-add-mod', suc-mul, le_of_mul-le-mul_right, le_antisymm, eq-or-lt_of_le}
-use native.Mathlib.Omega.{arith}
-use lib.Dec.{eqb, ltb}
-use borrow.Author.Tests.{ltb-true, ltb-false, eqb-true, eqb-false}
+use Rattle.std.proofs.Common.{◌≡◌, ap, subst, inl, inr, ℕ, suc, ◌+◌, ◌*◌, ◌/◌, ◌%◌, ◌≤◌, ◌<◌, div-le_self, mod-lt, div-add-mod', suc-mul, le_of_mul-le-mul_right, le_antisymm, eq-or-lt_of_le, arith, eqb, ltb, ltb-true, ltb-false, eqb-true}
+use borrow.Author.Tests.{eqb-false}
 use Rattle.lists.proofs.Tests.{on-pick, on_test}
 use Rattle.lists.proofs.Indices.{mem_index}
 use Rattle.picture.specs.Patches.{Patch}

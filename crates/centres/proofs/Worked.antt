@@ -1,9 +1,5 @@
 -- Centres worked by hand, by computation.
-use mathlib.Core.Path.{◌≡◌, refl}
-use mathlib.Core.Bool.{true}
-use mathlib.Core.List.{List, [], ◌∷◌}
-use Prim.Native.Nat.{ℕ}
-use lib.Dec.{eqb}
+use Rattle.std.proofs.Common.{◌≡◌, refl, true, List, [], ◌∷◌, ℕ, eqb}
 use Rattle.lists.specs.Lists.{all}
 use Rattle.centres.specs.Centres.{centre}
 

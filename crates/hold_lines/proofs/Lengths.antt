@@ -1,9 +1,5 @@
 -- How long the line of a patch can be, and which numbers stand in it; the lines above it.
-use mathlib.Core.Path.{◌≡◌, ap, ap₂, ◌∙◌}
-use mathlib.Core.List.{List, [], ◌∷◌, ◌++◌, append_assoc}
-use Prim.Native.Nat.{ℕ, ◌+◌, ◌*◌, ◌≤◌, ◌<◌}
-use native.Mathlib.Omega.{arith}
-use lib.ListN.{length, get_or}
+use Rattle.std.proofs.Common.{◌≡◌, ap, ap₂, ◌∙◌, List, [], ◌∷◌, ◌++◌, append_assoc, ℕ, ◌+◌, ◌*◌, ◌≤◌, ◌<◌, arith, length, get_or}
 use Rattle.lists.specs.Blocks.{block_entry}
 use Rattle.patch_records.specs.Records.{record_at}
 use Rattle.centres.specs.Centres.{centre}

@@ -1,11 +1,5 @@
 -- Laws of 16-bit entries packed in bytes: one entry more, and zeros.
-use mathlib.Core.Path.{◌≡◌, refl, sym, ap, ap₂, subst, ◌∙◌}
-use mathlib.Core.List.{List, [], ◌∷◌, ◌++◌, append_assoc, append-nil}
-use Prim.Native.Nat.{ℕ, zero, suc, ◌+◌, ◌*◌, ◌<◌}
-use native.Mathlib.Omega.{arith}
-use native.Mathlib.Numerals.{add-one}
-use lib.ListN.{length, get_or, take, drop, set, replicate}
-use lib.Seq.{take-suc}
+use Rattle.std.proofs.Common.{◌≡◌, refl, sym, ap, ap₂, subst, ◌∙◌, List, [], ◌∷◌, ◌++◌, append_assoc, append-nil, ℕ, zero, suc, ◌+◌, ◌*◌, ◌<◌, arith, add-one, length, get_or, take, drop, set, replicate, take-suc}
 use Rattle.lists.proofs.Filling.{written_next}
 use Rattle.text.specs.Little.{little_endian}
 use Rattle.lists.specs.Writing.{Written}

@@ -1,16 +1,8 @@
 -- The laws of the sums by patch number.
-use mathlib.Core.Path.{◌≡◌, refl, sym, ap, ap₂, subst, ◌∙◌}
-use mathlib.Core.Logic.{◌≢◌, by_cases}
-use mathlib.Core.List.{List}
-use Prim.Native.Nat.{ℕ, suc, ◌+◌, ◌*◌, ◌≤◌, ◌<◌}
-use native.Mathlib.Decide.{ℕ_discrete}
-use native.Mathlib.Nat.{mod-lt, div-lt_iff_lt-mul, mul_comm, suc-mul, add-mul, mul-le-mul_right, lt_of_mul-lt-mul_right}
-use native.Mathlib.Numerals.{add-one}
-use native.Mathlib.Omega.{arith}
-use lib.Arith.{digits_div, digits_mod}
-use lib.Dec.{eqb}
-use lib.ListN.{length, get_or}
-use lib.Seq.{get_or-set_same, get_or-set_other}
+use Rattle.std.proofs.Common.{◌≡◌, refl, sym, ap, ap₂, subst, ◌∙◌, ◌≢◌, List, ℕ, suc, ◌+◌, ◌*◌, ◌≤◌, ◌<◌, mod-lt, div-lt_iff_lt-mul, mul_comm, suc-mul, add-mul, mul-le-mul_right, lt_of_mul-lt-mul_right, add-one, arith, eqb, length, get_or, get_or-set_same, get_or-set_other}
+use Rattle.std.proofs.Math.Logic.{by_cases}
+use Rattle.std.proofs.Math.Decide.{ℕ_discrete}
+use Rattle.std.proofs.Math.Arith.{digits_div, digits_mod}
 use Rattle.lists.specs.Lists.{pick}
 use Rattle.lists.proofs.Tests.{pick-in, pick_out, pick-add}
 use Rattle.lists.specs.Blocks.{block_entry, UntouchedOutside, Filled}

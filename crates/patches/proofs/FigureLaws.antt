@@ -1,13 +1,5 @@
 -- The laws of all figures together, and of the places on the line.
-use mathlib.Core.Path.{◌≡◌, refl, sym, ap, ◌∙◌}
-use mathlib.Core.Bool.{true}
-use mathlib.Core.Logic.{inl, inr, ⊎_elim}
-use mathlib.Core.List.{List}
-use Prim.Native.Nat.{ℕ, ◌+◌, ◌*◌, ◌≤◌, ◌<◌}
-use native.Mathlib.Nat.{mul-le-mul_left}
-use native.Mathlib.Omega.{arith}
-use lib.Dec.{eqb}
-use lib.ListN.{length, get_or}
+use Rattle.std.proofs.Common.{◌≡◌, refl, sym, ap, ◌∙◌, true, inl, inr, ⊎_elim, List, ℕ, ◌+◌, ◌*◌, ◌≤◌, ◌<◌, mul-le-mul_left, arith, eqb, length, get_or}
 use Rattle.lists.specs.Lists.{pick, range, highest, tally}
 use Rattle.picture.specs.Pictures.{Picture, places, is_picture}
 use Rattle.picture.specs.Trees.{nodes, node_at}

@@ -1,10 +1,5 @@
 -- The nearest patch from the arrays: the least number of the leaves at or below the node of a place.
-use mathlib.Core.Path.{◌≡◌, refl, sym, subst, ◌∙◌}
-use mathlib.Core.Bool.{true, false}
-use mathlib.Core.List.{List}
-use Prim.Native.Nat.{ℕ, ◌*◌, ◌<◌}
-use native.Mathlib.Omega.{arith}
-use lib.ListN.{length}
+use Rattle.std.proofs.Common.{◌≡◌, refl, sym, subst, ◌∙◌, true, false, List, ℕ, ◌*◌, ◌<◌, arith, length}
 use Rattle.lists.specs.Blocks.{block_entry}
 use Rattle.picture.specs.Pictures.{Picture, places}
 use Rattle.picture.specs.Trees.{nodes, node_at, map_of}

@@ -1,6 +1,5 @@
 -- `centres::centre` meets its contract: each return is one case of rounding.
-use native.Mathlib.Nat.{le_antisymm}
-use native.Mathlib.Omega.{arith}
+use Rattle.std.proofs.Common.{le_antisymm, arith}
 use Rattle.centres.proofs.Rounding.{near-below, near-above, near_even, centres-only}
 use Rattle.centres.proofs.centre.Goals as goal
 

@@ -1,5 +1,5 @@
 -- `hold_lines::put_count` meets its contract: the word, and behind it a number of at most five digits.
-use native.Mathlib.Omega.{arith}
+use Rattle.std.proofs.Common.{arith}
 use Rattle.lists.proofs.Writings.{written_then}
 use Rattle.text.proofs.Decimals.{decimal-length}
 use Rattle.hold_lines.proofs.put_count.Goals as goal

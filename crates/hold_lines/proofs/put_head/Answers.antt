@@ -1,6 +1,5 @@
 -- `hold_lines::put_head` meets its contract: the words and numbers one behind the other, each number with at most five digits.
-use mathlib.Core.List.{[], ◌∷◌}
-use native.Mathlib.Omega.{arith}
+use Rattle.std.proofs.Common.{[], ◌∷◌, arith}
 use Rattle.text.specs.Decimal.{decimal, fields}
 use Rattle.lists.proofs.Writings.{written_then}
 use Rattle.hold_lines.specs.Lines.{picture_word, patches_word, line_word}

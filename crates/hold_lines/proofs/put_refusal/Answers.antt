@@ -1,5 +1,5 @@
 -- `hold_lines::put_refusal` meets its contract: the word, and behind it a number of at most five digits.
-use native.Mathlib.Omega.{arith}
+use Rattle.std.proofs.Common.{arith}
 use Rattle.text.proofs.Decimals.{one-length}
 use Rattle.hold_lines.proofs.put_refusal.Goals as goal
 

@@ -1,5 +1,5 @@
 -- The digits but the last, then the last.
-use native.Mathlib.Omega.{arith}
+use Rattle.std.proofs.Common.{arith}
 use Rattle.lists.proofs.Writings.{written-length}
 use Rattle.text.proofs.NumbersWritten.{number-one, number_more, number-room, number-some, number-fewer}
 use Rattle.text.proofs.+put_number.Goals as goal

@@ -1,5 +1,5 @@
 -- `text::put_field` meets its contract.
-use native.Mathlib.Omega.{arith}
+use Rattle.std.proofs.Common.{arith}
 use Rattle.lists.proofs.Writings.{written_then}
 use Rattle.text.proofs.put_field.Goals as goal
 

@@ -1,6 +1,6 @@
 -- `patches::figures::largest` meets its contract: no pixel exceeds the answer, which is one of them, or 0 for none.
 use Rattle.std.proofs.Common.{◌≡◌, List, ℕ, ◌<◌, ◌≤◌, length, get_or, Option, Some, None, unwrap_or, MatchOption, ◌∙◌, rules, arith}
-use mathlib.Core.Logic.{by_cases}
+use Rattle.std.proofs.Math.Logic.{by_cases}
 use Rattle.std.proofs.Math.Decide.{dec_lt}
 use Rattle.std.proofs.lemmas.List.{get_or_past}
 use Rattle.lists.specs.Lists.{highest}
