@@ -4,13 +4,12 @@ use mathlib.Core.Bool.{true}
 use mathlib.Core.List.{List, [], ◌∷◌, ◌++◌}
 use Prim.Native.Nat.{ℕ, suc, ◌+◌, ◌-◌, ◌*◌, ◌^◌, ◌≤◌, ◌<◌}
 use native.Mathlib.Nat.{pow-suc, pow-le-pow_right, lt_of_lt_of_le, le_trans, add-zero}
-use native.Mathlib.Numerals.{add-one}
 use native.Mathlib.Omega.{arith}
 use borrow.Author.Tests.{leb-true, eq-eqb, ne_eqb, le-leb, lt-leb}
 use lib.Dec.{leb}
 use lib.Arith.{digits_lt}
 use lib.ListN.{length, get_or, take, drop}
-use lib.Seq.{take-suc, length-take-le}
+use lib.Seq.{length-take-le}
 use Rattle.std.specs.Prelude.{Err}
 use Rattle.lists.specs.Lists.{all}
 use Rattle.lists.proofs.Lists.{all-mem}
@@ -56,19 +55,16 @@ decimal-below s d =
     let e : 0 + length s ≡ length s = omega arith in
     rw e at less
 
--- the value of one digit more at the front of a list
+-- a member of at most five digits
 module _ (s : List ℕ) (i : ℕ) (h : i < length s) where
-  pub decimal-next : decimal_value (take (i + 1) s) ≡ decimal_value (take i s) * 10 + (get_or s i 0 - 48)
-  decimal-next = rw (add-one, take-suc s i 0) (decimal-snoc 0 (take i s) (get_or s i 0))
-
-  -- the value before it still fits
+  -- the value of those before it still fits with one digit more
   pub decimal-small : length s ≤ 5 → all is_digit s ≡ true → decimal_value (take i s) < 10000
   decimal-small few d =
       let below : decimal_value (take i s) < 10 ^ length (take i s) = decimal-below (take i s) (all_take is_digit i s d) in
       let short : length (take i s) ≤ 4 = omega (arith, length-take-le i s (omega arith)) in
       lt_of_lt_of_le below (le_trans (pow-le-pow_right (omega arith) short) (omega arith))
 
-  -- a member is a digit
+  -- it is a digit
   pub digit-range : all is_digit s ≡ true → (48 ≤ get_or s i 0) × (get_or s i 0 ≤ 57)
   digit-range d =
       let one : is_digit (get_or s i 0) ≡ true = all-mem is_digit d (index-mem 0 s i h) in

@@ -5,10 +5,9 @@ use mathlib.Core.Logic.{⊎_elim}
 use mathlib.Core.List.{List, [], ◌∷◌, ◌++◌}
 use Prim.Native.Nat.{ℕ, zero, suc, ◌+◌, ◌≤◌, ◌<◌, zero-le, suc-le-suc}
 use native.Mathlib.Nat.{le_of_suc-le-suc, eq-or-lt_of_le, zero-add, suc-add}
-use native.Mathlib.Numerals.{add-one}
 use native.Mathlib.Omega.{arith}
-use lib.ListN.{length, get_or, take, drop, length-drop, drop_of_length-le}
-use lib.Seq.{drop-cons, drop-append-le}
+use lib.ListN.{length, get_or, take, drop, length-drop}
+use lib.Seq.{drop-append-le}
 use Rattle.std.specs.List.{prefix_len}
 use Rattle.lists.specs.Lists.{all}
 use Rattle.p5.specs.Headers.{leading}
@@ -84,27 +83,6 @@ module _ (t : ℕ → Bool) where
   leading-many x y u i n h k =
       let within : i ≤ length x = omega arith in
       rw (drop-append-le i x u) (many (drop i x) y u n (omega (arith, length-drop i x)) (rw (drop-append-le i x y) at k))
-
-  module _ (f : List ℕ) (i : ℕ) where
-    -- the count from a position on, by the byte there
-    pub leading-pass : i < length f → t (get_or f i 0) ≡ true → leading t (drop i f) ≡ suc (leading t (drop (i + 1) f))
-    leading-pass h e = rw (add-one, drop-cons f i 0) (rw e)
-
-    pub leading-stop : i < length f → t (get_or f i 0) ≡ false → leading t (drop i f) ≡ 0
-    leading-stop h e = rw (drop-cons f i 0) (rw e)
-
-    pub leading-past : length f ≤ i → leading t (drop i f) ≡ 0
-    leading-past h = ap (leading t) (drop_of_length-le f h)
-
-    -- the position where the test first fails, as a loop comes to it
-    pub reach-pass : i < length f → t (get_or f i 0) ≡ true → (i + 1) + leading t (drop (i + 1) f) ≡ i + leading t (drop i f)
-    reach-pass h e = omega (arith, leading-pass h e)
-
-    pub reach-stop : i < length f → t (get_or f i 0) ≡ false → i ≡ i + leading t (drop i f)
-    reach-stop h e = omega (arith, leading-stop h e)
-
-    pub reach-past : length f ≤ i → i ≡ i + leading t (drop i f)
-    reach-past h = omega (arith, leading-past h)
 
   -- the library's count
   pub leading-prefix : (s : List ℕ) → leading t s ≡ prefix_len t s
