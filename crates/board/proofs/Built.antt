@@ -1,5 +1,5 @@
 -- The end of the call that builds a tree.
-use Rattle.std.proofs.Common.{◌≡◌, ◌∙◌, sym, subst, List, ℕ, ◌*◌, length, Ok, arith}
+use Rattle.std.proofs.Common.{◌≡◌, ◌∙◌, subst, List, ℕ, ◌*◌, length, Ok, arith}
 use Rattle.lists.specs.Lists.{over}
 use Rattle.lists.proofs.Cuts.{drop_more}
 use Rattle.picture.specs.Pictures.{Picture, places}

@@ -8,7 +8,7 @@ use Rattle.picture.specs.Pictures.{Picture, places}
 use Rattle.refusals.specs.declared.Refusal.{Refusal}
 use Rattle.refusals.specs.Refusals.{number_of}
 use Rattle.refusals.proofs.Numbers.{number-some}
-use Rattle.faults.specs.PictureFault.{first_of, when}
+use Rattle.faults.specs.PictureFault.{when}
 use Rattle.faults.proofs.Faults.{first_some, first-none, when-zero}
 use Rattle.board.specs.Trees.{is_tree, tree_fault_of, places_fault_of, checked_fault}
 

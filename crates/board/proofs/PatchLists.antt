@@ -1,7 +1,7 @@
 -- The records of the patches are written, and work is cleared.
-use Rattle.std.proofs.Common.{◌≡◌, ◌∙◌, refl, sym, ap, List, ℕ, length, Ok, map}
+use Rattle.std.proofs.Common.{◌≡◌, ◌∙◌, ap, List, ℕ, length, Ok, map}
 use Rattle.lists.specs.Lists.{over}
-use Rattle.picture.specs.Pictures.{Picture, places}
+use Rattle.picture.specs.Pictures.{Picture}
 use Rattle.picture.specs.Patches.{patches}
 use Rattle.patch_records.specs.declared.Patch.{Patch as PatchRecord}
 use Rattle.patch_records.specs.Records.{records}

@@ -21,7 +21,7 @@ use Rattle.refusals.specs.Refusals.{number_of}
 use Rattle.refusals.proofs.Numbers.{number-some}
 use Rattle.board.specs.declared.query.Ground.{Ground}
 use Rattle.board.specs.declared.query.Queried.{Queried}
-use Rattle.board.specs.Calls.{QueryAnswer, queried_of, ground_of, QueryIs, QueriedSays}
+use Rattle.board.specs.Calls.{QueryAnswer, queried_of, ground_of, QueriedSays}
 
 -- the ground of a patch number that is not 0
 pub ground-patch : (n : ℕ) → n ≢ 0 → G.Patch n ≡ ground_of n

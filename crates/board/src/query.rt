@@ -54,13 +54,7 @@ pub fn touch_cleared(handbook: Handbook, raster: &Raster, place: usize, work: &m
     let n = raster.pixels.len();
     let whole = 5 * n;
     let mut cells = [0u16; 1600];
-    let number = touch_core(
-        handbook,
-        raster,
-        place,
-        &mut work[..whole],
-        &mut cells[..n],
-    );
+    let number = touch_core(handbook, raster, place, &mut work[..whole], &mut cells[..n]);
     clear_work(work, n);
     number
 }

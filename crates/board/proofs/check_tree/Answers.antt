@@ -1,10 +1,8 @@
 -- `board::check_tree` meets its contract: the fault of the lengths, then 11, and else work is cleared.
-use Rattle.std.proofs.Common.{◌≡◌, ◌∙◌, sym, ap, refl, Bool, List, length}
-use Rattle.std.specs.Prelude.{not}
+use Rattle.std.proofs.Common.{◌∙◌, sym, ap, refl}
 use Rattle.std.proofs.lemmas.Result.{err_from_is_err_and}
-use Rattle.picture.specs.Pictures.{Picture, picture_of, places}
-use Rattle.faults.specs.PictureFault.{when}
-use Rattle.board.specs.Trees.{tree_fault_of, is_tree}
+use Rattle.picture.specs.Pictures.{picture_of, places}
+use Rattle.board.specs.Trees.{tree_fault_of}
 use Rattle.board.proofs.Checked.{unchecked, differs, checked}
 use Rattle.answers.proofs.Calls.{work-refused, work-done}
 use Rattle.board.proofs.check_tree.Goals as goal

@@ -1,5 +1,5 @@
 -- `board::file_pixels` meets its contract: what reading answers is what the definition of the pixels asks.
-use Rattle.std.proofs.Common.{◌≡◌, refl, sym, ap, ◌∙◌, ℕ, drop, Result, arith, ◌≤◌}
+use Rattle.std.proofs.Common.{◌≡◌, refl, sym, ap, ◌∙◌, ℕ, drop, Result, arith}
 use native.Mathlib.Nat.{add-zero}
 use Rattle.lists.proofs.Cuts.{take_rest}
 use Rattle.refusals.specs.declared.Refusal.{Refusal}

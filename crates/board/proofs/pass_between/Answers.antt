@@ -1,10 +1,10 @@
 -- `board::pass_between` meets its contract: the fault of the lengths, then 10, then 11, and else the climb finds the pass.
-use Rattle.std.proofs.Common.{◌≡◌, ◌∙◌, sym, ap, refl, length, arith}
+use Rattle.std.proofs.Common.{◌∙◌, sym, ap, refl, length, arith}
 use Rattle.std.proofs.lemmas.Result.{err_from_is_err_and}
 use Rattle.picture.specs.Pictures.{Picture, picture_of, places}
 use Rattle.picture.specs.Passes.{pass}
 use Rattle.geometry.specs.Rasters.{picture}
-use Rattle.board.specs.Trees.{tree_fault_of, is_tree}
+use Rattle.board.specs.Trees.{tree_fault_of}
 use Rattle.board.specs.LentTrees.{TreeLent}
 use Rattle.board.proofs.Checked.{unchecked, differs, checked, lent-is, inside, places-first, places-then}
 use Rattle.board.proofs.LentTrees.{pass-ready, pass-low, tree-entries}
@@ -47,14 +47,14 @@ pass-lowest-requires c =
       firsts = omega (arith, room);
       map = omega (arith, room);
     } in
-    let b = inside _ _ _ c.in_ok-places_inside.ensures in
+    let b = inside (length c.args.pixels.now) c.args.x c.args.y c.in_ok-places_inside.ensures in
     pass-ready p c.args.count _ _ _ _ _ _ lent (lent-is _ _ _ _ _ _ c.in_ok-check_lent.ensures) (omega (arith, b.0, room)) (omega (arith, b.1, room))
 
 pub overflow_cast-result : goal.overflow_cast-result
 overflow_cast-result c =
     let p : Picture = picture c.in_ok-raster.raster in
     let room = c.in_ok-raster.ensures.room in
-    let b = inside _ _ _ c.in_ok-places_inside.ensures in
+    let b = inside (length c.args.pixels.now) c.args.x c.args.y c.in_ok-places_inside.ensures in
     let tree = tree-entries p _ _ _ _ _ (lent-is _ _ _ _ _ _ c.in_ok-check_lent.ensures) in
     let is-pass = c.pass-lowest.ensures.is p _ _ c.in_ok-raster.raster.accepted refl tree (omega (arith, b.0, room)) (omega (arith, b.1, room)) in
     let low = pass-low p c.args.x c.args.y c.in_ok-raster.raster.accepted (omega (arith, b.0, room)) (omega (arith, b.1, room)) in
@@ -67,7 +67,7 @@ returns c =
     let lends = c.in_ok-raster.ensures in
     let room = lends.room in
     let size = sym room.0 ∙ ap places lends.admits.raster in
-    let b = inside _ _ _ c.in_ok-places_inside.ensures in
+    let b = inside (length c.args.pixels.now) c.args.x c.args.y c.in_ok-places_inside.ensures in
     let tree = tree-entries p _ _ _ _ _ (lent-is _ _ _ _ _ _ c.in_ok-check_lent.ensures) in
     let is-pass = c.pass-lowest.ensures.is p _ _ c.in_ok-raster.raster.accepted refl tree (omega (arith, b.0, room)) (omega (arith, b.1, room)) in
     let none = places-then _ _ _ _ _ _ _ _ _ _ size lends.admits.fault c.in_ok-places_inside.ensures in

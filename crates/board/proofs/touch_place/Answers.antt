@@ -6,7 +6,6 @@ use Rattle.picture.specs.Pictures.{Picture, picture_of, places}
 use Rattle.picture.specs.Patches.{touched_patch}
 use Rattle.geometry.specs.Rasters.{picture}
 use Rattle.faults.proofs.Faults.{handbook-unknown, handbook-known}
-use Rattle.patches.specs.Handbooks.{handbook_number}
 use Rattle.refusals.specs.declared.Refusal.TheVariants.{HandbookUnknown}
 use Rattle.board.specs.Calls.{ground_of}
 use Rattle.board.proofs.Queries.{refused-query, answered-query, handbook-named, handbook-other}

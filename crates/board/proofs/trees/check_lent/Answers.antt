@@ -1,6 +1,5 @@
 -- `board::check_lent` meets its contract: the answer of the check decides.
-use Rattle.std.proofs.Common.{◌≡◌, sym, ap, ◌∙◌, Bool}
-use Rattle.std.proofs.Common.{ℕ}
+use Rattle.std.proofs.Common.{sym, ap, ◌∙◌, Bool}
 use Rattle.std.specs.Prelude.{not}
 use Rattle.faults.specs.PictureFault.{when}
 use Rattle.board.proofs.LentTrees.{answer-tree}
