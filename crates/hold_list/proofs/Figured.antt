@@ -1,25 +1,23 @@
--- The lines of the patches of a picture are those of the lists of its figures.
-use mathlib.Core.Path.{◌≡◌, refl, sym, ap, ap₂, ◌∙◌}
-use mathlib.Core.List.{List, [], ◌∷◌, ◌++◌, flat_map}
-use Prim.Native.Nat.{ℕ, suc, ◌+◌, ◌*◌, ◌≤◌, ◌<◌}
+-- The lines of the patches of a picture are those of the blocks of its figures.
+use mathlib.Core.List.{flat_map}
 use native.Mathlib.Numerals.{add-one}
-use native.Mathlib.Omega.{arith}
-use lib.ListN.{length, get_or, take}
-use lib.Seq.{length-take-le, get_or-take}
+use Rattle.std.proofs.Common.{◌≡◌, refl, sym, ap, ap₂, ◌∙◌, List, [], ◌∷◌, ◌++◌, ℕ, suc, ◌+◌, ◌≤◌, ◌<◌, length, get_or, arith}
 use Rattle.lists.specs.Lists.{range}
 use Rattle.picture.specs.Pictures.{Picture, places}
 use Rattle.picture.specs.Patches.{Patch, patches, line_count}
-use Rattle.centres.specs.Centres.{centre}
-use Rattle.lists.proofs.Cuts.{from, from_at, from-length}
-use Rattle.topology.proofs.Accepted.{Accepted, places-bound}
+use Rattle.geometry.specs.declared.raster.Raster.{Raster}
+use Rattle.geometry.specs.Rasters.{picture}
+use Rattle.geometry.proofs.Listed.{raster-size}
+use Rattle.topology.proofs.Accepted.{Accepted, accepted-is}
 use Rattle.topology.proofs.PatchSums.{count-few, patch-number}
-use Rattle.topology.proofs.PatchBounds.{size-some}
-use Rattle.lists.specs.Blocks.{block_entry}
+use Rattle.topology.proofs.PatchBounds.{line-few, size-some, height-fits, depth-fits}
+use Rattle.patch_numbers.specs.Numbers.{FiveBlocks}
 use Rattle.patches.specs.Figures.{no_patch, Figures}
-use Rattle.hold_lines.specs.Figures.{line_at, Lists}
+use Rattle.patch_records.specs.Records.{Entry}
+use Rattle.hold_lines.specs.Figures.{line_at, Figured}
 use Rattle.hold_lines.specs.Lines.{head_lines}
+use Rattle.hold_lines.proofs.Lengths.{line_at-is}
 use Rattle.hold_list.specs.HoldText.{patch_line, patch_lines, patch_list}
-use Rattle.hold_lines.proofs.Lengths.{line-is}
 
 -- lines one by one
 pub lines_from :
@@ -33,74 +31,65 @@ lines_from d f (q ∷ qs) x h =
     (lines_from d f qs (suc x)
     (λ i b. let e : suc x + i ≡ x + suc i = omega arith in ap f e ∙ h (suc i) (omega arith)))
 
-module _ (p : Picture) (r n : ℕ) (work cells : List ℕ) (ok : Accepted p) (size : n ≡ places p) (long : length work ≡ 5 * n) (f : Figures p r work cells) where
-  pub count_most : (r ≤ n) × (n ≤ 1600)
-  count_most =
-      let c = f.count in
-      let m = count-few p ok in
-      let b = places-bound p ok in
-      (omega arith, omega arith)
+-- the figures of the patches of a raster
+module _ (x : Raster) {r : ℕ} {work cells : List ℕ} (b : FiveBlocks (places (picture x)) work cells) (f : Figures (picture x) r work cells) where
+  abbrev p : Picture
+  p = picture x
 
-  -- the entry of a block
-  at : (k b i : ℕ) → b ≡ k → (q : ℕ) → block_entry work k i ≡ q → get_or (from b work) i 0 ≡ q
-  at k b i e q h = from_at b i work ∙ (ap (λ (m : ℕ). block_entry work m i) e ∙ h)
+  ok : Accepted p
+  ok = accepted-is p x.accepted
 
-  first : (i : ℕ) → i < r → get_or (take n work) i 0 ≡ (get_or (patches p) i no_patch).size
-  first i h =
-      let m = count_most in
-      let z : 0 + i ≡ i = omega arith in
-      get_or-take n work i 0 (omega arith) ∙ (sym (ap (λ (j : ℕ). get_or work j 0) z) ∙ f.size i h)
+  few : r ≤ places p
+  few = omega (arith, f.count, count-few p ok)
 
-  -- the first block and any parts that begin by the last block serve as lists
-  pub figured-lists :
-      (h d c t : ℕ) → h ≤ 4 * n → d ≤ 4 * n → c ≤ 4 * n → t ≤ 4 * n →
-      Lists r (take n work) (from h work) (from d work) (from c work) (from t work)
-  figured-lists h d c t bh bd bc bt =
-      let m = count_most in
-      let k = f.count in
-      record {
-        few = omega arith;
-        sizes = omega (arith, length-take-le n work (omega arith));
-        heights = omega (arith, from-length h work);
-        depths = omega (arith, from-length d work);
-        columns = omega (arith, from-length c work);
-        rows = omega (arith, from-length t work);
-        some = λ i b. let e = first i b in let o = size-some p ok i no_patch (omega arith) in omega arith;
-      }
+  size-at : (i : ℕ) → i < r → get_or work i 0 ≡ (get_or (patches p) i no_patch).size
+  size-at i h = let z : 0 + i ≡ i = omega arith in sym (ap (λ (j : ℕ). get_or work j 0) z) ∙ f.size i h
 
-  line-at :
-      (i : ℕ) → i < r →
-      line_at (take n work) (from (4 * n) work) (from (3 * n) work) (from n work) (from (2 * n) work) i ≡
-      patch_line (get_or (patches p) i no_patch)
-  line-at i h =
-      let s = first i h in
-      let four : 4 * n ≡ 4 * places p = omega arith in
-      let three : 3 * n ≡ 3 * places p = omega arith in
-      let two : 2 * n ≡ 2 * places p = omega arith in
-      let u = at (4 * places p) (4 * n) i four _ (f.height i h) in
-      let d = at (3 * places p) (3 * n) i three _ (f.depth i h) in
-      let c = at (places p) n i size _ (f.columns i h) in
-      let t = at (2 * places p) (2 * n) i two _ (f.rows i h) in
-      sym
-      (line-is i _ _ _ _ _ _ _ _ _ _ _ (patch-number p ok i no_patch (omega (arith, f.count, h)) ∙ sym (add-one i)) (sym s) (sym u) (sym d) (sym (ap₂ centre c s)) (sym (ap₂ centre t s)))
+  -- a patch by its index
+  module _ (i : ℕ) (h : i < r) where
+    below : i < length (patches p)
+    below = omega (arith, f.count, h)
 
-  -- the lines of the lists are those of the patches
-  pub lines_are :
-      flat_map (line_at (take n work) (from (4 * n) work) (from (3 * n) work) (from n work) (from (2 * n) work)) (range 0 r) ≡
-      patch_lines (patches p)
+    entry-is : Entry (places p) work i
+    entry-is =
+        record {
+          few = omega (arith, few, b.few, h);
+          last = omega (arith, few, b.blocks, h);
+          depth = omega (arith, f.depth i h, depth-fits p ok i no_patch below);
+          height = omega (arith, f.height i h, height-fits p ok i no_patch below);
+        }
+
+    line-is : line_at (places p) work i ≡ patch_line (get_or (patches p) i no_patch)
+    line-is =
+        line_at-is (places p) i work (add-one i ∙ sym (patch-number p ok i no_patch below)) (size-at i h) (f.height i h) (f.depth i h) (f.columns i h) (f.rows i h)
+
+  -- the blocks are figures of the patches
+  pub figured : Figured (length x.pixels.now) work r
+  figured =
+      rw (raster-size x)
+      (record {
+        few = omega (arith, few, b.few);
+        entries = record { entry = entry-is };
+        some = λ i h. omega (arith, size-at i h, size-some p ok i no_patch (below i h));
+      })
+
+  -- the lines of the blocks are those of the patches
+  lines_are : flat_map (line_at (places p) work) (range 0 r) ≡ patch_lines (patches p)
   lines_are =
-      let g = line_at (take n work) (from (4 * n) work) (from (3 * n) work) (from n work) (from (2 * n) work) in
-      let c = f.count in
-      ap (λ (m : ℕ). flat_map g (range 0 m)) c ∙
+      let g = line_at (places p) work in
+      ap (λ (m : ℕ). flat_map g (range 0 m)) f.count ∙
       lines_from no_patch g (patches p) 0
-      (λ i b. let z : 0 + i ≡ i = omega arith in ap g z ∙ line-at i (omega arith))
+      (λ i b. let z : 0 + i ≡ i = omega arith in ap g z ∙ line-is i (omega (arith, f.count)))
 
-  -- the whole list, with the number of line pixels
-  pub list-is :
-      (line : ℕ) → line ≡ line_count p →
-      head_lines p.width p.height r line ++
-      flat_map (line_at (take n work) (from (4 * n) work) (from (3 * n) work) (from n work) (from (2 * n) work)) (range 0 r) ≡
-      patch_list p
-  unfolding patch_list
-  list-is line e =
-      ap₂ (λ (a b : List ℕ). a ++ b) (ap₂ (λ (c l : ℕ). head_lines p.width p.height c l) f.count e) lines_are
+  -- with the number of line pixels
+  module _ {line : ℕ} (e : line ≡ line_count p) where
+    -- all numbers of the head are small
+    pub head-small : (p.width < 100000) × (p.height < 100000) × (r < 100000) × (line < 100000)
+    head-small =
+        (omega (arith, ok.wide), omega (arith, ok.high), omega (arith, few, b.few), omega (arith, e, line-few p, b.few))
+
+    -- the whole list
+    pub list-is : head_lines p.width p.height r line ++ flat_map (line_at (length x.pixels.now) work) (range 0 r) ≡ patch_list p
+    unfolding patch_list
+    list-is =
+        rw (raster-size x) (ap₂ (λ (a b : List ℕ). a ++ b) (ap₂ (λ (c l : ℕ). head_lines p.width p.height c l) f.count e) lines_are)

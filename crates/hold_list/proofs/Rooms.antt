@@ -1,21 +1,18 @@
 -- A picture has at most 1,600 pixels: the parts of local arrays that are lent for it.
-use mathlib.Core.Path.{◌≡◌}
-use mathlib.Core.Bool.{true}
-use Prim.Native.Nat.{ℕ, ◌*◌, ◌≤◌}
-use native.Mathlib.Omega.{arith}
-use lib.ListN.{length, take, replicate, length-replicate}
-use Rattle.picture.specs.Pictures.{Picture, places, is_picture}
-use Rattle.topology.proofs.Accepted.{accepted-is, places-bound}
+use Rattle.std.proofs.Common.{◌≡◌, ℕ, ◌*◌, ◌≤◌, length, take, replicate, arith}
+use Rattle.std.proofs.lemmas.List.{length-replicate}
+use Rattle.geometry.specs.declared.raster.Raster.{Raster}
+use Rattle.geometry.specs.Rasters.{picture}
+use Rattle.topology.proofs.Accepted.{pixels-few}
 use Rattle.answers.proofs.Calls.{lent_length}
 
-module _ (p : Picture) (ok : is_picture p ≡ true) where
-  -- as many pixels as places
-  pub places-few : (length p.pixels ≡ places p) × (length p.pixels ≤ 1600)
-  places-few = let a = accepted-is p ok in (a.size, omega (arith, a.size, places-bound p a))
+module _ (x : Raster) where
+  pub raster-few : length x.pixels.now ≤ 1600
+  raster-few = pixels-few (picture x) x.accepted
 
   -- one entry for each pixel, and five
-  pub one_lent : length p.pixels ≡ length (take (length p.pixels) (replicate {A = ℕ} 1600 0))
-  one_lent = lent_length (length p.pixels) (replicate {A = ℕ} 1600 0) (omega (arith, places-few.1, length-replicate {A = ℕ} 1600 0))
+  pub one_lent : length x.pixels.now ≡ length (take (length x.pixels.now) (replicate {A = ℕ} 1600 0))
+  one_lent = lent_length (length x.pixels.now) (replicate {A = ℕ} 1600 0) (omega (arith, raster-few, length-replicate {A = ℕ} 1600 0))
 
-  pub five-lent : 5 * length p.pixels ≡ length (take (5 * length p.pixels) (replicate {A = ℕ} 8000 0))
-  five-lent = lent_length (5 * length p.pixels) (replicate {A = ℕ} 8000 0) (omega (arith, places-few.1, length-replicate {A = ℕ} 8000 0))
+  pub five-lent : 5 * length x.pixels.now ≡ length (take (5 * length x.pixels.now) (replicate {A = ℕ} 8000 0))
+  five-lent = lent_length (5 * length x.pixels.now) (replicate {A = ℕ} 8000 0) (omega (arith, raster-few, length-replicate {A = ℕ} 8000 0))

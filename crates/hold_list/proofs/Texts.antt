@@ -1,32 +1,27 @@
 -- The text for a file by the cases of reading and of the words; the picture of an accepted file.
-use mathlib.Core.Path.{◌≡◌, refl, sym, ap, ap₂, ◌∙◌}
-use mathlib.Core.Bool.{Bool, true, false}
-use mathlib.Core.Logic.{◌≢◌, inl}
-use mathlib.Core.List.{List}
-use Prim.Native.Nat.{ℕ, ◌+◌, ◌-◌, ◌≤◌, ◌<◌}
-use native.Mathlib.Omega.{arith}
-use lib.Dec.{ltb}
-use lib.ListN.{length, get_or, take, drop, length-drop}
+use Rattle.std.proofs.Common.{◌≡◌, refl, sym, ap, ◌∙◌, Bool, true, false, ◌&&◌, inl, List, ℕ, ◌+◌, ◌≤◌, ◌<◌, ltb, length, get_or, take, drop, length-drop, Ok, Err, arith}
 use lib.Seq.{get_or-drop}
 use borrow.Author.Tests.{lt-ltb, le-ltb}
 use Rattle.lists.specs.Lists.{pick}
-use Rattle.picture.specs.Pictures.{Picture, with_pixels, is_picture, picture_of}
+use Rattle.picture.specs.Pictures.{Picture, with_pixels, side_fits, is_picture, picture_of}
 use Rattle.picture.specs.Watersheds.{watershed}
-use Rattle.lists.proofs.Cuts.{take_rest}
+use Rattle.lists.proofs.Cuts.{from, take_rest}
+use Rattle.lists.proofs.Tests.{and_both}
 use Rattle.topology.proofs.Accepted.{accepted-is, is-accepted, at_byte}
 use Rattle.topology.proofs.Water.{watershed-shape}
 use Rattle.topology.proofs.Demand.{demand-3}
-use Rattle.p5.specs.Files.{read_file, outcome_number, header_of}
-use Rattle.p5.proofs.Accepted.{accepted-number}
+use Rattle.p5.specs.declared.header.Header.{Header}
+use Rattle.p5.specs.Files.{read_file}
+use Rattle.p5.specs.Shapes.{Accepts}
+use Rattle.p5.proofs.Accepted.{accepted, fits-inside}
+use Rattle.refusals.specs.declared.Refusal.{Refusal}
 use Rattle.hold_lines.specs.Lines.{refused_line}
-use Rattle.file_text.specs.FileText.{input_most, file_fault}
-use Rattle.file_text.proofs.FileTexts.{text-refused, text-print, text-counted}
+use Rattle.refusals.specs.Refusals.{number_of}
+use Rattle.file_text.specs.FileText.{input_most}
+use Rattle.file_text.specs.Handed.{handed}
+use Rattle.file_text.proofs.FileTexts.{handed-refused, handed-accepted, text-refused, text-print, text-counted}
 use Rattle.hold_list.specs.HoldText.{patch_list, hold_list, picture_in, picture_text, filled_list, asked_size, program_text}
 use Rattle.hold_list.specs.Steps.{asked_list}
-
--- a picture with adjacency 4
-abbrev picture : ℕ → ℕ → List ℕ → Picture
-picture = picture_of 4
 
 -- a test may come before reading or after it
 test-later :
@@ -41,11 +36,14 @@ module _ (words : ℕ) (a : List ℕ) where
   unfolding program_text asked_list
   asked f = test-later (ltb words 2) hold_list (filled_list (asked_size words a)) f
 
-  pub words-refused : (f : List ℕ) → file_fault f ≢ 0 → program_text words a f ≡ refused_line (file_fault f)
-  words-refused f d = asked f ∙ text-refused _ f d
+  -- by what is read of it
+  pub words-refused : (f : List ℕ) (e : Refusal) (n : ℕ) → handed f ≡ Err e → n ≡ number_of e → refused_line n ≡ program_text words a f
+  words-refused f e n h same =
+      let (number, some) = handed-refused f h in
+      ap refused_line (same ∙ number) ∙ sym (asked f ∙ text-refused _ f some)
 
-  pub words-list : (f : List ℕ) → file_fault f ≡ 0 → program_text words a f ≡ asked_list words a (picture_in f)
-  words-list f e = asked f ∙ text-print _ f e
+  pub words-list : (f : List ℕ) (h : Header) → handed f ≡ Ok h → asked_list words a (picture_in f) ≡ program_text words a f
+  words-list f h e = sym (asked f ∙ text-print _ f (handed-accepted f e).0)
 
   -- an input that is too long: refusal 12
   pub words-counted :
@@ -62,30 +60,34 @@ module _ (words : ℕ) (a : List ℕ) (p : Picture) where
   unfolding asked_list
   asked-filled h = rw (le-ltb words 2 h)
 
-module _ (f : List ℕ) where
-  -- an accepted file holds an accepted picture
-  pub file-picture : outcome_number (read_file f) ≡ 0 → ((i : ℕ) → get_or f i 0 ≤ 255) → is_picture (picture_in f) ≡ true
-  file-picture e b =
-      let h = header_of (read_file f) in
-      let a = (accepted-number f).0 e in
-      is-accepted (picture_in f)
+-- an accepted file
+module _ (f : List ℕ) (h : Header) (e : read_file f ≡ Ok h) where
+  shape : Accepts f h
+  shape = (accepted f h).0 e
+
+  pub file-offset : h.offset ≤ length f
+  file-offset = omega (arith, shape.headed.offset)
+
+  pub file-sides : side_fits h.width && side_fits h.height ≡ true
+  file-sides = and_both (fits-inside shape.width) (fits-inside shape.height)
+
+  -- its sides and its pixels are those of its picture, which is accepted
+  pub read-picture : picture_of 4 h.width h.height (from h.offset f) ≡ picture_in f
+  read-picture = rw (e, take_rest h.offset f)
+
+  pub file-picture : ((i : ℕ) → get_or f i 0 ≤ 255) → is_picture (picture_of 4 h.width h.height (from h.offset f)) ≡ true
+  file-picture b =
+      rw (take_rest h.offset f)
+      (is-accepted (picture_of 4 h.width h.height (drop h.offset f))
       (record {
         adjacency = inl refl;
-        some = a.width.0;
-        wide = a.width.1;
-        tall = a.height.0;
-        high = a.height.1;
-        size = let l = length-drop h.offset f in let o = a.headed.offset in let c = a.count in omega arith;
-        bytes = at_byte (drop h.offset f) (λ i. let q = get_or-drop h.offset f i 0 in let k = b (h.offset + i) in omega arith);
-      })
-
-  -- the sides and the pixels that reading answers are those of that picture
-  pub read-picture :
-      (w h o : ℕ) → w ≡ (header_of (read_file f)).width → h ≡ (header_of (read_file f)).height → o ≡ (header_of (read_file f)).offset →
-      picture w h (take (length f - o) (drop o f)) ≡ picture_in f
-  read-picture w h o ew eh eo =
-      ap (picture w h) (take_rest o f ∙ ap (λ (i : ℕ). drop i f) eo) ∙
-      ap₂ (λ (a b : ℕ). picture a b (drop (header_of (read_file f)).offset f)) ew eh
+        some = shape.width.0;
+        wide = shape.width.1;
+        tall = shape.height.0;
+        high = shape.height.1;
+        size = omega (arith, length-drop h.offset f, shape.headed.offset, shape.count);
+        bytes = at_byte (drop h.offset f) (λ i. omega (arith, get_or-drop h.offset f i 0, b (h.offset + i)));
+      }))
 
 -- bytes that are the pixels of the watershed of an accepted picture
 module _ (p : Picture) (h : is_picture p ≡ true) (xs : List ℕ) (e : xs ≡ (watershed p).pixels) where

@@ -2,27 +2,21 @@
 ghost use Rattle.std.specs.Prelude.{◌≡◌};
 ghost use Rattle.hold_list.specs.HoldText.{named_size, asked_size};
 
-use p5::field::{Field, digits_at};
+use p5::field::digits_at;
 
 // The least size that an argument names: 1 to 5 digits and nothing behind them; else 0.
 fn named_size(argument: &[u8]) -> u32
     ensures { result ≡ named_size argument.now }
 {
-    let Field::Number(value, end) = digits_at(argument, 0) else {
-        return 0;
-    };
-    if end != argument.len() {
-        return 0;
+    match digits_at(argument, 0) {
+        Ok(number) if number.end == argument.len() => number.value,
+        _ => 0,
     }
-    value
 }
 
 // The least size that the words name: with two the argument's, else 0.
 pub fn asked_size(words: usize, argument: &[u8]) -> u32
     ensures { result ≡ asked_size words argument.now }
 {
-    if words != 2 {
-        return 0;
-    }
-    named_size(argument)
+    if words == 2 { named_size(argument) } else { 0 }
 }

@@ -5,61 +5,42 @@ use argument::asked_size;
 use faults::size_inside;
 use file_text::read_handed;
 use filling::whole::fill_core;
+use geometry::adjacency::Adjacency;
+use geometry::grid::Grid;
+use geometry::raster::Raster;
 use hold_lines::{put_head, put_lines, put_refusal};
+use p5::header::Header;
 use patches::cores::patch_figures;
 use patches::places::count_line;
 use watershed::whole::watershed_core;
 
 mod argument;
 
-ghost use Rattle.std.specs.Prelude.{◌≡◌, true, ◌*◌, ◌≤◌, ◌<◌, length, take};
-ghost use Rattle.picture.specs.Pictures.{is_picture, picture_of};
+ghost use Rattle.std.specs.Prelude.{◌≡◌, ◌≤◌, ◌<◌, length, take, Ok};
+ghost use Rattle.picture.specs.Pictures.{places};
+ghost use Rattle.geometry.specs.Rasters.{picture};
 ghost use Rattle.patches.specs.Figures.{Figures};
 ghost use Rattle.patch_numbers.specs.Numbers.{FiveBlocks};
 ghost use Rattle.lists.specs.Writing.{Written};
 ghost use Rattle.hold_lines.specs.Lines.{refused_line};
+ghost use Rattle.p5.specs.Files.{read_file};
 ghost use Rattle.file_text.specs.FileText.{input_most};
-ghost use Rattle.hold_list.specs.HoldText.{patch_list, hold_list, filled_list, program_text};
+ghost use Rattle.hold_list.specs.HoldText.{patch_list, hold_list, filled_list, picture_in, program_text};
 ghost use Rattle.hold_list.specs.Steps.{asked_list};
 
 // Writes the list of the patches of a picture from their figures, and answers the position behind it.
-fn put_list(
-    raster: &Raster,
-    count: usize,
-    work: &[u16],
-    cells: &[u16],
-    out: &mut [u8],
-) -> usize
+fn put_list(raster: &Raster, count: usize, work: &[u16], cells: &[u16], out: &mut [u8]) -> usize
     requires { FiveBlocks (places (picture raster.now)) work.now cells.now × Figures (picture raster.now) count work.now cells.now × (59264 ≤ length out.old) }
     ensures { Written 0 (patch_list (picture raster.now)) out.old result out.new }
 {
-    // where the blocks of row sums, depths and heights begin; sizes are at 0, column sums at n
-    let n = raster.pixels.len();
-    let rows = 2 * n;
-    let depths = 3 * n;
-    let heights = 4 * n;
     let grid = raster.grid;
     let line = count_line(cells);
     let next = put_head(out, grid.width, grid.height, count as u32, line as u32);
-    put_lines(
-        out,
-        next,
-        count,
-        &work[..n],
-        &work[heights..],
-        &work[depths..],
-        &work[n..],
-        &work[rows..],
-    )
+    put_lines(out, next, work, raster.pixels.len(), count)
 }
 
 // Writes the list of the patches of a picture, and answers the position behind it.
-fn put_patches(
-    raster: &Raster,
-    work: &mut [u16],
-    cells: &mut [u16],
-    out: &mut [u8],
-) -> usize
+fn put_patches(raster: &Raster, work: &mut [u16], cells: &mut [u16], out: &mut [u8]) -> usize
     requires { FiveBlocks (places (picture raster.now)) work.old cells.old × (59264 ≤ length out.old) }
     ensures { Written 0 (patch_list (picture raster.now)) out.old result out.new }
 {
