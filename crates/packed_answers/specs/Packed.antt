@@ -2,9 +2,8 @@
 use Rattle.std.specs.Prelude.{ℕ, ◌/◌, ◌%◌}
 use Rattle.answers.specs.Answers.{Answer}
 use Rattle.board.specs.declared.query.Ground.{Ground}
-use Rattle.board.specs.Calls.{QueryAnswer}
-use Rattle.board.specs.Calls.{ground_of, patch_number}
-use Rattle.saving.specs.declared.Saved.{Saved}
+use Rattle.board.specs.Calls.{QueryAnswer, ground_of, patch_number}
+use Rattle.saving.specs.Calls.{Saved}
 
 -- 2 to the power 32: the refusal's number stands above 32 bits
 abbrev pub two_to_32 : ℕ

@@ -1,11 +1,12 @@
 // Answers packed into one number, for C.
 #![tactic(auto)]
 
-ghost use Rattle.std.specs.Prelude.{◌≡◌};
+ghost use Rattle.std.specs.Prelude.{◌≡◌, ◌*◌, ◌<◌, IfErr};
+ghost use Rattle.refusals.specs.Refusals.{number_of, place_of};
 ghost use Rattle.answers.specs.Answers.{answer_of};
-ghost use Rattle.saving.specs.Saved.{saved_of};
+ghost use Rattle.saving.specs.Calls.{saved_of};
 ghost use Rattle.board.specs.Calls.{queried_of};
-ghost use Rattle.packed_answers.specs.Packed.{answer_in, queried_in, ground_by_number, saved_in};
+ghost use Rattle.packed_answers.specs.Packed.{two_to_32, answer_in, queried_in, ground_by_number, saved_in};
 
 use board::{Queried, patch_number};
 use refusals::Refusal;
@@ -47,6 +48,7 @@ pub fn packed_query(answer: Result<Queried, Refusal>) -> u64
 
 // The refusal's number above 32 bits and its place above 16 bits, or the count of bytes in those.
 pub fn packed_saved(answer: Result<u16, Refusal>) -> u64
+    requires { IfErr answer (λ e. place_of e < 65536) }
     ensures { saved_in result ≡ saved_of answer }
 {
     match answer {

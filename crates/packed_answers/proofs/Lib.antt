@@ -1,2 +1,0 @@
--- Laws of packed answers.
-pub mod Answers
