@@ -1,7 +1,6 @@
 -- Laws of what the calls for C promise: refusals, and what was written.
 use mathlib.Core.Path.{◌≡◌, refl, sym, ap, ap₂, subst, ◌∙◌}
 use mathlib.Core.Bool.{Bool}
-use mathlib.Core.Logic.{◌≢◌}
 use mathlib.Core.List.{List, ◌++◌}
 use Prim.Native.Nat.{ℕ, zero, suc, ◌*◌, ◌/◌, ◌≤◌, ◌<◌}
 use native.Mathlib.Omega.{arith}
@@ -17,13 +16,17 @@ use Rattle.picture.specs.Patches.{patch_at}
 use Rattle.lists.proofs.Tests.{on_test, pick-in}
 use Rattle.p5.specs.Files.{read_file, outcome_number, header_of}
 use Rattle.lists.specs.Writing.{Written}
-use Rattle.answers.specs.Answers.{Answer}
-use Rattle.board.specs.Calls.{QueryAnswer}
+use Rattle.std.proofs.Common.{Result, Ok, Err}
+use Rattle.refusals.specs.declared.Refusal.{Refusal}
+use Rattle.refusals.specs.Refusals.{number_of}
+use Rattle.refusals.proofs.Numbers.{number-some}
+use Rattle.p5.specs.declared.header.Header.{Header}
+use Rattle.board.specs.declared.query.Queried.{Queried}
 use Rattle.faults.specs.Faults.{work_fault, work_fault_of, output_fault}
 use Rattle.faults.specs.Steps.{Faultless}
-use Rattle.answers.specs.Answers.{after_call, work_after}
-use Rattle.board.specs.Calls.{output_fault_of, place_fault_of, ground_of, patch_number, WatershedSays, QuerySays}
-use Rattle.faults.proofs.Faults.{first-later, then-failed, then-none, work-size, work_none, output-none, output-enough, place-counted, faultless}
+use Rattle.answers.specs.Answers.{answer_of, after_call, work_after}
+use Rattle.board.specs.Calls.{QueryAnswer, queried_of, output_fault_of, place_fault_of, ground_of, patch_number, WatershedSays, QuerySays}
+use Rattle.faults.proofs.Faults.{first_some, first-none, then-failed, then-none, work_none, output-none, output-enough, place-counted, faultless}
 use Rattle.answers.proofs.Calls.{refused-left, written-left}
 use Rattle.board_c.specs.CalledByC.{pair, read_fault_for_c, header_bytes, ReadForC, work_fault_for_c, watershed_fault_for_c, bytes_after, WatershedForC, place_fault_for_c, PlaceForC}
 use Rattle.packing.specs.Packing.{packed}
@@ -39,23 +42,34 @@ module _ (f o : List ℕ) where
   unfolding read_fault_for_c
   read_is = refl
 
-  pub read-fault : (n r : ℕ) → n ≡ outcome_number (read_file f) → r ≡ first_of n (when (ltb (length o) 32) 9) → r ≡ read_fault_for_c f o
-  read-fault n r e w = w ∙ (ap (λ (k : ℕ). first_of k (when (ltb (length o) 32) 9)) e ∙ read_is)
-
   pub read-room : read_fault_for_c f o ≡ 0 → 32 ≤ length o
   read-room z = ltb-false (length o) 32 (then-none (outcome_number (read_file f)) 8 _ _ read_is z).1
 
-  pub read-refused : (r : ℕ) → r ≡ read_fault_for_c f o → r ≢ 0 → ReadForC f o o r
-  read-refused r e d = record { number = e; output = refused-left (read_fault_for_c f o) r e d (over (header_bytes f) o) o }
+  read-refused : (e : Refusal) → number_of e ≡ read_fault_for_c f o → ReadForC f o o (number_of e)
+  read-refused e n = record { number = n; output = refused-left (read_fault_for_c f o) e n (over (header_bytes f) o) o }
 
-  pub read_done : (o' : List ℕ) {to : ℕ} → read_fault_for_c f o ≡ 0 → Written 0 (header_bytes f) o to o' → ReadForC f o o' 0
-  read_done o' z w = record { number = sym z; output = output-written (read_fault_for_c f o) (header_bytes f) o o' z w }
+  -- the file is refused, or the output
+  pub read-refused-file : (e : Refusal) → Err e ≡ read_file f → ReadForC f o o (number_of e)
+  read-refused-file e n =
+      let some = number-some e in
+      read-refused e (first_some _ _ _ (ap (λ (r : Result Header Refusal). outcome_number r) n) (omega arith) ∙ read_is)
 
-  -- the four numbers of an answer are those of the header
-  pub header_is :
-      (w h l p : ℕ) → w ≡ (header_of (read_file f)).width → h ≡ (header_of (read_file f)).height → l ≡ (header_of (read_file f)).largest →
-      p ≡ (header_of (read_file f)).offset → pair w h ++ pair l p ≡ header_bytes f
-  header_is w h l p ew eh el ep = ap₂ (λ (x y : List ℕ). x ++ y) (ap₂ pair ew eh) (ap₂ pair el ep)
+  module _ (header : Header) (is : Ok header ≡ read_file f) where
+    none : 0 ≡ outcome_number (read_file f)
+    none = ap (λ (r : Result Header Refusal). outcome_number r) is
+
+    pub read-refused-output : (e : Refusal) → number_of e ≡ when (ltb (length o) 32) 9 → ReadForC f o o (number_of e)
+    read-refused-output e n = read-refused e (n ∙ (sym (first-none (outcome_number (read_file f)) _ (sym none)) ∙ read_is))
+
+    pub read_done : (o' : List ℕ) {to : ℕ} → 0 ≡ when (ltb (length o) 32) 9 → Written 0 (pair header.width header.height ++ pair header.largest header.offset) o to o' → ReadForC f o o' 0
+    read_done o' {to} z w =
+        let fz : read_fault_for_c f o ≡ 0 = sym (z ∙ (sym (first-none (outcome_number (read_file f)) _ (sym none)) ∙ read_is)) in
+        record {
+          number = sym fz;
+          output =
+              output-written (read_fault_for_c f o) (header_bytes f) o o' fz
+              (subst (λ (r : Result Header Refusal). Written 0 (pair (header_of r).width (header_of r).height ++ pair (header_of r).largest (header_of r).offset) o to o') is w);
+        }
 
 -- work of 10 n bytes is work of 5 n entries
 half-short : (work m : ℕ) → ltb (work / 2) (5 * m) ≡ ltb work (10 * m)
@@ -105,14 +119,14 @@ module _ (p : Picture) (o q : List ℕ) where
   unfolding output_fault watershed_fault_for_c
   water-fault = ap (λ (f : ℕ). first_of f (when (ltb (length o) (places p)) 9)) (half-work p (length q))
 
-  pub water-refused : (r : ℕ) → r ≡ output_fault p.adjacency p.width p.height (length p.pixels) (length o) (length q / 2) → r ≢ 0 → WatershedForC p o o q q r
-  water-refused r e d =
+  pub water-refused : (e : Refusal) → number_of e ≡ output_fault p.adjacency p.width p.height (length p.pixels) (length o) (length q / 2) → WatershedForC p o o q q (number_of e)
+  water-refused e n =
       let f = watershed_fault_for_c p (length o) (length q) in
-      let g = e ∙ water-fault in
+      let g = n ∙ water-fault in
       record {
         number = g;
-        output = refused-left f r g d (over (watershed p).pixels o) o;
-        work = refused-left f r g d (over (replicate (10 * places p) 0) q) q;
+        output = refused-left f e g (over (watershed p).pixels o) o;
+        work = refused-left f e g (over (replicate (10 * places p) 0) q) q;
       }
 
   module _ (z : output_fault p.adjacency p.width p.height (length p.pixels) (length o) (length q / 2) ≡ 0) where
@@ -129,11 +143,16 @@ module _ (p : Picture) (o q : List ℕ) where
         output-none p.adjacency p.width p.height n (length cells) (length o) (local-work p q water-lent cells e)
         (omega (arith, water-lent.size, water-enough.1))
 
+    -- so it refuses nothing
+    pub water-unrefused : {A : Type 0} (o' cells left : List ℕ) (e : Refusal) → length cells ≡ 8000 → WatershedSays p o o' cells left (answer_of (Err e)) → A
+    water-unrefused o' cells left e n w =
+        let some = number-some e in let number = w.call.answer.number ∙ water-inner cells n in absurd (omega (arith, some, number))
+
     -- no fault: what the public call left with the unpacked entries, and what was packed of it
     pub water-done :
-        (o' q' cells left : List ℕ) (r : Answer) → length cells ≡ 8000 → WatershedSays p o o' cells left r →
+        (o' q' cells left : List ℕ) (v : ℕ) → length cells ≡ 8000 → WatershedSays p o o' cells left (answer_of (Ok v)) →
         q' ≡ over (packed (take (5 * length p.pixels) left)) q → WatershedForC p o o' q q' 0
-    water-done o' q' cells left r e w c =
+    water-done o' q' cells left v e w c =
         let f = watershed_fault_for_c p (length o) (length q) in
         let fz : f ≡ 0 = sym water-fault ∙ z in
         let g = output_fault_of p o cells in
@@ -147,16 +166,26 @@ module _ (p : Picture) (o q : List ℕ) where
 
 -- the faults of a place query for C one after the other, as the code decides them
 module _ (p : Picture) (out work x : ℕ) where
-  pub place-fault :
-      (f g r : ℕ) → f ≡ work_fault_of p (work / 2) → g ≡ first_of f (when (ltb out 16) 9) →
-      r ≡ first_of g (when (leb (length p.pixels) x) 10) → r ≡ place_fault_for_c p out work x
+  pub place-first : (e : Refusal) → number_of e ≡ work_fault_of p (work / 2) → number_of e ≡ place_fault_for_c p out work x
   unfolding place_fault_for_c
-  place-fault f g r e d w =
-      w ∙
-      (first-later g (length p.pixels) (places p) (λ n. when (leb n x) 10)
-      (λ z. work-size p.adjacency p.width p.height (length p.pixels) (work / 2) (sym e ∙ (then-none f 8 (ltb out 16) g (sym d) z).0)) ∙
-      ap (λ (k : ℕ). first_of k (when (leb (places p) x) 10))
-      (d ∙ ap (λ (k : ℕ). first_of k (when (ltb out 16) 9)) (e ∙ half-work p work)))
+  place-first e n =
+      let some = number-some e in
+      first_some _ _ _ (first_some (work_fault_for_c p work) _ _ (n ∙ half-work p work) (omega arith)) (omega arith)
+
+  module _ (z : 0 ≡ work_fault_of p (work / 2)) where
+    pub place-second : (e : Refusal) → number_of e ≡ when (ltb out 16) 9 → number_of e ≡ place_fault_for_c p out work x
+    unfolding place_fault_for_c
+    place-second e n =
+        let some = number-some e in
+        first_some _ _ _ (n ∙ sym (first-none (work_fault_for_c p work) _ (sym (z ∙ half-work p work)))) (omega arith)
+
+    pub place-third :
+        (n g : ℕ) → n ≡ places p → 0 ≡ when (ltb out 16) 9 → g ≡ when (leb n x) 10 → g ≡ place_fault_for_c p out work x
+    unfolding place_fault_for_c
+    place-third n g size y e =
+        let two : first_of (work_fault_for_c p work) (when (ltb out 16) 9) ≡ 0 =
+        first-none (work_fault_for_c p work) _ (sym (z ∙ half-work p work)) ∙ sym y in
+        e ∙ (ap (λ (k : ℕ). when (leb k x) 10) size ∙ sym (first-none _ _ two))
 
   -- no fault: each cause is absent
   pub place-enough : place_fault_for_c p out work x ≡ 0 → (work_fault_of p (work / 2) ≡ 0) × (16 ≤ out) × (x < places p)
@@ -185,13 +214,13 @@ module _ (p : Picture) (x : ℕ) (cells left : List ℕ) (r : QueryAnswer) (s : 
       pick-in (place_fault_of p cells x) 0 (patch_at p x) 0 z)
 
 module _ (p : Picture) (x : ℕ) (o q : List ℕ) where
-  pub place-refused : (r : ℕ) → r ≡ place_fault_for_c p (length o) (length q) x → r ≢ 0 → PlaceForC p x o o q q r
-  place-refused r e d =
+  pub place-refused : (e : Refusal) → number_of e ≡ place_fault_for_c p (length o) (length q) x → PlaceForC p x o o q q (number_of e)
+  place-refused e n =
       let f = place_fault_for_c p (length o) (length q) x in
       record {
-        number = e;
-        output = refused-left f r e d (over (pair (value_at p x) (patch_at p x)) o) o;
-        work = refused-left f r e d (over (replicate (10 * places p) 0) q) q;
+        number = n;
+        output = refused-left f e n (over (pair (value_at p x) (patch_at p x)) o) o;
+        work = refused-left f e n (over (replicate (10 * places p) 0) q) q;
       }
 
   module _ (z : place_fault_for_c p (length o) (length q) x ≡ 0) where
@@ -212,15 +241,22 @@ module _ (p : Picture) (x : ℕ) (o q : List ℕ) where
         (then-failed _ 9 (leb n x) _ (place-counted p.adjacency p.width p.height n (length cells) x)
         (local-work p q place-lent cells e) (lt-leb n x (omega (arith, place-lent.size, query-enough.2))))
 
+    -- so it refuses nothing
+    pub place-unrefused : {A : Type 0} (cells left : List ℕ) (e : Refusal) → length cells ≡ 8000 → QuerySays p x cells left (queried_of (Err e)) → A
+    place-unrefused cells left e n s =
+        let some = number-some e in
+        let number = ap (λ (u : QueryAnswer). u.number) s.answer ∙ place-inner cells n in
+        absurd (omega (arith, some, number))
+
     -- no fault: what the public call answered and left with the unpacked entries, and what was written and packed of it
     pub place-done :
-        (o' q' cells left : List ℕ) (r : QueryAnswer) (n to : ℕ) → length cells ≡ 8000 → QuerySays p x cells left r → n ≡ patch_number r.ground →
-        Written 0 (pair r.value n) o to o' → q' ≡ over (packed (take (5 * length p.pixels) left)) q → PlaceForC p x o o' q q' 0
-    place-done o' q' cells left r n to e s en w c =
+        (o' q' cells left : List ℕ) (u : Queried) (n to : ℕ) → length cells ≡ 8000 → QuerySays p x cells left (queried_of (Ok u)) → n ≡ patch_number u.ground →
+        Written 0 (pair u.value n) o to o' → q' ≡ over (packed (take (5 * length p.pixels) left)) q → PlaceForC p x o o' q q' 0
+    place-done o' q' cells left u n to e s en w c =
         let f = place_fault_for_c p (length o) (length q) x in
         let gz = place-inner cells e in
-        let value = answered-value p x cells left r s gz in
-        let number = en ∙ answered-number p x cells left r s gz in
+        let value = answered-value p x cells left _ s gz in
+        let number = en ∙ answered-number p x cells left _ s gz in
         record {
           number = sym z;
           output =

@@ -38,18 +38,8 @@ fn read_bytes(file: &[u8], out: &mut [u8]) -> Result<(), Refusal>
 {
     let header = read_file(file)?;
     room(out.len(), 32)?;
-    let next = put_pair(
-        out,
-        0,
-        u64::from(header.width),
-        u64::from(header.height),
-    );
-    put_pair(
-        out,
-        next,
-        u64::from(header.largest),
-        header.offset as u64,
-    );
+    let next = put_pair(out, 0, u64::from(header.width), u64::from(header.height));
+    put_pair(out, next, u64::from(header.largest), header.offset as u64);
     Ok(())
 }
 
