@@ -1,2 +1,0 @@
--- Laws of the calls for firmware.
-pub mod Packed
