@@ -1,7 +1,6 @@
 -- The lines of the patches of a picture are those of the blocks of its figures.
 use mathlib.Core.List.{flat_map}
-use native.Mathlib.Numerals.{add-one}
-use Rattle.std.proofs.Common.{◌≡◌, refl, sym, ap, ap₂, ◌∙◌, List, [], ◌∷◌, ◌++◌, ℕ, suc, ◌+◌, ◌≤◌, ◌<◌, length, get_or, arith}
+use Rattle.std.proofs.Common.{◌≡◌, refl, sym, ap, ap₂, ◌∙◌, List, [], ◌∷◌, ◌++◌, ℕ, suc, ◌+◌, ◌≤◌, ◌<◌, length, get_or, add-one, arith}
 use Rattle.lists.specs.Lists.{range}
 use Rattle.picture.specs.Pictures.{Picture, places}
 use Rattle.picture.specs.Patches.{Patch, patches, line_count}

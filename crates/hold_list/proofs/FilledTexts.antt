@@ -1,8 +1,6 @@
 -- The hold list of a filled picture: its refusal, and the bytes that the core of filling leaves.
-use Rattle.std.proofs.Common.{◌≡◌, ◌≢◌, sym, ap, ◌∙◌, false, true, List, ◌++◌, ℕ, ◌≤◌, eqb, ltb, length, take, drop, replicate, arith}
-use lib.ListN.{length-append}
-use lib.Seq.{take_at}
-use borrow.Author.Tests.{eqb-false, ltb-false}
+use Rattle.std.proofs.Common.{◌≡◌, ◌≢◌, sym, ap, ◌∙◌, false, true, List, ◌++◌, ℕ, ◌≤◌, eqb, ltb, length, take, drop, replicate, length-append, take_at, ltb-false, arith}
+use borrow.Author.Tests.{eqb-false}
 use Rattle.lists.proofs.Tests.{on-pick, or-fails}
 use Rattle.picture.specs.Pictures.{Picture, places, with_pixels, is_picture}
 use Rattle.picture.specs.Filling.{filled}

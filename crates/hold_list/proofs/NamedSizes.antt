@@ -1,17 +1,8 @@
 -- An argument names a size where the digits at its front are all of it.
-use mathlib.Core.Path.{◌≡◌, refl, sym, ap, ap₂, ◌∙◌}
-use mathlib.Core.Bool.{Bool, ◌&&◌}
-use mathlib.Core.Logic.{◌≢◌}
-use mathlib.Core.List.{List, [], append-nil}
-use Prim.Native.Nat.{ℕ}
-use native.Mathlib.Omega.{arith}
-use lib.Dec.{eqb, leb}
-use lib.ListN.{length, take}
-use lib.Seq.{take_all}
-use borrow.Author.Tests.{eqb-false, le-leb, leb-true}
+use Rattle.std.proofs.Common.{◌≡◌, ◌≢◌, refl, sym, ap, ap₂, ◌∙◌, Bool, ◌&&◌, List, [], ℕ, eqb, leb, length, take, Result, Err, append-nil, take_all, le-leb, leb-true, arith}
+use borrow.Author.Tests.{eqb-false}
 use Rattle.lists.specs.Lists.{pick, all}
 use Rattle.lists.proofs.Tests.{on-pick, and_left, and_right, and_both}
-use Rattle.std.specs.Prelude.{Result, Err}
 use Rattle.p5.specs.declared.field.Number.{Number}
 use Rattle.p5.specs.Headers.{leading, is_digit, decimal_value, number, digits_at}
 use Rattle.p5.specs.Shapes.{Numeral}

@@ -1,7 +1,5 @@
 -- The text for a file by the cases of reading and of the words; the picture of an accepted file.
-use Rattle.std.proofs.Common.{◌≡◌, refl, sym, ap, ◌∙◌, Bool, true, false, ◌&&◌, inl, List, ℕ, ◌+◌, ◌≤◌, ◌<◌, ltb, length, get_or, take, drop, length-drop, Ok, Err, arith}
-use lib.Seq.{get_or-drop}
-use borrow.Author.Tests.{lt-ltb, le-ltb}
+use Rattle.std.proofs.Common.{◌≡◌, refl, sym, ap, ◌∙◌, Bool, true, false, ◌&&◌, inl, List, ℕ, ◌+◌, ◌≤◌, ◌<◌, ltb, length, get_or, take, drop, length-drop, get_or-drop, lt-ltb, le-ltb, Ok, Err, arith}
 use Rattle.lists.specs.Lists.{pick}
 use Rattle.picture.specs.Pictures.{Picture, with_pixels, side_fits, is_picture, picture_of}
 use Rattle.picture.specs.Watersheds.{watershed}
@@ -15,8 +13,8 @@ use Rattle.p5.specs.Files.{read_file}
 use Rattle.p5.specs.Shapes.{Accepts}
 use Rattle.p5.proofs.Accepted.{accepted, fits-inside}
 use Rattle.refusals.specs.declared.Refusal.{Refusal}
-use Rattle.hold_lines.specs.Lines.{refused_line}
 use Rattle.refusals.specs.Refusals.{number_of}
+use Rattle.hold_lines.specs.Lines.{refused_line}
 use Rattle.file_text.specs.FileText.{input_most}
 use Rattle.file_text.specs.Handed.{handed}
 use Rattle.file_text.proofs.FileTexts.{handed-refused, handed-accepted, text-refused, text-print, text-counted}
@@ -30,7 +28,7 @@ test-later :
 test-later true g h f = refl
 test-later false g h f = refl
 
--- what the program prints by the fault of the file
+-- what the program prints for a file
 module _ (words : ℕ) (a : List ℕ) where
   asked : (f : List ℕ) → program_text words a f ≡ picture_text (asked_list words a) f
   unfolding program_text asked_list
@@ -71,10 +69,7 @@ module _ (f : List ℕ) (h : Header) (e : read_file f ≡ Ok h) where
   pub file-sides : side_fits h.width && side_fits h.height ≡ true
   file-sides = and_both (fits-inside shape.width) (fits-inside shape.height)
 
-  -- its sides and its pixels are those of its picture, which is accepted
-  pub read-picture : picture_of 4 h.width h.height (from h.offset f) ≡ picture_in f
-  read-picture = rw (e, take_rest h.offset f)
-
+  -- its picture is accepted
   pub file-picture : ((i : ℕ) → get_or f i 0 ≤ 255) → is_picture (picture_of 4 h.width h.height (from h.offset f)) ≡ true
   file-picture b =
       rw (take_rest h.offset f)

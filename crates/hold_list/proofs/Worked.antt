@@ -1,7 +1,5 @@
 -- Texts by computation: H3, a hold with centres at a half and an empty file without an argument, H3 with the argument 2, what names no size.
-use mathlib.Core.Path.{◌≡◌, refl}
-use mathlib.Core.List.{List, [], ◌∷◌}
-use Prim.Native.Nat.{ℕ}
+use Rattle.std.proofs.Common.{◌≡◌, refl, List, [], ◌∷◌, ℕ}
 use Rattle.picture.specs.Pictures.{adjacent}
 use Rattle.picture.specs.Components.{component_at, components}
 use Rattle.picture.specs.Trees.{is_branch, nodes_at, nodes, is_leaf}

@@ -161,7 +161,6 @@ pub fn put_text(
     ensures written { Written 0 (program_text words argument.now (take count input.now)) out.old result out.new }
     ensures input_value { input_most < count → program_text words argument.now (take count input.now) ≡ refused_line 12 }
 {
-    let bytes: &[u8] = input;
-    let length = count.min(bytes.len());
-    put_file_text(&bytes[..length], words, argument, out)
+    let length = count.min(input.len());
+    put_file_text(&input[..length], words, argument, out)
 }

@@ -1,11 +1,7 @@
 -- `hold_list::put_file_text` meets its contract: an accepted file, a refused one.
 use Rattle.std.proofs.Common.{sym, ◌∙◌}
-use Rattle.file_text.proofs.FileTexts.{handed-accepted}
 use Rattle.hold_list.proofs.Texts.{words-refused, words-list}
 use Rattle.hold_list.proofs.put_file_text.Goals as goal
-
-pub put_read-requires : goal.put_read-requires
-put_read-requires c = ((handed-accepted _ (sym c.in-Ok.ensures)).1, c.requires)
 
 pub returns-in-Ok : goal.returns-in-Ok
 returns-in-Ok c =

@@ -17,7 +17,7 @@ overflow_cast-line c =
 pub put_head-next-requires : goal.put_head-next-requires
 put_head-next-requires c =
     let small = head-small c.args.raster.now c.requires.0 c.requires.1 (c.count_line-line.ensures _ c.requires.1.map) in
-    (small.0, small.1, small.2, small.3, omega arith)
+    (small.0, small.1, omega arith, omega arith, omega arith)
 
 pub put_lines-requires : goal.put_lines-requires
 put_lines-requires c =

