@@ -1,18 +1,20 @@
 // Prints what reading answers for the first 65,536 bytes of standard input: number, place, width, height, largest sample, offset.
 #![tactic(auto)]
 
-ghost use Rattle.std.specs.Prelude.{take};
+ghost use Rattle.std.specs.Prelude.{◌≡◌, ◌≤◌, take};
 ghost use Rattle.io.specs.Counts.{IsPrefixLen};
+ghost use Rattle.p5.specs.Files.{place_of, header_of};
 ghost use Rattle.text.specs.Decimal.{fields};
 ghost use Rattle.lists.specs.Writing.{Written};
-ghost use Rattle.read_report.specs.Reports.{report};
+ghost use Rattle.read_report.specs.Reports.{line_in, report};
 
 use board::{Header, Refusal, read_file};
 use text::put_fields;
 
 // The six numbers of an answer: a refusal's number and place, or an accepted file's sides, largest sample and offset.
 fn line_of(answer: Result<Header, Refusal>) -> [u32; 6]
-    ensures { result ≡ line_of answer }
+    requires { (place_of answer ≤ 65536) × ((header_of answer).offset ≤ 65536) }
+    ensures { result ≡ line_in answer }
 {
     match answer {
         Ok(header) => [
@@ -40,16 +42,15 @@ fn put_report(input: &[u8; 65536], count: usize, out: &mut [u8; 66]) -> usize
     ensures written { Written 0 (fields (report (take count input.now))) out.old result out.new }
     ensures prefix_len { IsPrefixLen result out.new }
 {
-    let bytes: &[u8] = input;
-    let length = count.min(bytes.len());
-    let line = line_of(read_file(&bytes[..length]));
+    let length = count.min(input.len());
+    let line = line_of(read_file(&input[..length]));
     put_fields(out, 0, &line)
 }
 
 fn main() {
     let mut input = io::large_buffer();
     let count = io::read_full(0, &mut input);
-    let mut out: [u8; 66] = [0; 66];
+    let mut out = [0u8; 66];
     let end = put_report(&input, count, &mut out);
     io::write_all(1, &out[..end]);
 }

@@ -1,45 +1,33 @@
 -- `read_report::put_report` meets its contract: no more bytes are counted than the input has, and the line has room.
-use mathlib.Core.Path.{subst}
-use mathlib.Core.List.{List}
-use Prim.Native.Nat.{ℕ, ◌≤◌}
-use native.Mathlib.Omega.{arith}
-use lib.ListN.{length, take, length-take}
+use Rattle.std.proofs.Common.{rules, ◌≡◌, ◌≤◌, ◌<◌, ◌∙◌, ap, subst, List, ℕ, arith, length, take, get_or, length-take}
 use Rattle.lists.specs.Writing.{Written}
 use Rattle.lists.proofs.Cuts.{take_counted}
-use Rattle.lists.proofs.Writings.{text-within}
+use Rattle.p5.specs.Files.{read_file}
 use Rattle.p5.proofs.Verdicts.{answer-within}
 use Rattle.p5.proofs.Places.{place-within}
 use Rattle.text.specs.Decimal.{fields}
-use Rattle.read_report.specs.Reports.{report}
-use Rattle.read_report.proofs.Lines.{line-room, report-is}
+use Rattle.read_report.specs.Reports.{line_in, report}
+use Rattle.read_report.proofs.Lines.{line-room}
 use Rattle.read_report.proofs.put_report.Goals as goal
 
-pub overflow_cast-line-2 : goal.overflow_cast-line-2
-overflow_cast-line-2 c =
-    let read : List ℕ = take c.lesser-length.result c.args.input.now in
-    let few : length read ≤ 65536 = omega (arith, length-take c.lesser-length.result c.args.input.now, c.bytes-1.given) in
-    record { fits = omega (arith, c.read_file-answer.ensures.place, place-within read, few) }
-
-pub overflow_cast-line-3 : goal.overflow_cast-line-3
-overflow_cast-line-3 c =
-    let read : List ℕ = take c.lesser-length.result c.args.input.now in
-    let few : length read ≤ 65536 = omega (arith, length-take c.lesser-length.result c.args.input.now, c.bytes-1.given) in
-    record { fits = omega (arith, c.read_file-answer.ensures.offset, answer-within read, few) }
+pub line_of-line-requires : goal.line_of-line-requires
+line_of-line-requires c =
+    let read : List ℕ = take c.min-length.result c.args.input.now in
+    let few : length read ≤ 65536 = omega (arith, length-take c.min-length.result c.args.input.now, c.told-input) in
+    rw c.read_file.ensures (omega (arith, place-within read, few), omega (arith, answer-within read, few))
 
 pub put_fields-requires : goal.put_fields-requires
 put_fields-requires c =
-    let read : List ℕ = take c.lesser-length.result c.args.input.now in
-    let few : length read ≤ 65536 = omega (arith, length-take c.lesser-length.result c.args.input.now, c.bytes-1.given) in
-    let room = line-room read _ c.read_file-answer.ensures few c.struct_known-3-1.given in
-    (omega arith, omega (arith, room, c.put_fields-arg-1.given))
+    let long : length c.line_of-line.result ≡ 6 = cc in
+    let few : (i : ℕ) → get_or c.line_of-line.result i 0 < 4294967296 = search rules in
+    let room = line-room c.line_of-line.result (omega (arith, long)) few in
+    (omega (arith, long), omega (arith, long, room, c.told-out))
 
-pub returns : goal.returns
-returns c =
-    let read : List ℕ = take c.lesser-length.result c.args.input.now in
+pub returns-clause-written : goal.returns-clause-written
+unfolding report
+returns-clause-written c =
     let p = c.put_fields in
-    let counted = take_counted c.args.input.now c.args.count c.lesser-length.result (omega (arith, c.lesser-length.ensures, c.bytes-1.given)) in
-    record {
-      written = subst (λ (file : List ℕ). Written 0 (fields (report file)) c.args.out.now p.result p.new.out) counted
-          (rw (report-is read _ c.read_file-answer.ensures) p.ensures);
-      prefix_len = text-within p.ensures;
-    }
+    let same : take c.min-length.result c.args.input.now ≡ take c.args.count c.args.input.now =
+    take_counted c.args.input.now c.args.count c.min-length.result (rw c.told-input c.min-length.ensures) in
+    subst (λ (line : List ℕ). Written 0 (fields line) c.args.out.now p.result p.new.out)
+    (c.line_of-line.ensures ∙ ap line_in (c.read_file.ensures ∙ ap read_file same)) p.ensures
