@@ -1,6 +1,6 @@
 -- What stands in front of the cells while the neighbours are put there.
 use mathlib.Core.Path.{◌≡◌, refl, sym, ap, ap₂, subst, ◌∙◌}
-use mathlib.Core.Bool.{Bool, true, false, ◌&&◌}
+use mathlib.Core.Bool.{Bool, true, false, ◌&&◌, ◌||◌}
 use mathlib.Core.List.{List, [], ◌∷◌, ◌++◌, append_assoc, append-nil}
 use Prim.Native.Nat.{ℕ, ◌+◌, ◌-◌, ◌*◌, ◌/◌, ◌%◌, ◌≤◌, ◌<◌}
 use native.Mathlib.Nat.{zero-add, div-add-mod'}
@@ -16,7 +16,7 @@ use Rattle.picture.specs.declared.Step.{Step}
 use Rattle.picture.specs.Geometry.{steps, plus_one, offset, used, within, stays, place_by, reached, neighbours_of}
 use Rattle.picture.proofs.Neighbours.{Placed, Listed}
 use Rattle.geometry.specs.Steps.{is_unit, stride_of, step_at, off_edge, is_inner, Stepping, StepsTo}
-use Rattle.lists.proofs.Tests.{and_left, and_right, on-pick}
+use Rattle.lists.proofs.Tests.{and_left, and_right, and_both, on-pick}
 use Rattle.lists.proofs.Writings.{written_none, written_byte, written_then, written-length, written-front}
 use Rattle.picture.proofs.Sides.{within-some, area-most}
 use Rattle.geometry.proofs.Steps.{on-unit, unit-column, unit_row, off-edge-within, place-most, leads-from, row_under, used_step, reached-step, reached-one, reached-none}
@@ -94,6 +94,13 @@ module _ (w h column row : ℕ) (s : Step) (m : ℕ) (cells : List ℕ) (go : St
       off-edge-within w column r (and_left (off_edge w column) _ e) (let b = unit-column s go.unit in omega (arith, b, right_is)),
       off-edge-within h row d (and_right (off_edge w column) _ e) (let b = unit_row s go.unit in omega (arith, b, down_is)),
     )
+
+    -- so the test for a step adds nothing to that of its target
+    pub stays-inside :
+        (inner : Bool) → inner ≡ is_inner w h column row →
+        (inner || (within w (column + r) && within h (row + d))) ≡ (within w (column + r) && within h (row + d))
+    stays-inside true e = let i = inner-target (sym e) in sym (and_both i.0 i.1)
+    stays-inside false e = refl
 
 -- a place by its row and column
 pub place-digits : (w h x : ℕ) → Placed w h x → Placed w h (x / w * w + x % w)

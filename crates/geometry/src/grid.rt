@@ -1,6 +1,6 @@
 // The grid of a picture: its adjacency and its sides, and the neighbours of its places, from a table of eight steps. Columns, rows and
 // places have 32 bits inside: a 64-bit one takes two registers of the controller, and a library function for each product and quotient.
-ghost use Rattle.std.specs.Prelude.{◌≡◌, true, ◌&&◌, [], ◌∷◌, ◌+◌, ◌-◌, ◌*◌, ◌≤◌, ◌<◌, length, set};
+ghost use Rattle.std.specs.Prelude.{◌≡◌, true, ◌&&◌, ◌||◌, [], ◌∷◌, ◌+◌, ◌-◌, ◌*◌, ◌≤◌, ◌<◌, length, set};
 ghost use Rattle.lists.specs.Writing.{Written};
 ghost use Rattle.picture.specs.Pictures.{side_fits};
 ghost use Rattle.picture.specs.Geometry.{plus_one, within, reached, neighbours_of};
@@ -86,15 +86,15 @@ impl Grid {
         m + 1
     }
 
-    // A column and a row, each given plus one, lie inside the edge.
-    fn holds(self, right: u32, down: u32) -> bool
-        ensures { result ≡ within self.width right && within self.height down }
+    // A step to a column and a row, each given plus one, stays inside the edge; from an inner place every step does, and needs no test.
+    fn stays(self, inner: bool, right: u32, down: u32) -> bool
+        ensures { result ≡ (inner || (within self.width right && within self.height down)) }
     {
-        within(right, self.width) && within(down, self.height)
+        inner || (within(right, self.width) && within(down, self.height))
     }
 
     // Puts the place that a step leads to behind the first m cells, if it stays inside the edge, and answers the number of cells in
-    // front. From an inner place every step stays inside, and needs no test.
+    // front.
     fn put_step(
         self,
         inner: bool,
@@ -109,10 +109,7 @@ impl Grid {
     {
         let right = column + plus_one(step.column);
         let down = row + plus_one(step.row);
-        // two calls and not one under ||: of one the compiler keeps the tests in the loop (5 instructions a step on x86-64)
-        if inner {
-            self.put_place(right, down, cells, m)
-        } else if self.holds(right, down) {
+        if self.stays(inner, right, down) {
             self.put_place(right, down, cells, m)
         } else {
             m

@@ -103,5 +103,5 @@ pub fn comes_before(pixels: &[u8], k: usize, x: usize, y: usize) -> bool
     ensures { Comes k x y (get_or pixels.now y 0) result }
 {
     let v = usize::from(pixels[y]);
-    if v == k { y < x } else { v < k }
+    v < k || (v == k && y < x)
 }
