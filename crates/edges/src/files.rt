@@ -47,10 +47,8 @@ fn put_numbers(out: &mut [u8], at: usize, w: u32, h: u32, largest: u32) -> usize
     requires { (w < 100) × (h < 100) × (largest < 1000) × (at + 10 ≤ length out.old) }
     ensures { Written at (number_lines w h largest) out.old result out.new × (result ≤ at + 10) }
 {
-    let sides = [w, h];
-    let next = put_fields(out, at, &sides);
-    let sample = [largest];
-    put_fields(out, next, &sample)
+    let next = put_fields(out, at, &[w, h]);
+    put_fields(out, next, &[largest])
 }
 
 // Writes a file and answers its length; without pixels and spaces it has at most 13 bytes.

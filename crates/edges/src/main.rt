@@ -37,8 +37,7 @@ fn print_name(word: &[u8], numbers: &[u32])
 fn print_numbered(word: &[u8], number: u32)
     requires { (length word.now ≤ 9) × (number < 100000) }
 {
-    let numbers = [number];
-    print_name(word, &numbers);
+    print_name(word, &[number]);
 }
 
 // Prints what `holds` prints for the first `count` bytes of an input, started with some words, of
@@ -77,8 +76,7 @@ fn print_picture(w: u32, h: u32, words: usize, argument: &[u8])
 fn print_sides(w: u32, h: u32)
     requires { (w ≤ 41) × (h ≤ 41) }
 {
-    let numbers = [w, h];
-    print_name(b"sides ", &numbers);
+    print_name(b"sides ", &[w, h]);
     print_picture(w, h, ALONE, b"");
 }
 

@@ -8,7 +8,7 @@ ghost use Rattle.answers.specs.Answers.{answer_of};
 ghost use Rattle.patch_report.specs.Lending.{LentSay};
 
 use board::{Patch, Refusal};
-use std::io;
+use std::io as std_io;
 
 // The length of the list, one more than a picture can have patches.
 const LIST: usize = 801;
@@ -46,18 +46,23 @@ struct Asked<'a> {
 
 // Lends `list_patches` the first `room` records of a list.
 fn lend_records(
-    adjacency: u32,
-    width: u32,
-    height: u32,
-    pixels: &[u8],
+    asked: Asked,
     list: &mut [Patch; 801],
     room: usize,
     work: &mut [u16],
 ) -> Result<u32, Refusal>
     requires { room ≤ 801 }
-    ensures { LentSay (picture_of adjacency width height pixels.now) room list.old list.new work.old work.new (answer_of result) }
+    ensures { LentSay (picture_of asked.entry.adjacency asked.entry.width asked.entry.height asked.entry.pixels.now) room list.old list.new work.old work.new (answer_of result) }
 {
-    board::list_patches(adjacency, width, height, pixels, &mut list[..room], work)
+    let lent = &mut list[..room];
+    board::list_patches(
+        asked.adjacency,
+        asked.width,
+        asked.height,
+        asked.pixels,
+        lent,
+        work,
+    )
 }
 
 // How many entries in front hold a value.
@@ -68,12 +73,17 @@ fn run_length(entries: &[u16], value: u16) -> usize
 }
 
 // How many records in front are as they were.
-fn unwritten_length(records: &[Patch]) -> usize {
-    records.iter().take_while(|record| **record == UNWRITTEN).count()
+fn unwritten_length(records: &[Patch]) -> usize
+    ensures { result ≤ length records.now }
+{
+    records
+        .iter()
+        .take_while(|record| **record == UNWRITTEN)
+        .count()
 }
 
 // Prints the first records of a list, a line each.
-fn print_records(rt: &impl Print, records: &[Patch]) -> io::Result<()> {
+fn print_records(rt: &impl Print, records: &[Patch]) -> std_io::Result<()> {
     for record in records {
         print!(rt; "{} {} ", record.number, record.size)?;
         print!(rt; "{} {} ", record.height, record.depth)?;
@@ -90,7 +100,7 @@ fn print_left(
     answer: Result<u32, Refusal>,
     list: &[Patch; 801],
     work: &[u16; 8001],
-) -> io::Result<usize>
+) -> std_io::Result<usize>
     ensures { IfOk result (λ count. count ≤ 801) }
 {
     let (number, value) = match answer {
@@ -108,28 +118,20 @@ fn print_left(
 
 // Prints what a call does that is lent some records and some entries of work: the arguments, the number of pixels in place of the pixels,
 // then what is left. Answers how many patches it lists.
-fn print_call(rt: &impl Print, asked: Asked, room: usize, entries: usize) -> io::Result<usize>
+fn print_call(rt: &impl Print, asked: Asked, room: usize, entries: usize) -> std_io::Result<usize>
     requires { (room ≤ 801) × (entries ≤ 8001) }
     ensures { IfOk result (λ count. count ≤ 801) }
 {
     let mut list = [UNWRITTEN; 801];
     let mut work = [BEFORE; 8001];
-    let answer = lend_records(
-        asked.adjacency,
-        asked.width,
-        asked.height,
-        asked.pixels,
-        &mut list,
-        room,
-        &mut work[..entries],
-    );
+    let answer = lend_records(asked, &mut list, room, &mut work[..entries]);
     print!(rt; "{} {} {} ", asked.adjacency, asked.width, asked.height)?;
     print!(rt; "{} {room} {entries} ", asked.pixels.len())?;
     print_left(rt, answer, &list, &work)
 }
 
 // Prints calls that are lent more than enough, just enough and one too little of each.
-fn print_listed(rt: &impl Print, asked: Asked) -> io::Result<()>
+fn print_listed(rt: &impl Print, asked: Asked) -> std_io::Result<()>
     requires { length asked.pixels.now ≤ 1600 }
 {
     let needed = ENTRIES_A_PIXEL * asked.pixels.len();
@@ -142,49 +144,94 @@ fn print_listed(rt: &impl Print, asked: Asked) -> io::Result<()>
 }
 
 // Prints calls with more than enough records and with none.
-fn print_rooms(rt: &impl Print, asked: Asked) -> io::Result<()> {
+fn print_rooms(rt: &impl Print, asked: Asked) -> std_io::Result<()> {
     print_call(rt, asked, LIST, WORK)?;
     print_call(rt, asked, 0, WORK)?;
     Ok(())
 }
 
 // Prints calls with each side too short and too long.
-fn print_sides(rt: &impl Print, asked: Asked) -> io::Result<()> {
+fn print_sides(rt: &impl Print, asked: Asked) -> std_io::Result<()> {
     print_rooms(rt, Asked { width: 0, ..asked })?;
-    print_rooms(rt, Asked { width: TOO_LONG, ..asked })?;
+    print_rooms(
+        rt,
+        Asked {
+            width: TOO_LONG,
+            ..asked
+        },
+    )?;
     print_rooms(rt, Asked { height: 0, ..asked })?;
-    print_rooms(rt, Asked { height: TOO_LONG, ..asked })
+    print_rooms(
+        rt,
+        Asked {
+            height: TOO_LONG,
+            ..asked
+        },
+    )
 }
 
 // Prints refused calls: wrong sides with the pixels and with none, then the right sides with a pixel fewer and with one more.
-fn print_refused(rt: &impl Print, asked: Asked, more: &[u8]) -> io::Result<()> {
+fn print_refused(rt: &impl Print, asked: Asked, more: &[u8]) -> std_io::Result<()> {
     let pixels = asked.pixels;
     let fewer = pixels.len().saturating_sub(1);
     print_sides(rt, asked)?;
-    print_sides(rt, Asked { pixels: &pixels[..0], ..asked })?;
-    print_rooms(rt, Asked { pixels: &pixels[..fewer], ..asked })?;
-    print_rooms(rt, Asked { pixels: more, ..asked })
+    print_sides(
+        rt,
+        Asked {
+            pixels: &pixels[..0],
+            ..asked
+        },
+    )?;
+    print_rooms(
+        rt,
+        Asked {
+            pixels: &pixels[..fewer],
+            ..asked
+        },
+    )?;
+    print_rooms(
+        rt,
+        Asked {
+            pixels: more,
+            ..asked
+        },
+    )
 }
 
 // Prints the calls on a picture, under both adjacencies and under 0 and 5, which are none; `more` is its pixels and the byte
 // in front of them.
-fn print_picture(rt: &impl Print, asked: Asked, more: &[u8]) -> io::Result<()>
+fn print_picture(rt: &impl Print, asked: Asked, more: &[u8]) -> std_io::Result<()>
     requires { length asked.pixels.now ≤ 1600 }
 {
-    let four = Asked { adjacency: 4, ..asked };
-    let eight = Asked { adjacency: 8, ..asked };
+    let four = Asked {
+        adjacency: 4,
+        ..asked
+    };
+    let eight = Asked {
+        adjacency: 8,
+        ..asked
+    };
     print_listed(rt, four)?;
     print_listed(rt, eight)?;
     print_refused(rt, four, more)?;
     print_refused(rt, eight, more)?;
-    let five = Asked { adjacency: 5, ..asked };
-    print_rooms(rt, Asked { adjacency: 0, ..asked })?;
+    let five = Asked {
+        adjacency: 5,
+        ..asked
+    };
+    print_rooms(
+        rt,
+        Asked {
+            adjacency: 0,
+            ..asked
+        },
+    )?;
     print_rooms(rt, five)?;
     print_refused(rt, five, more)
 }
 
 // Prints the calls on the picture of a file, if it is accepted.
-fn print_file(rt: &impl Print, file: &[u8]) -> io::Result<()> {
+fn print_file(rt: &impl Print, file: &[u8]) -> std_io::Result<()> {
     let Ok(header) = board::read_file(file) else {
         return Ok(());
     };
@@ -199,8 +246,8 @@ fn print_file(rt: &impl Print, file: &[u8]) -> io::Result<()> {
     print_picture(rt, asked, &file[front..])
 }
 
-fn main(rt: HostRuntime) -> io::Result<()> {
-    let mut file = ::io::large_buffer();
-    let count = ::io::read_full(0, &mut file);
+fn main(rt: HostRuntime) -> std_io::Result<()> {
+    let mut file = io::large_buffer();
+    let count = io::read_full(0, &mut file);
     print_file(&rt, &file[..count])
 }
