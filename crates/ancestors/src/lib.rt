@@ -5,7 +5,7 @@ ghost use Rattle.std.specs.Prelude.{get_or};
 ghost use Rattle.topology.proofs.Climb.{Meet};
 ghost use Rattle.ancestors.specs.Ancestors.{Climbing};
 
-// The father of the root, which has none.
+// The father of the root, which has none; a number, since fathers stand in 16-bit cells of lent memory (the scope document's lists).
 pub const NO_FATHER: u16 = 65535;
 
 // The nearest common ancestor of two nodes: a father's number is greater than its sons'.

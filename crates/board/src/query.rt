@@ -12,7 +12,7 @@ use geometry::raster::Raster;
 use patches::cores::touch_core;
 use patches::handbook::Handbook;
 
-// Where a place lies: on the line, or in the patch of a number.
+// Where a place lies: on the line, or in the patch of a number. The scope document names this enum.
 #[derive(Clone, Copy)]
 pub enum Ground {
     Line,

@@ -1,4 +1,5 @@
-// The calls for firmware in C: numbers, bytes and 16-bit memory as they are lent, the answer as one number.
+// The calls for firmware in C: numbers, bytes and 16-bit memory as they are lent, the answer as one number. C has the loose arguments,
+// the parallel lists and a call by name for each, so that these stay as they are.
 #![tactic(auto)]
 
 ghost use Rattle.picture.specs.Pictures.{picture_of};

@@ -1,5 +1,5 @@
 // What a call refuses, decided from numbers and lengths alone: the first cause in the scope document's order. Where none applies, the call's picture as
-// a raster.
+// a raster. The arguments are the calls' own, since these functions are their test.
 #![tactic(auto)]
 
 pub use crate::picture_fault::{raster, sides};

@@ -9,7 +9,7 @@ use geometry::raster::Raster;
 use union_find::{FIRST_NODE, comes_before, find, link};
 
 // A root's state counts the places of its class, from FIRST_NODE on, or is SETTLED and the height to which they are filled.
-// A count is at most 1,600, so that a smaller state than SETTLED counts.
+// A count is at most 1,600, so that a smaller state than SETTLED counts. Numbers and no enum: they stand in 16-bit cells.
 pub const SETTLED: u16 = 4096;
 
 // The state of two classes together: their places, s at most.

@@ -129,6 +129,7 @@ impl Grid {
         let steps = STEPS;
         let next = self.stride();
         let mut m = 0;
+        // counted by hand: over `steps.iter().step_by(next)` the invariant would have to follow the items, which is no plainer
         let mut i = 0;
         while i < 8 {
             m = self.put_step(inner, column, row, steps[i], cells, m);

@@ -4,7 +4,8 @@ ghost use Rattle.hold_list.specs.HoldText.{named_size, asked_size};
 
 use p5::field::digits_at;
 
-// The least size that an argument names: 1 to 5 digits and nothing behind them; else 0.
+// The least size that an argument names: 1 to 5 digits and nothing behind them; else 0, a number like any other, which is refused
+// as a size.
 fn named_size(argument: &[u8]) -> u32
     ensures { result ≡ named_size argument.now }
 {

@@ -10,7 +10,7 @@ ghost use Rattle.minima.specs.Minima.{CellEach, ZoneRoom, Visit, ZoneTurn, ZoneS
 
 use geometry::raster::Raster;
 
-// The cell of a place that no flood has visited.
+// The cell of a place that no flood has visited; these two are numbers, since the stack is linked in one 16-bit cell a place.
 const NEW: u16 = 65535;
 // The cell of the place at the bottom of the stack.
 const BOTTOM: u16 = 65534;

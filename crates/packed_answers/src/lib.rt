@@ -46,13 +46,12 @@ pub fn packed_query(answer: Result<Queried, Refusal>) -> u64
     }
 }
 
-// The refusal's number above 32 bits and its place above 16 bits, or the count of bytes in those.
+// The refusal's number above 32 bits and its place above 16 bits, or the count of bytes in those. A place of saving fits 16 bits.
 pub fn packed_saved(answer: Result<u16, Refusal>) -> u64
-    requires { IfErr answer (λ e. place_of e < 65536) }
-    ensures { saved_in result ≡ saved_of answer }
+    ensures { IfErr answer (λ e. place_of e < 65536) → saved_in result ≡ saved_of answer }
 {
     match answer {
         Ok(count) => u64::from(count),
-        Err(refusal) => packed_refusal(refusal) + refusal.place() as u64 * TWO_TO_16,
+        Err(refusal) => { packed_refusal(refusal) + refusal.place() as u64 % TWO_TO_16 * TWO_TO_16 }
     }
 }

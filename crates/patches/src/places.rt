@@ -13,10 +13,11 @@ use geometry::raster::Raster;
 use least_labels::least_label;
 use patch_numbers::{number, patch_at};
 
-// Above every patch number: the number of the nodes that are no leaves, so that it is never the least.
+// Above every patch number: the number of the nodes that are no leaves, so that it is never the least. A number, since it stands in
+// 16-bit cells of lent memory beside patch numbers.
 const NO_PATCH: u16 = 65535;
 
-// A patch number, and 0 for none.
+// A patch number, and 0 for none, as the scope document answers it.
 fn patch_or_0(number: u16) -> u16
     ensures { result ≡ pick (eqb number 65535) 0 number }
 {

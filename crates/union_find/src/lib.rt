@@ -6,7 +6,8 @@ ghost use Rattle.tree_laws.proofs.Chains.{Comes};
 ghost use Rattle.tree_laws.proofs.Forests.{Parents, Split, Found, Linked};
 ghost use Rattle.tree_laws.proofs.Marks.{Marked, Names, MergedIn, LinkedIn};
 
-// The states of a root: FIRST_NODE + i where one node i is beneath, and three marks.
+// The states of a root: FIRST_NODE + i where one node i is beneath, and three marks; numbers and no enum, since they stand in the
+// 16-bit cells of lent memory.
 pub const FIRST_NODE: u16 = 2048;
 
 // The root of a new node, in the list of its height.

@@ -6,7 +6,7 @@ ghost use Rattle.watershed_laws.proofs.WinnerTree.{Better, Candidate, Played};
 ghost use Rattle.watershed_laws.proofs.WinnerSteps.{WinnerReady, Replaying, Assigned, Filling, Building, MadeCandidate, MakingCandidates};
 ghost use Rattle.watershed_laws.proofs.Stopping.{Places};
 
-// The mark of no candidate.
+// The mark of no candidate; a number, since it stands in the 16-bit cells of lent memory.
 pub const NO_CANDIDATE: u16 = 65535;
 
 // The better of two candidates: of lesser value, then of smaller place.

@@ -12,5 +12,6 @@ place-fits :
 place-fits w h m xs o o' (Ok n) s = tt
 place-fits w h m xs o o' (Err e) s = let most = save-place s in omega (arith, most)
 
-pub packed_saved-requires : goal.packed_saved-requires
-packed_saved-requires c = place-fits _ _ _ _ _ _ c.write_file.result c.write_file.ensures
+pub returns : goal.returns
+returns c =
+    rw (c.packed_saved.ensures (place-fits _ _ _ _ _ _ c.write_file.result c.write_file.ensures)) c.write_file.ensures
