@@ -248,33 +248,30 @@ fn touched(handbook: u32, adjacency: u32, place: u32) -> Result<Queried, Refusal
     )
 }
 
-// The number of the refusal of a touch by a handbook and an adjacency, 0 for none.
-fn touch_refusal(handbook: u32, adjacency: u32) -> u32
-    ensures { result < 100000 }
-{
-    match touched(handbook, adjacency, 0) {
-        Ok(_) => 0,
-        Err(refusal) => u32::from(refusal.number()),
-    }
-}
-
-// The number of the patch that a touch at a place belongs to by a handbook, 0 for the line and for a refusal.
-fn touched_patch(handbook: u32, place: u32) -> u32
-    ensures { result < 100000 }
-{
-    match touched(handbook, 4, place) {
-        Ok(queried) => u32::from(patch_number(queried.ground)),
-        Err(_) => 0,
-    }
-}
-
-// Prints the patch of a touch, then the given text.
-fn print_touched(handbook: u32, place: u32, behind: &[u8]) {
-    let number = touched_patch(handbook, place);
+// Prints the patch that a touch belongs to, 0 for the line, then the given text.
+fn print_touched(queried: Queried, behind: &[u8]) {
+    let number = u32::from(patch_number(queried.ground));
     let mut text = [0u8; 5];
     let end = put_number(&mut text, 0, number);
     io::write_all(1, &text[..end]);
     io::write_all(1, behind);
+}
+
+// Prints in a line the patches that touches at the places of the row belong to by a handbook and an adjacency.
+fn print_patches(handbook: u32, adjacency: u32) -> Result<(), Refusal> {
+    print_touched(touched(handbook, adjacency, 0)?, b" ");
+    print_touched(touched(handbook, adjacency, 1)?, b" ");
+    print_touched(touched(handbook, adjacency, 2)?, b" ");
+    print_touched(touched(handbook, adjacency, 3)?, b" ");
+    print_touched(touched(handbook, adjacency, 4)?, b"\n");
+    Ok(())
+}
+
+// Prints those patches, or the refusal.
+fn print_touches(handbook: u32, adjacency: u32) {
+    if let Err(refusal) = print_patches(handbook, adjacency) {
+        print_numbered(b"refused ", u32::from(refusal.number()));
+    }
 }
 
 // The case of a handbook: the patches that touches at the places of the row belong to, or the refusal.
@@ -282,16 +279,7 @@ fn print_handbook(handbook: u32)
     requires { handbook < 100000 }
 {
     print_numbered(b"handbook ", handbook);
-    let refusal = touch_refusal(handbook, 4);
-    if refusal != 0 {
-        print_numbered(b"refused ", refusal);
-        return;
-    }
-    print_touched(handbook, 0, b" ");
-    print_touched(handbook, 1, b" ");
-    print_touched(handbook, 2, b" ");
-    print_touched(handbook, 3, b" ");
-    print_touched(handbook, 4, b"\n");
+    print_touches(handbook, 4);
 }
 
 // The cases of handbooks: those that are known and the next on either side, and which refusal comes first.
@@ -301,9 +289,9 @@ fn print_handbooks() {
     print_handbook(5);
     print_handbook(6);
     io::write_all(1, b"handbook 3 adjacency 5\n");
-    print_numbered(b"refused ", touch_refusal(3, 5));
+    print_touches(3, 5);
     io::write_all(1, b"handbook 5 adjacency 5\n");
-    print_numbered(b"refused ", touch_refusal(5, 5));
+    print_touches(5, 5);
 }
 
 fn main() {

@@ -1,10 +1,7 @@
 -- `edges::print_numbered` is safe: the number has at most five digits.
-use native.Mathlib.Omega.{arith}
+use Rattle.std.proofs.Common.{arith}
 use Rattle.text.proofs.Decimals.{one-length}
-use borrow.Author.Rules.{rules}
 use Rattle.edges.proofs.print_numbered.Goals as goal
 
 pub print_name-requires : goal.print_name-requires
-print_name-requires c =
-    let l = one-length 4 c.args.number c.requires.1 in
-    (search rules, omega (arith, c.requires.0))
+print_name-requires c = (omega arith, omega (arith, one-length 4 c.args.number c.requires.1, c.requires.0))

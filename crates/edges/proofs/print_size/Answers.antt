@@ -1,5 +1,5 @@
 -- `edges::print_size` is safe: a size has at most five digits.
-use native.Mathlib.Omega.{arith}
+use Rattle.std.proofs.Common.{arith}
 use Rattle.text.proofs.Decimals.{decimal-length}
 use Rattle.edges.proofs.print_size.Goals as goal
 

@@ -1,8 +1,6 @@
 -- `edges::files::put_file` meets its contract.
-use mathlib.Core.Path.{subst}
-use Prim.Native.Nat.{ℕ}
-use native.Mathlib.Omega.{arith}
-use lib.ListN.{length-replicate}
+use Rattle.std.proofs.Common.{subst, ℕ, arith}
+use Rattle.std.proofs.lemmas.List.{length-replicate}
 use Rattle.lists.specs.Writing.{Written}
 use Rattle.lists.proofs.Writings.{written_then, written-length}
 use Rattle.edges.specs.EdgeFiles.{edge_pixels}

@@ -1,5 +1,5 @@
 -- `edges::files::put_headed` meets its contract.
-use native.Mathlib.Omega.{arith}
+use Rattle.std.proofs.Common.{arith}
 use Rattle.lists.proofs.Writings.{written_then}
 use Rattle.edges.proofs.files.put_headed.Goals as goal
 

@@ -1,9 +1,7 @@
 -- `edges::files::put_spaces` meets its contract.
-use mathlib.Core.Path.{subst}
-use mathlib.Core.List.{List}
-use Prim.Native.Nat.{ℕ}
+use Rattle.std.proofs.Common.{subst, List, ℕ}
+use Rattle.std.proofs.lemmas.List.{take-replicate}
 use Rattle.lists.specs.Writing.{Written}
-use Rattle.edges.proofs.Sizes.{take-replicate}
 use Rattle.edges.proofs.files.put_spaces.Goals as goal
 
 pub returns : goal.returns
