@@ -46,7 +46,8 @@ pub fn ground_of(number: u16) -> Ground
     }
 }
 
-// The number of the patch that a touch at a place belongs to by a handbook, from work of 5 n entries that is cleared after it.
+// The number of the patch that a touch at a place belongs to by a handbook, 0 for none as the scope document has it, from work of 5 n
+// entries that is cleared after it.
 pub fn touch_cleared(handbook: Handbook, raster: &Raster, place: usize, work: &mut [u16]) -> u16
     requires { (5 * length raster.now.pixels.now ≤ length work.old) × (place < places (picture raster.now)) }
     ensures { (result ≡ touched_patch (handbook_number handbook) (picture raster.now) place) × (work.new ≡ cleared (length raster.now.pixels.now) work.old) }

@@ -1,4 +1,4 @@
-// Memory of 16-bit cells: filling and copying parts of it.
+// Memory of 16-bit cells: filling and copying parts of it by the library, with what that leaves in the whole memory as the promise.
 #![tactic(auto)]
 
 ghost use Rattle.std.specs.Prelude.{◌+◌, ◌≤◌, length};

@@ -1,4 +1,4 @@
--- What is known where there is no fault, and what a core is lent.
+-- What is known where there is no fault, and what the functions that admit a picture answer.
 use Rattle.std.specs.Prelude.{◌≡◌, true, ℕ, ◌*◌, ◌≤◌, length, Result, IfOk}
 use Rattle.picture.specs.Pictures.{Picture, places, is_picture}
 use Rattle.faults.specs.PictureFault.{picture_fault_of}
@@ -14,7 +14,7 @@ pub record Faultless (p : Picture) (work : ℕ) : Type 0 where
   pub few : places p ≤ 1600
   pub room : 5 * length p.pixels ≤ work
 
--- what a core is lent: no fault, and the picture is accepted
+-- no fault, and the picture is accepted
 pub record Admitted (p : Picture) (work : ℕ) : Type 0 where
   pub faultless : Faultless p work
   pub picture : is_picture p ≡ true

@@ -1,4 +1,5 @@
-// The figures of patches as lists of numbers, copied from blocks of n entries: sizes, column sums, row sums, depths, heights.
+// The figures of patches as lists of numbers, copied from blocks of n entries: sizes, column sums, row sums, depths, heights. C hands
+// over a list for each figure.
 #![tactic(auto)]
 
 ghost use Rattle.std.specs.Prelude.{◌≡◌, map};

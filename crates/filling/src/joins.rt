@@ -51,7 +51,7 @@ fn fill_edge(
     link(cells, q, r, state)
 }
 
-// Joins the place x of value k to its neighbours that come before it.
+// Joins the place x of value k to its neighbours that come before it, as `tree` does (the reason for two loops stands there).
 fn fill_pixel(raster: &Raster, cells: &mut [u16], s: usize, k: usize, x: usize)
     requires { FillWalk (picture raster.now) s k x cells.old × (x < length cells.old) }
     ensures { FillPixelDone (picture raster.now) s k x cells.new }

@@ -44,7 +44,7 @@ impl Stack {
         }
     }
 
-    // Takes the top off the stack and visits its neighbours.
+    // Takes the top off the stack and visits its neighbours; not the flood of labels, whose stack lies in memory of its own.
     fn spread(self, raster: &Raster, k: u8, cells: &mut [u16]) -> Stack
         requires { IsPlace raster.now.grid self.top × ZoneRoom raster.now.pixels.now cells.old self × (1 ≤ self.height) × (get_or cells.old self.top 0 ≢ 65535) }
         ensures { ZoneTurn (picture raster.now) k cells.old self cells.new result }

@@ -44,7 +44,7 @@ pub fn on_header(header: Header, pixels: &[u8]) -> Result<Header, Refusal>
     on_pixels(header, pixels)
 }
 
-// Reads one file.
+// Reads one file. A match on the walk: under `map_err` and `?` the goal stayed open.
 pub fn read(file: &[u8]) -> Result<Header, Refusal>
     ensures { result ≡ read_file file.now }
 {

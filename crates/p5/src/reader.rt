@@ -1,4 +1,4 @@
-// A reader carries the file and its position. Its methods are thin: each calls a function on the slice and the position.
+// A reader carries the file and its position. Its methods are thin: all but the walk call a function on the slice and the position.
 ghost use Rattle.std.specs.Prelude.{◌≡◌};
 ghost use Rattle.p5.specs.Headers.{number_at, end_at, from_width};
 ghost use Rattle.p5.specs.Steps.{taken, end_of};

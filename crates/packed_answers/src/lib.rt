@@ -1,4 +1,4 @@
-// Answers packed into one number, for C.
+// Answers packed into one number, for C. Three functions, since each answer has a layout of its own.
 #![tactic(auto)]
 
 ghost use Rattle.std.specs.Prelude.{◌≡◌, ◌*◌, ◌<◌, IfErr};
@@ -48,7 +48,8 @@ pub fn packed_query(answer: Result<Queried, Refusal>) -> u64
 
 // The refusal's number above 32 bits and its place above 16 bits, or the count of bytes in those. A place of saving fits 16 bits.
 pub fn packed_saved(answer: Result<u16, Refusal>) -> u64
-    ensures { IfErr answer (λ e. place_of e < 65536) → saved_in result ≡ saved_of answer }
+    ensures number { (saved_in result).number ≡ (saved_of answer).number }
+    ensures whole { IfErr answer (λ e. place_of e < 65536) → saved_in result ≡ saved_of answer }
 {
     match answer {
         Ok(count) => u64::from(count),

@@ -22,7 +22,7 @@ pub fn patch_figures(raster: &Raster, work: &mut [u16], cells: &mut [u16]) -> us
     figures(raster, count, work, cells)
 }
 
-// The number of the patch that a touch at a place of a picture belongs to by a handbook, 0 for none.
+// The number of the patch that a touch at a place of a picture belongs to by a handbook, 0 for none as the scope document has it.
 pub fn touch_core(
     handbook: Handbook,
     raster: &Raster,

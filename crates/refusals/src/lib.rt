@@ -21,7 +21,7 @@ pub enum Refusal {
     PixelAbove(usize),
     // 7: the adjacency is neither 4 nor 8.
     AdjacencyUnknown,
-    // 8: the lent pixels are not as many as the picture's places.
+    // 8: the lent pixels or stored bytes are not as many as the picture's places.
     LengthDiffers,
     // 9: lent memory is too short.
     MemoryShort,

@@ -18,7 +18,7 @@ use text::{put, put_bytes, put_fields};
 // The most bytes of a header: P5 and byte 10, two sides of two digits and a largest sample of three, each with one byte behind it.
 const HEADER_MOST: usize = 13;
 
-// What is to be saved is not refused with 3, 4, 8 or 6.
+// What is to be saved is not refused with 3, 4, 8 or 6. Not the reader's test: too many or few pixels are refused with 5 there.
 fn content_refusal(width: u32, height: u32, largest: u32, pixels: &[u8]) -> Result<(), Refusal>
     ensures { ContentSays width height largest pixels.now (refusal_of result) }
 {

@@ -69,7 +69,8 @@ pub fn put_word(out: &mut [u8], at: usize, word: &[u8], ns: &[u32]) -> usize
     put_fields(out, next, ns)
 }
 
-// Writes a number as l bytes, the lowest first, and answers the position behind them.
+// Writes a number as l bytes, the lowest first, and answers the position behind them; by hand, since l may be above the 8 bytes of
+// `to_le_bytes`.
 pub fn put_little(out: &mut [u8], at: usize, n: u64, l: usize) -> usize
     requires { at + l ≤ length out.old }
     ensures { Written at (little_endian l n) out.old result out.new }

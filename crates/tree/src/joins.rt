@@ -33,7 +33,8 @@ fn join_edge(
     }
 }
 
-// Joins the place x of value k to its neighbours that come before it, and answers the next place of its value.
+// Joins the place x of value k to its neighbours that come before it, and answers the next place of its value. The like loops of `filling` and of the check of a lent tree carry other
+// state and end otherwise; one loop over a closure that writes two lent slices was no plainer.
 fn join_pixel(raster: &Raster, work: &mut [u16], cells: &mut [u16], k: usize, x: usize) -> usize
     requires { WalkReady (picture raster.now) k x cells.old work.old × (x < length cells.old) }
     ensures { PixelJoined (picture raster.now) k x result cells.new work.old work.new }

@@ -1,4 +1,5 @@
-// The pixels of one height join the classes; at each link the lent fathers are compared.
+// The pixels of one height join the classes; at each link the lent fathers are compared. Of the lent tree only the fathers and the map
+// are read, so that they are passed by themselves.
 #![tactic(auto)]
 
 ghost use Rattle.std.specs.Prelude.{◌≢◌, ◌<◌, ◌≤◌, ◌+◌, length, get_or};
@@ -73,7 +74,8 @@ fn check_edge(
     }
 }
 
-// Joins the place x, if it has the value k, to its neighbours that come before it, unless a lent father differs.
+// Joins the place x, if it has the value k, to its neighbours that come before it, unless a lent father differs; as `tree` does (the
+// reason for two loops stands there).
 fn check_pixel(
     raster: &Raster,
     fathers: &[u16],

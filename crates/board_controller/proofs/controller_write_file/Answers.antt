@@ -14,4 +14,4 @@ place-fits w h m xs o o' (Err e) s = let most = save-place s in omega (arith, mo
 
 pub returns : goal.returns
 returns c =
-    rw (c.packed_saved.ensures (place-fits _ _ _ _ _ _ c.write_file.result c.write_file.ensures)) c.write_file.ensures
+    rw (c.packed_saved.ensures.whole (place-fits _ _ _ _ _ _ c.write_file.result c.write_file.ensures)) c.write_file.ensures
