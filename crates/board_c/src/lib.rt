@@ -1,4 +1,4 @@
-// The calls for C: numbers and byte memory only.
+// The calls for C: numbers and byte memory only, a function for each by name.
 #![tactic(auto)]
 
 ghost use Rattle.std.specs.Prelude.{◌≡◌, ◌+◌, ◌≤◌, length};

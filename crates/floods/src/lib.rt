@@ -1,4 +1,4 @@
-// The flood of one component of a section.
+// The flood of one component of a section. Its stack is lent memory and a height, since there is no heap.
 #![tactic(auto)]
 
 ghost use Rattle.std.specs.Prelude.{◌≡◌, ◌≢◌, [], ◌*◌, ◌<◌, leb, length};

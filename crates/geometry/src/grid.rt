@@ -116,7 +116,8 @@ impl Grid {
         }
     }
 
-    // Puts the neighbours of a place in front of the cells, in the order of the table, and answers how many there are.
+    // Puts the neighbours of a place in front of the cells, in the order of the table, and answers how many there are. Cells and a count,
+    // since there is no heap; callers read them as a slice.
     pub fn neighbours(self, x: usize, cells: &mut [u16]) -> usize
         requires { Placed self.width self.height x × (8 ≤ length cells.old) }
         ensures { Listed (neighbours_of (adjacency_number self.adjacency) self.width self.height x) cells.old result cells.new }

@@ -1,4 +1,4 @@
-// Numbers and bytes written as text.
+// Numbers and bytes written as text behind one another in lent memory; not by `write!`, since contracts name the bytes.
 #![tactic(auto)]
 
 ghost use Rattle.std.specs.Prelude.{[], ◌∷◌, ◌++◌, suc, ◌+◌, ◌<◌, ◌≤◌, length};

@@ -1,4 +1,4 @@
-// The component tree as lists: built in blocks of work, then copied.
+// The component tree as lists: built in blocks of work, then copied. Parallel lists and blocks, as the scope document lends them.
 #![tactic(auto)]
 
 ghost use Rattle.std.specs.Prelude.{◌≡◌, ◌≤◌, length};
