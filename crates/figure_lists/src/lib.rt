@@ -41,7 +41,7 @@ fn hand_out(
     copy(figures, 4 * n, heights, count);
 }
 
-// The figures of the patches in their order, a list each; answers how many patches there are.
+// The figures of the patches in their order, a list each; answers how many patches there are. Loose arguments and lists: C calls it so.
 pub fn list_figures(
     adjacency: u32,
     width: u32,

@@ -26,6 +26,7 @@ fn count_patches(raster: &Raster, cells: &mut [u16]) -> usize
 }
 
 // The call's picture as a raster, or its refusal, from the picture and the lengths of the list and of work. Only the cells are written.
+// The arguments are loose, since this is the test that makes the raster.
 fn with_list<'a>(
     adjacency: u32,
     width: u32,
@@ -54,6 +55,7 @@ pub fn fill_figures(raster: &Raster, work: &mut [u16], cells: &mut [u16]) -> usi
 }
 
 // The number of patches for a list of so many records, with their figures left in work; or the refusal, with work as it was.
+// The arguments are loose as the calls have them: the test that makes the raster comes first.
 pub fn gather(
     adjacency: u32,
     width: u32,

@@ -17,7 +17,7 @@ pub struct Patch {
     pub rows: u16,
 }
 
-// A figure as a byte.
+// A figure as a byte. It fits, so `as` loses nothing; `try_from` would have a failure.
 fn byte(figure: u16) -> u8
     requires { figure ≤ 255 }
     ensures { result ≡ figure }

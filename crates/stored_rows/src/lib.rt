@@ -23,7 +23,7 @@ fn rows_refusal(w: u32, h: u32, count: usize, length: usize) -> Result<(), Refus
     room(length, count)
 }
 
-// The call in either direction.
+// The call in either direction; it counts nothing and answers 0, one number for all calls, as C gets it.
 fn convert_rows<D: Direction>(
     width: u32,
     height: u32,

@@ -13,7 +13,7 @@ use cells::copy;
 use geometry::raster::Raster;
 use tree::build::build;
 
-// Copies entries, each a byte, to the front of a list of bytes.
+// Copies entries, each a byte, to the front of a list of bytes. Each fits, so `as` loses nothing; `try_from` would have a failure.
 fn copy_bytes(from: &[u16], to: &mut [u8])
     requires { (length from.now ≤ length to.old) × Bytes (length from.now) from.now }
     ensures { Copied from.now 0 (length from.now) to.old to.new }
