@@ -84,6 +84,18 @@ module _ (t : ℕ → Bool) where
       let within : i ≤ length x = omega arith in
       rw (drop-append-le i x u) (many (drop i x) y u n (omega (arith, length-drop i x)) (rw (drop-append-le i x y) at k))
 
+  -- the first n bytes tell the count where it is below n, and else that it is n at least
+  pub leading-front :
+      (s : List ℕ) (n : ℕ) → (leading t (take n s) < n → leading t (take n s) ≡ leading t s) × (n ≤ leading t (take n s) → n ≤ leading t s)
+  leading-front s zero = (λ h. absurd (omega arith), λ h. zero-le)
+  leading-front [] (suc n) = (λ h. refl, λ h. h)
+  leading-front (b ∷ s) (suc n) =
+      on_test (t b)
+      (λ e.
+      rw e
+      (λ h. ap suc ((leading-front s n).0 (le_of_suc-le-suc h)), λ h. suc-le-suc ((leading-front s n).1 (le_of_suc-le-suc h))))
+      (λ e. rw e (λ h. refl, λ h. h))
+
   -- the library's count
   pub leading-prefix : (s : List ℕ) → leading t s ≡ prefix_len t s
   leading-prefix [] = refl

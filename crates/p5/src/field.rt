@@ -1,10 +1,13 @@
 // One number of the header, with the gap before it.
-ghost use Rattle.std.specs.Prelude.{◌≡◌, true, false, ◌+◌, ◌≤◌, length, drop};
+ghost use Rattle.std.specs.Prelude.{◌≡◌, true, false, ◌+◌, ◌≤◌, length, take, drop};
 ghost use Rattle.std.specs.List.{prefix_len};
 ghost use Rattle.lists.specs.Lists.{all};
 ghost use Rattle.p5.specs.Headers.{comment_after, is_blank, blank_length, gap_end, is_digit, decimal_value, digits_at, number_at};
 
 use crate::characters::{ends_line, is_digit, is_white, white_at};
+
+// The most digits of a number.
+const MOST_DIGITS: usize = 5;
 
 // A number of the header, and the position after it.
 #[derive(Clone, Copy)]
@@ -63,16 +66,20 @@ fn gap_end(file: &[u8], at: usize) -> usize
     }
 }
 
-// How many bytes at the front are digits.
+// How many bytes at the front are digits, counted up to one more than a number has: whatever is behind that one decides nothing.
 fn digit_count(bytes: &[u8]) -> usize
-    ensures { result ≡ prefix_len is_digit bytes.now }
+    ensures { result ≡ prefix_len is_digit (take (MOST_DIGITS + 1) bytes.now) }
 {
-    bytes.iter().take_while(|byte| is_digit(**byte)).count()
+    bytes
+        .iter()
+        .take(MOST_DIGITS + 1)
+        .take_while(|byte| is_digit(**byte))
+        .count()
 }
 
 // The value of at most five digits.
 fn decimal_value(digits: &[u8]) -> u32
-    requires { (length digits.now ≤ 5) × (all is_digit digits.now ≡ true) }
+    requires { (length digits.now ≤ MOST_DIGITS) × (all is_digit digits.now ≡ true) }
     ensures { result ≡ decimal_value digits.now }
 {
     let mut value = 0;
@@ -90,11 +97,11 @@ pub fn digits_at(file: &[u8], at: usize) -> Result<Number, usize>
     let count = digit_count(bytes);
     match count {
         0 => Err(at),
-        1..=5 => Ok(Number {
+        1..=MOST_DIGITS => Ok(Number {
             value: decimal_value(&bytes[..count]),
             end: at + count,
         }),
-        _ => Err(at + 5),
+        _ => Err(at + MOST_DIGITS),
     }
 }
 

@@ -7,7 +7,7 @@ use crate::field::number_at;
 use crate::header::{Header, header_end};
 
 // A file and a position in it.
-#[derive(Drop)]
+#[derive(Clone, Copy)]
 pub struct Reader<'a> {
     pub file: &'a [u8],
     pub at: usize,
