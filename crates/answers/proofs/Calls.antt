@@ -1,7 +1,8 @@
 -- The laws that every public call shares: its refusal, and what it leaves in the lent slices.
--- A call's proof has two steps. `refused-answer` and `refused-left` close its refusal, whose number is the fault. At the end `accepted-answer`,
--- `written_over` and `cleared-left` close the return; of a part lent to the core `lent_length`, `back-room` and `behind-lent` say the rest.
-use mathlib.Core.Path.{◌≡◌, sym, ap, ◌∙◌}
+-- A call's proof has two steps. `work-error` and `error-left` close its refusal, whose number is the fault; they are cases of the laws on any number
+-- that is not 0. At the end `accepted-answer`, `written_over` and `cleared-left` close the return; of a part lent to the core `lent_length`,
+-- `back-room` and `behind-lent` say the rest.
+use mathlib.Core.Path.{◌≡◌, refl, sym, ap, ◌∙◌}
 use mathlib.Core.Logic.{◌≢◌}
 use mathlib.Core.List.{List, ◌++◌}
 use Prim.Native.Nat.{ℕ, ◌+◌, ◌-◌, ◌*◌, ◌≤◌}
@@ -19,15 +20,27 @@ use Rattle.std.proofs.Common.{Ok, Err}
 use Rattle.answers.specs.Answers.{Answer, answer_of, after_call, cleared, work_after, Answered, WorkSays, OutputSays}
 
 -- a refusal with the fault f: the number with the value 0, and every lent slice as it was
-module _ (f : ℕ) (refusal : Refusal) (e : number_of refusal ≡ f) where
+module _ (f g : ℕ) (e : g ≡ f) (d : g ≢ 0) where
   fails : f ≢ 0
-  fails z = let some = number-some refusal in absurd (omega arith)
+  fails z = d (e ∙ z)
 
-  pub refused-answer : (v : ℕ) → Answered f v (answer_of (Err refusal))
-  refused-answer v = record { number = e; value = sym (pick_out f 0 v 0 fails) }
+  pub refused-answer : (v : ℕ) (r : Answer) → r ≡ record { number = g; value = 0 } → Answered f v r
+  refused-answer v r q =
+      record {
+        number = ap (λ (s : Answer). s.number) q ∙ e;
+        value = ap (λ (s : Answer). s.value) q ∙ sym (pick_out f 0 v 0 fails);
+      }
 
   pub refused-left : {A : Type 0} (new old : List A) → old ≡ after_call f new old
   refused-left new old = sym (pick_out f 0 new old fails)
+
+-- the number of a result's refusal is not 0
+not-none : (e : Refusal) → number_of e ≢ 0
+not-none e z = let some = number-some e in absurd (omega arith)
+
+-- so a result that is a refusal with the fault f leaves every lent slice as it was
+pub error-left : (f : ℕ) (e : Refusal) → number_of e ≡ f → {A : Type 0} (new old : List A) → old ≡ after_call f new old
+error-left f e n new old = refused-left f (number_of e) n (not-none e) new old
 
 -- success: the number 0 with the value, and every lent slice with its new content
 pub accepted-answer : (f v u : ℕ) → f ≡ 0 → u ≡ v → Answered f v (answer_of (Ok u))
@@ -73,9 +86,13 @@ cleared-left f n p q lent q' z e d c =
     (over-same (5 * n) (replicate (5 * n) 0) (length-replicate (5 * n) 0) lent q d ∙
     (ap (λ (i : ℕ). cleared i q) e ∙ written-left f (cleared (places p) q) q z))
 
--- a call that lends work: its refusal, and its end
-pub work-refused : (f v : ℕ) (p : Picture) (q : List ℕ) (e : Refusal) → number_of e ≡ f → WorkSays f v p q q (answer_of (Err e))
-work-refused f v p q e n = record { answer = refused-answer f e n v; work = refused-left f e n _ q }
+-- a call that lends work: its refusal, that of its result, and its end
+pub work-refused :
+    (f g v : ℕ) (p : Picture) (q : List ℕ) (r : Answer) → g ≡ f → g ≢ 0 → r ≡ record { number = g; value = 0 } → WorkSays f v p q q r
+work-refused f g v p q r e d w = record { answer = refused-answer f g e d v r w; work = refused-left f g e d _ q }
+
+pub work-error : (f v : ℕ) (p : Picture) (q : List ℕ) (e : Refusal) → number_of e ≡ f → WorkSays f v p q q (answer_of (Err e))
+work-error f v p q e n = work-refused f (number_of e) v p q _ n (not-none e) refl
 
 pub work-done :
     (f v u n : ℕ) (p : Picture) (q lent q' : List ℕ) → f ≡ 0 → u ≡ v → n ≡ places p → drop (5 * n) lent ≡ drop (5 * n) q →
@@ -85,9 +102,10 @@ work-done f v u n p q lent q' z w e d c =
 
 -- a call that lends output and work: its refusal, and its end, where a core has written the list new to the first n entries of the output
 pub output-refused :
-    (f v : ℕ) (p : Picture) (new o q : List ℕ) (e : Refusal) → number_of e ≡ f → OutputSays f p v new o o q q (answer_of (Err e))
-output-refused f v p new o q e n =
-    record { call = work-refused f v p q e n; output = refused-left f e n (over new o) o }
+    (f g v : ℕ) (p : Picture) (new o q : List ℕ) (r : Answer) → g ≡ f → g ≢ 0 → r ≡ record { number = g; value = 0 } →
+    OutputSays f p v new o o q q r
+output-refused f g v p new o q r e d w =
+    record { call = work-refused f g v p q r e d w; output = refused-left f g e d (over new o) o }
 
 pub output-done :
     (f v u n : ℕ) (p : Picture) (new ys o q lent q' : List ℕ) → f ≡ 0 → u ≡ v → n ≡ places p → length new ≡ n → ys ≡ new →

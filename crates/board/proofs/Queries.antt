@@ -13,7 +13,7 @@ use borrow.Author.Tests.{eq-eqb, ne_eqb}
 use Rattle.lists.specs.Lists.{pick}
 use Rattle.picture.specs.Pictures.{Picture, places}
 use Rattle.answers.specs.Answers.{cleared}
-use Rattle.answers.proofs.Calls.{refused-left, cleared-left}
+use Rattle.answers.proofs.Calls.{error-left, cleared-left}
 use Rattle.board.specs.declared.query.Ground.TheVariants as G
 use Rattle.std.proofs.Common.{Ok, Err, arith}
 use Rattle.refusals.specs.declared.Refusal.{Refusal}
@@ -48,7 +48,7 @@ module _ (f v m : ℕ) (p : Picture) (q : List ℕ) where
         answer =
             ap (λ (k : ℕ). record { number = k; value = 0; ground = ground_of 0 }) n ∙
             sym (ap answer (ne_eqb f 0 (λ z. let some = number-some e in absurd (omega arith))));
-        work = refused-left f e n _ q;
+        work = error-left f e n _ q;
       }
 
   pub answered-query :

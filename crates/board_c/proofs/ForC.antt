@@ -27,7 +27,7 @@ use Rattle.faults.specs.Steps.{Faultless}
 use Rattle.answers.specs.Answers.{answer_of, after_call, work_after}
 use Rattle.board.specs.Calls.{QueryAnswer, queried_of, output_fault_of, place_fault_of, ground_of, patch_number, WatershedSays, QuerySays}
 use Rattle.faults.proofs.Faults.{first_some, first-none, then-failed, then-none, work_none, output-none, output-enough, place-counted, faultless}
-use Rattle.answers.proofs.Calls.{refused-left, written-left}
+use Rattle.answers.proofs.Calls.{error-left, written-left}
 use Rattle.board_c.specs.CalledByC.{pair, read_fault_for_c, header_bytes, ReadForC, work_fault_for_c, watershed_fault_for_c, bytes_after, WatershedForC, place_fault_for_c, PlaceForC}
 use Rattle.packing.specs.Packing.{packed}
 use Rattle.lists.proofs.Writings.{written-front}
@@ -46,7 +46,7 @@ module _ (f o : List ℕ) where
   read-room z = ltb-false (length o) 32 (then-none (outcome_number (read_file f)) 8 _ _ read_is z).1
 
   read-refused : (e : Refusal) → number_of e ≡ read_fault_for_c f o → ReadForC f o o (number_of e)
-  read-refused e n = record { number = n; output = refused-left (read_fault_for_c f o) e n (over (header_bytes f) o) o }
+  read-refused e n = record { number = n; output = error-left (read_fault_for_c f o) e n (over (header_bytes f) o) o }
 
   -- the file is refused, or the output
   pub read-refused-file : (e : Refusal) → Err e ≡ read_file f → ReadForC f o o (number_of e)
@@ -125,8 +125,8 @@ module _ (p : Picture) (o q : List ℕ) where
       let g = n ∙ water-fault in
       record {
         number = g;
-        output = refused-left f e g (over (watershed p).pixels o) o;
-        work = refused-left f e g (over (replicate (10 * places p) 0) q) q;
+        output = error-left f e g (over (watershed p).pixels o) o;
+        work = error-left f e g (over (replicate (10 * places p) 0) q) q;
       }
 
   module _ (z : output_fault p.adjacency p.width p.height (length p.pixels) (length o) (length q / 2) ≡ 0) where
@@ -219,8 +219,8 @@ module _ (p : Picture) (x : ℕ) (o q : List ℕ) where
       let f = place_fault_for_c p (length o) (length q) x in
       record {
         number = n;
-        output = refused-left f e n (over (pair (value_at p x) (patch_at p x)) o) o;
-        work = refused-left f e n (over (replicate (10 * places p) 0) q) q;
+        output = error-left f e n (over (pair (value_at p x) (patch_at p x)) o) o;
+        work = error-left f e n (over (replicate (10 * places p) 0) q) q;
       }
 
   module _ (z : place_fault_for_c p (length o) (length q) x ≡ 0) where

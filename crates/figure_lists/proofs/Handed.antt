@@ -20,7 +20,7 @@ use Rattle.std.proofs.Common.{Ok, Err}
 use Rattle.refusals.specs.declared.Refusal.{Refusal}
 use Rattle.refusals.specs.Refusals.{number_of}
 use Rattle.answers.specs.Answers.{answer_of, cleared}
-use Rattle.answers.proofs.Calls.{refused-left, written-left, work-refused, work-done}
+use Rattle.answers.proofs.Calls.{error-left, written-left, work-error, work-done}
 use Rattle.figure_lists.specs.Figures.{shortest, figures_fault, figures_after, FiguresSay}
 use Rattle.figure_lists.specs.Steps.{Room}
 
@@ -68,12 +68,12 @@ module _ (p : Picture) (zs hs ds cs rs q : List ℕ) where
   pub refused-lists : (e : Refusal) → number_of e ≡ fault → FiguresSay p zs zs hs hs ds ds cs cs rs rs q q (answer_of (Err e))
   refused-lists e n =
       record {
-        call = work-refused fault (length (patches p)) p q e n;
-        sizes = refused-left fault e n _ zs;
-        heights = refused-left fault e n _ hs;
-        depths = refused-left fault e n _ ds;
-        columns = refused-left fault e n _ cs;
-        rows = refused-left fault e n _ rs;
+        call = work-error fault (length (patches p)) p q e n;
+        sizes = error-left fault e n _ zs;
+        heights = error-left fault e n _ hs;
+        depths = error-left fault e n _ ds;
+        columns = error-left fault e n _ cs;
+        rows = error-left fault e n _ rs;
       }
 
   -- else the figures of count patches are left in work

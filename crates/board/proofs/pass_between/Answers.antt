@@ -8,14 +8,14 @@ use Rattle.board.specs.Trees.{tree_fault_of}
 use Rattle.board.specs.LentTrees.{TreeLent}
 use Rattle.board.proofs.Checked.{unchecked, differs, checked, lent-is, inside, places-first, places-then}
 use Rattle.board.proofs.LentTrees.{pass-ready, pass-low, tree-entries}
-use Rattle.answers.proofs.Calls.{work-refused, work-done}
+use Rattle.answers.proofs.Calls.{work-error, work-done}
 use Rattle.board.proofs.pass_between.Goals as goal
 
 pub returns-in_err-raster : goal.returns-in_err-raster
 unfolding tree_fault_of
 returns-in_err-raster c =
     let p = err_from_is_err_and c.from_residual.result c.from_residual.ensures.1 in
-    rw (p.1, p.2) (work-refused _ _ _ _ _ (unchecked _ _ _ _ _ _ _ _ (places-first _ _ _ _ _ _ _ _ _ c.in_err-raster.ensures.admits.fault)))
+    rw (p.1, p.2) (work-error _ _ _ _ _ (unchecked _ _ _ _ _ _ _ _ (places-first _ _ _ _ _ _ _ _ _ c.in_err-raster.ensures.admits.fault)))
 
 pub returns-in_err-places_inside : goal.returns-in_err-places_inside
 unfolding tree_fault_of
@@ -23,7 +23,7 @@ returns-in_err-places_inside c =
     let p = err_from_is_err_and c.from_residual-in_err-places_inside.result c.from_residual-in_err-places_inside.ensures.1 in
     let lends = c.in_ok-raster.ensures in
     let size = sym lends.room.0 ∙ ap places lends.admits.raster in
-    rw (p.1, p.2) (work-refused _ _ _ _ _ (unchecked _ _ _ _ _ _ _ _ (places-then _ _ _ _ _ _ _ _ _ _ size lends.admits.fault c.in_err-places_inside.ensures)))
+    rw (p.1, p.2) (work-error _ _ _ _ _ (unchecked _ _ _ _ _ _ _ _ (places-then _ _ _ _ _ _ _ _ _ _ size lends.admits.fault c.in_err-places_inside.ensures)))
 
 pub returns-in_err-check_lent : goal.returns-in_err-check_lent
 unfolding tree_fault_of
@@ -32,7 +32,7 @@ returns-in_err-check_lent c =
     let lends = c.in_ok-raster.ensures in
     let size = sym lends.room.0 ∙ ap places lends.admits.raster in
     let none = places-then _ _ _ _ _ _ _ _ _ _ size lends.admits.fault c.in_ok-places_inside.ensures in
-    rw (p.1, p.2) (work-refused _ _ _ _ _ (differs _ _ _ _ _ _ _ _ lends.admits.raster none _ c.in_err-check_lent.ensures))
+    rw (p.1, p.2) (work-error _ _ _ _ _ (differs _ _ _ _ _ _ _ _ lends.admits.raster none _ c.in_err-check_lent.ensures))
 
 pub pass-lowest-requires : goal.pass-lowest-requires
 pass-lowest-requires c =
