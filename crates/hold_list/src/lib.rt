@@ -8,7 +8,7 @@ use filling::whole::fill_core;
 use geometry::adjacency::Adjacency;
 use geometry::grid::Grid;
 use geometry::raster::Raster;
-use hold_lines::{put_head, put_lines, put_refusal};
+use hold_lines::{PatchFigures, put_head, put_lines, put_refusal};
 use p5::header::Header;
 use patches::cores::patch_figures;
 use patches::places::count_line;
@@ -36,7 +36,12 @@ fn put_list(raster: &Raster, count: usize, work: &[u16], cells: &[u16], out: &mu
     let grid = raster.grid;
     let line = count_line(cells);
     let next = put_head(out, grid.width, grid.height, count as u32, line as u32);
-    put_lines(out, next, work, raster.pixels.len(), count)
+    let figures = PatchFigures {
+        entries: work,
+        n: raster.pixels.len(),
+        count,
+    };
+    put_lines(out, next, &figures)
 }
 
 // Writes the list of the patches of a picture, and answers the position behind it.

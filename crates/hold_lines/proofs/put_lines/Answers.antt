@@ -14,8 +14,11 @@ unfolding record_at
 put_line-to-requires c =
     let number = ap (λ (q : Patch). q.number) c.record_at.ensures in
     let size = ap (λ (q : Patch). q.size) c.record_at.ensures in
-    let figured = c.requires.0 in
+    let figured = c.args.figures.now.figured in
     (omega (arith, figured.few), omega (arith, figured.some c.loop-i.i c.loop-i-test.true), omega arith)
+
+pub record_at-requires : goal.record_at-requires
+record_at-requires c = c.args.figures.now.figured.entries.entry c.loop-i.i c.loop-i-test.true
 
 pub loop-i-preserved : goal.loop-i-preserved
 loop-i-preserved c =
@@ -23,5 +26,5 @@ loop-i-preserved c =
     let before = c.loop-i.invariant in
     let line = c.put_line-to.ensures in (
       omega arith,
-      lines_next (line_at a.n a.figures.now) _ _ _ _ _ _ _ (omega arith) before.1 (rw c.record_at.ensures at line.0),
+      lines_next (line_at a.figures.now.n a.figures.now.entries.now) _ _ _ _ _ _ _ (omega arith) before.1 (rw c.record_at.ensures at line.0),
     )

@@ -7,4 +7,4 @@ use Rattle.hold_lines.specs.Figures.{line_at}
 use Rattle.hold_lines.proofs.put_lines.Given as goal
 
 abbrev pub invariant-loop-i : goal.invariant-loop-i
-invariant-loop-i l = (l.to ≤ l.at + 37 * l.i) × Written l.at (flat_map (line_at l.n l.figures) (range 0 l.i)) l.initial.out l.to l.out
+invariant-loop-i l = (l.to ≤ l.at + 37 * l.i) × Written l.at (flat_map (line_at l.figures.n l.figures.entries.now) (range 0 l.i)) l.initial.out l.to l.out

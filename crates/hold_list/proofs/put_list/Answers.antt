@@ -19,12 +19,15 @@ put_head-next-requires c =
     let small = head-small c.args.raster.now c.requires.0 c.requires.1 (c.count_line-line.ensures _ c.requires.1.map) in
     (small.0, small.1, omega arith, omega arith, omega arith)
 
+pub invariant_of-figures : goal.invariant_of-figures
+invariant_of-figures c = record { figured = figured c.args.raster.now c.requires.0 c.requires.1 }
+
 pub put_lines-requires : goal.put_lines-requires
 put_lines-requires c =
     let lines = figured c.args.raster.now c.requires.0 c.requires.1 in
     let head = c.put_head-next.ensures in
     let kept = written-length (omega (arith, c.requires.2, head.1)) head.0 in
-    (lines, omega (arith, lines.few, c.requires.2, head.1, kept))
+    omega (arith, lines.few, c.requires.2, head.1, kept)
 
 pub returns : goal.returns
 returns c =
