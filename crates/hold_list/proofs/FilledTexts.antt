@@ -1,5 +1,5 @@
 -- The hold list of a filled picture: its refusal, and the bytes that the core of filling leaves.
-use Rattle.std.proofs.Common.{◌≡◌, ◌≢◌, sym, ap, ◌∙◌, false, true, List, ◌++◌, ℕ, ◌≤◌, eqb, ltb, length, take, drop, replicate, length-append, take_at, ltb-false, arith}
+use Rattle.std.proofs.Common.{◌≡◌, ◌≢◌, refl, sym, ap, ◌∙◌, false, true, List, ◌++◌, ℕ, ◌≤◌, eqb, ltb, length, take, drop, replicate, length-append, take_at, ltb-false, arith}
 use borrow.Author.Tests.{eqb-false}
 use Rattle.lists.proofs.Tests.{on-pick, or-fails}
 use Rattle.picture.specs.Pictures.{Picture, places, with_pixels, is_picture}
@@ -17,6 +17,11 @@ use Rattle.faults.proofs.Faults.{when-zero}
 use Rattle.hold_lines.specs.Lines.{refused_line}
 use Rattle.hold_list.specs.HoldText.{hold_list, filled_list}
 use Rattle.hold_list.proofs.Rooms.{one_lent}
+
+-- a picture whose size is not refused
+pub size_holds : (p : Picture) (s fault : ℕ) → fault ≡ when (size_unfit (places p) s) 13 → fault ≡ 0 → hold_list (filled p s) ≡ filled_list s p
+unfolding filled_list
+size_holds p s fault is none = rw (when-zero 12 (size_unfit (places p) s) (sym is ∙ none))
 
 module _ (x : Raster) (s : ℕ) where
   abbrev p : Picture
@@ -45,9 +50,8 @@ module _ (x : Raster) (s : ℕ) where
         let d : s ≢ 0 = eqb-false s 0 b in
         (omega arith, omega (arith, raster-size x, ltb-false n s c))
 
-    pub size_holds : hold_list (filled p s) ≡ filled_list s p
-    unfolding filled_list
-    size_holds = rw (← raster-size x, fits)
+    pub raster-holds : hold_list (filled p s) ≡ filled_list s p
+    raster-holds = size_holds p s 0 (rw (← raster-size x) none) refl
 
   -- bytes in front of a local array that are the pixels of a filled picture
   module _ (xs : List ℕ) (long : length xs ≡ length (take n (replicate {A = ℕ} 1600 0))) where

@@ -3,7 +3,7 @@ use Rattle.std.proofs.Common.{◌∙◌, arith}
 use Rattle.geometry.proofs.Listed.{raster-size}
 use Rattle.answers.proofs.Calls.{lent_length}
 use Rattle.hold_list.proofs.Rooms.{raster-few, one_lent, five-lent}
-use Rattle.hold_list.proofs.FilledTexts.{size-refused, size_fits, size_holds, filled-room, filled-front, front-picture}
+use Rattle.hold_list.proofs.FilledTexts.{size-refused, size_fits, raster-holds, filled-room, filled-front, front-picture}
 use Rattle.hold_list.proofs.put_filled.Goals as goal
 
 pub returns-in-Err : goal.returns-in-Err
@@ -50,4 +50,4 @@ pub returns : goal.returns
 returns c =
     let raster = c.args.raster.now in
     let fill = c.fill_core in
-    rw (← size_holds raster c.args.s c.in_default.ensures, ← filled-front raster c.args.s _ fill.auto.out fill.ensures) c.put_holds.ensures
+    rw (← raster-holds raster c.args.s c.in_default.ensures, ← filled-front raster c.args.s _ fill.auto.out fill.ensures) c.put_holds.ensures
