@@ -1,12 +1,12 @@
 // Answers packed into one number, for C. Three functions, since each answer has a layout of its own.
 #![tactic(auto)]
 
-ghost use Rattle.std.specs.Prelude.{◌≡◌, ◌*◌, ◌<◌, IfErr};
+ghost use Rattle.std.specs.Prelude.{◌≡◌, ◌*◌, ◌%◌, ◌<◌, IfErr};
 ghost use Rattle.refusals.specs.Refusals.{number_of, place_of};
 ghost use Rattle.answers.specs.Answers.{answer_of};
 ghost use Rattle.saving.specs.Calls.{saved_of};
 ghost use Rattle.board.specs.Calls.{queried_of};
-ghost use Rattle.packed_answers.specs.Packed.{two_to_32, answer_in, queried_in, ground_by_number, saved_in};
+ghost use Rattle.packed_answers.specs.Packed.{two_to_32, two_to_16, answer_in, queried_in, ground_by_number, saved_in};
 
 use board::{Queried, patch_number};
 use refusals::Refusal;
@@ -46,9 +46,11 @@ pub fn packed_query(answer: Result<Queried, Refusal>) -> u64
     }
 }
 
-// The refusal's number above 32 bits and its place above 16 bits, or the count of bytes in those. A place of saving fits 16 bits.
+// The refusal's number above 32 bits and the low 16 bits of its place above 16 bits, or the count of bytes in those. A place of saving fits 16 bits.
 pub fn packed_saved(answer: Result<u16, Refusal>) -> u64
     ensures number { (saved_in result).number ≡ (saved_of answer).number }
+    ensures place { (saved_in result).place ≡ (saved_of answer).place % two_to_16 }
+    ensures count { (saved_in result).count ≡ (saved_of answer).count }
     ensures whole { IfErr answer (λ e. place_of e < 65536) → saved_in result ≡ saved_of answer }
 {
     match answer {

@@ -1,0 +1,2 @@
+-- Laws of the calls for firmware.
+pub mod Packed
