@@ -66,7 +66,7 @@ fn gap_end(file: &[u8], at: usize) -> usize
     }
 }
 
-// How many bytes at the front are digits, counted up to one more than a number has: whatever is behind that one decides nothing.
+// How many bytes at the front are digits, counted to one more than a number may have: what follows decides nothing.
 fn digit_count(bytes: &[u8]) -> usize
     ensures { result ≡ prefix_len is_digit (take (MOST_DIGITS + 1) bytes.now) }
 {

@@ -46,7 +46,8 @@ pub fn packed_query(answer: Result<Queried, Refusal>) -> u64
     }
 }
 
-// The refusal's number above 32 bits and the low 16 bits of its place above 16 bits, or the count of bytes in those. A place of saving fits 16 bits.
+// The refusal's number above 32 bits and its place above 16 bits, or the count of bytes in those. Of a place the lowest 16 bits are kept;
+// a place of saving has no more.
 pub fn packed_saved(answer: Result<u16, Refusal>) -> u64
     ensures number { (saved_in result).number ≡ (saved_of answer).number }
     ensures place { (saved_in result).place ≡ (saved_of answer).place % two_to_16 }
