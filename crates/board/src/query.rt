@@ -9,7 +9,7 @@ ghost use Rattle.board.specs.Calls.{ground_of, patch_number};
 
 use answers::clear_work;
 use geometry::raster::Raster;
-use patches::cores::touch_core;
+use patches::cores::touch_by;
 use patches::handbook::Handbook;
 
 // Where a place lies: on the line, or in the patch of a number. The scope document names this enum.
@@ -55,7 +55,7 @@ pub fn touch_cleared(handbook: Handbook, raster: &Raster, place: usize, work: &m
     let n = raster.pixels.len();
     let whole = 5 * n;
     let mut cells = [0u16; 1600];
-    let number = touch_core(handbook, raster, place, &mut work[..whole], &mut cells[..n]);
+    let number = touch_by(handbook, raster, place, &mut work[..whole], &mut cells[..n]);
     clear_work(work, n);
     number
 }

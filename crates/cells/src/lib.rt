@@ -1,4 +1,4 @@
-// Memory of 16-bit cells: filling and copying parts of it by the library, with what that leaves in the whole memory as the promise.
+// Memory of 16-bit cells: filling and copying parts of it, with what that leaves in the whole memory as the promise.
 #![tactic(auto)]
 
 ghost use Rattle.std.specs.Prelude.{◌+◌, ◌≤◌, length};
@@ -12,10 +12,13 @@ pub fn fill(cells: &mut [u16], b: usize, n: usize, v: u16)
     cells[b..b + n].fill(v);
 }
 
-// Copies m entries from b on to the front of a list.
+// Copies m entries from b on to the front of a list. A loop: the library's `copy_from_slice` compares addresses, which the trial on the
+// controller does not take.
 pub fn copy(from: &[u16], b: usize, to: &mut [u16], m: usize)
     requires { (b + m ≤ length from.now) × (m ≤ length to.old) }
     ensures { Copied from.now b m to.old to.new }
 {
-    to[..m].copy_from_slice(&from[b..b + m]);
+    for i in 0..m {
+        to[i] = from[b + i];
+    }
 }

@@ -14,7 +14,7 @@ use lib.ListN.{length, get_or, drop}
 use lib.Seq.{drop-cons}
 use borrow.Author.Tests.{leb-true, ltb-true, le-leb}
 use Rattle.lists.specs.Lists.{pick}
-use Rattle.picture.specs.Geometry.{step, steps, plus_one, offset, every_second, used, within, stays, place_by, reached}
+use Rattle.picture.specs.Geometry.{step, steps, plus_one, offset, every_second, used, within, stays, place_by, reached, neighbours_of}
 use Rattle.geometry.specs.Steps.{is_unit, Unit, stride_of, step_at, off_edge, StepsTo}
 use Rattle.lists.proofs.Tests.{and_left, and_right, and_both}
 use Rattle.lists.proofs.Members.{all-at}
@@ -106,3 +106,8 @@ reached-one w h x o e = rw e
 
 pub reached-none : (w h x : ℕ) (o : Step) → stays w h x (offset o) ≡ false → reached w h x (o ∷ []) ≡ []
 reached-none w h x o e = rw e
+
+-- the neighbours depend on the adjacency by whether it is 4 alone
+pub neighbours-by : (a b w h x : ℕ) → eqb a 4 ≡ eqb b 4 → neighbours_of a w h x ≡ neighbours_of b w h x
+unfolding neighbours_of
+neighbours-by a b w h x e = ap (λ (four : Bool). reached w h x (pick four (every_second steps) steps)) e

@@ -1,6 +1,6 @@
 // The grid of a picture: its adjacency and its sides, and the neighbours of its places, from a table of eight steps. Columns, rows and
 // places have 32 bits inside: a 64-bit one takes two registers of the controller, and a library function for each product and quotient.
-ghost use Rattle.std.specs.Prelude.{◌≡◌, true, ◌&&◌, ◌||◌, [], ◌∷◌, ◌+◌, ◌-◌, ◌*◌, ◌≤◌, ◌<◌, length, set};
+ghost use Rattle.std.specs.Prelude.{◌≡◌, true, ◌&&◌, ◌||◌, [], ◌∷◌, ◌+◌, ◌-◌, ◌*◌, ◌≤◌, ◌<◌, eqb, length, set};
 ghost use Rattle.lists.specs.Writing.{Written};
 ghost use Rattle.picture.specs.Pictures.{side_fits};
 ghost use Rattle.picture.specs.Geometry.{plus_one, within, reached, neighbours_of};
@@ -138,4 +138,27 @@ impl Grid {
         }
         m
     }
+}
+
+// The adjacency whose steps are used for a number: those of 4 for 4, and all for every other number, as `used` of the definitions has it.
+fn used_for(number: u32) -> Adjacency
+    ensures { eqb (adjacency_number result) 4 ≡ eqb number 4 }
+{
+    match number {
+        4 => Adjacency::Four,
+        _ => Adjacency::Eight,
+    }
+}
+
+// Puts the neighbours of a place by adjacency, width and height in front of the cells, for every number given as the adjacency.
+pub fn neighbours(a: u32, w: u32, h: u32, x: usize, cells: &mut [u16]) -> usize
+    requires { Placed w h x × (8 ≤ length cells.old) }
+    ensures { Listed (neighbours_of a w h x) cells.old result cells.new }
+{
+    let grid = Grid {
+        adjacency: used_for(a),
+        width: w,
+        height: h,
+    };
+    grid.neighbours(x, cells)
 }

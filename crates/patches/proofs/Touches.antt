@@ -1,9 +1,10 @@
--- The nearest patch from the arrays: the least number of the leaves at or below the node of a place.
-use Rattle.std.proofs.Common.{◌≡◌, refl, sym, subst, ◌∙◌, true, false, List, ℕ, ◌*◌, ◌<◌, arith, length}
+-- The nearest patch from the arrays: the least number of the leaves at or below the node of a place; which numbers of handbooks touch alike.
+use Rattle.std.proofs.Common.{◌≡◌, refl, sym, ap, subst, ◌∙◌, Bool, true, false, ◌&&◌, List, ℕ, ◌*◌, ◌<◌, arith, eqb, length}
+use Rattle.lists.specs.Lists.{pick}
 use Rattle.lists.specs.Blocks.{block_entry}
 use Rattle.picture.specs.Pictures.{Picture, places}
 use Rattle.picture.specs.Trees.{nodes, node_at, map_of}
-use Rattle.picture.specs.Patches.{patch_at, nearest_patch}
+use Rattle.picture.specs.Patches.{patch_at, nearest_patch, touched_patch}
 use Rattle.lists.proofs.Tests.{on_test}
 use Rattle.topology.proofs.Accepted.{Accepted, accepted-is}
 use Rattle.topology.proofs.Nodes.{node-is}
@@ -94,3 +95,8 @@ module _ (p : Picture) (count : ℕ) (work : List ℕ) (t : TreeInWork p count w
         (least-same there back refl
         (subst (λ (m : ℕ). LeastOf (Up (block_entry a (places p)) count m) (block_entry a (4 * places p)) q) e
         (k count (tree-few p count work t) (omega (arith, tree.map x b, t.number)) (numbered-rise p count work t v r a l))))
+
+-- the patch of a touch depends on the handbook by whether it is 5 alone
+pub touched-by : (a b : ℕ) (p : Picture) (x : ℕ) → eqb a 5 ≡ eqb b 5 → touched_patch a p x ≡ touched_patch b p x
+unfolding touched_patch
+touched-by a b p x e = ap (λ (five : Bool). pick (five && eqb (patch_at p x) 0) (nearest_patch p x) (patch_at p x)) e

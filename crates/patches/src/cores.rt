@@ -9,7 +9,7 @@ ghost use Rattle.patches.specs.Handbooks.{handbook_number};
 
 use crate::figures::figures;
 use crate::handbook::Handbook;
-use crate::places::touched_patch;
+use crate::places::patch_touched;
 use geometry::raster::Raster;
 use tree::build::build;
 
@@ -23,7 +23,7 @@ pub fn patch_figures(raster: &Raster, work: &mut [u16], cells: &mut [u16]) -> us
 }
 
 // The number of the patch that a touch at a place of a picture belongs to by a handbook, 0 for none as the scope document has it.
-pub fn touch_core(
+pub fn touch_by(
     handbook: Handbook,
     raster: &Raster,
     place: usize,
@@ -34,5 +34,19 @@ pub fn touch_core(
     ensures { result ≡ touched_patch (handbook_number handbook) (picture raster.now) place }
 {
     let count = build(raster, work, cells);
-    touched_patch(handbook, raster, count, place, work, cells)
+    patch_touched(handbook, raster, count, place, work, cells)
+}
+
+// The same by a number, for every number: 5 has its own rule, every other number that of 4.
+pub fn touch_core(
+    handbook: u32,
+    raster: &Raster,
+    place: usize,
+    work: &mut [u16],
+    cells: &mut [u16],
+) -> u16
+    requires { FiveBlocks (places (picture raster.now)) work.old cells.old × (place < places (picture raster.now)) }
+    ensures { result ≡ touched_patch handbook (picture raster.now) place }
+{
+    touch_by(Handbook::rule_of(handbook), raster, place, work, cells)
 }

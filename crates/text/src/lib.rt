@@ -15,14 +15,15 @@ pub fn put(out: &mut [u8], at: usize, byte: u8) -> usize
     at + 1
 }
 
-// Writes the bytes of a text and answers the position behind them.
+// Writes the bytes of a text and answers the position behind them. A loop, for the reason that is given at `cells::copy`.
 pub fn put_bytes(out: &mut [u8], at: usize, bytes: &[u8]) -> usize
     requires { at + length bytes.now ≤ length out.old }
     ensures { Written at bytes.now out.old result out.new }
 {
-    let end = at + bytes.len();
-    out[at..end].copy_from_slice(bytes);
-    end
+    for (i, byte) in bytes.iter().enumerate() {
+        out[at + i] = *byte;
+    }
+    at + bytes.len()
 }
 
 // Writes a number in decimal digits and answers the position behind them.

@@ -26,9 +26,11 @@ fn check_level(
     requires lists_long { ListsLong tree.now.count raster.now.pixels.now tree.now.heights.now tree.now.fathers.now tree.now.firsts.now tree.now.map.now cells.old }
     ensures { LevelChecked (picture raster.now) k tree.now.count cells.new tree.now.heights.now tree.now.fathers.now tree.now.firsts.now tree.now.map.now result }
 {
+    if !check_pixels(raster, tree.fathers, tree.map, cells, k) {
+        return None;
+    }
     let d = run_end(tree.heights, k, c, tree.count);
-    if check_pixels(raster, tree.fathers, tree.map, cells, k)
-        && check_nodes(raster.pixels, tree.firsts, cells, k, c, d)
+    if check_nodes(raster.pixels, tree.firsts, cells, k, c, d)
         && check_map(raster.pixels, tree.map, cells, k)
     {
         Some(d)

@@ -9,6 +9,16 @@ use crate::run::lower_all;
 use geometry::raster::Raster;
 use tree::build::build;
 
+// Copies bytes to memory of the same length. A loop, for the reason that is given at `cells::copy`.
+fn copy(from: &[u8], to: &mut [u8])
+    requires { length to.old ≡ length from.now }
+    ensures { to.new ≡ from.now }
+{
+    for (i, byte) in from.iter().enumerate() {
+        to[i] = *byte;
+    }
+}
+
 // Builds the tree of a picture in work; the cells of the union-find are given back before the run.
 fn build_tree(raster: &Raster, work: &mut [u16])
     requires { length work.old ≡ 5 * places (picture raster.now) }
@@ -24,6 +34,6 @@ pub fn watershed_core(raster: &Raster, out: &mut [u8], work: &mut [u16])
     ensures { out.new ≡ (watershed (picture raster.now)).pixels }
 {
     build_tree(raster, work);
-    out.copy_from_slice(raster.pixels);
+    copy(raster.pixels, out);
     lower_all(raster.grid, out, work);
 }

@@ -3,5 +3,5 @@ use Rattle.std.proofs.Common.{sym, ◌∙◌}
 use Rattle.geometry.proofs.Listed.{raster-size}
 use Rattle.watershed.proofs.whole.watershed_core.Goals as goal
 
-pub copy_from_slice-requires : goal.copy_from_slice-requires
-copy_from_slice-requires c = c.requires.0 ∙ sym (raster-size c.args.raster.now)
+pub copy-requires : goal.copy-requires
+copy-requires c = c.requires.0 ∙ sym (raster-size c.args.raster.now)
