@@ -26,7 +26,9 @@ fn count_patches(raster: &Raster, cells: &mut [u16]) -> usize
 }
 
 // The call's picture as a raster, or its refusal, from the picture and the lengths of the list and of work. Only the cells are written.
-// The arguments are loose, since this is the test that makes the raster.
+// The arguments are loose, since this is the test that makes the raster. Never inlined, so that the stack of the count is given back
+// before the tree is built, where the call goes deepest.
+#[inline(never)]
 fn with_list<'a>(
     adjacency: u32,
     width: u32,
