@@ -1,5 +1,5 @@
 -- `figure_lists::list_figures` meets its contract: a refusal leaves all as it was; else each list has its figures in front, and work is cleared.
-use Rattle.std.proofs.Common.{sym, arith}
+use Rattle.std.proofs.Common.{rules, sym, arith}
 use Rattle.picture.specs.Pictures.{Picture, picture_of}
 use Rattle.faults.proofs.Faults.{faultless}
 use Rattle.patch_lists.proofs.PatchLists.{list-enough}
@@ -8,9 +8,12 @@ use Rattle.figure_lists.proofs.list_figures.Goals as goal
 
 pub hand_out-requires : goal.hand_out-requires
 hand_out-requires c =
-    let lends = c.in_ok-count.ensures in
-    let fits = rw (c.least-shortest.ensures, c.min.ensures) at lends.room.0 in
-    room _ _ _ _ _ _ c.args.work.now _ _ lends.figured fits (omega (arith, lends.room.2, c.gather.auto.work))
+    let gathered = c.in_ok-count.ensures in
+    let fits = rw (c.least-shortest.ensures, c.min.ensures) at gathered.room.0 in
+    room _ _ _ _ _ _ c.args.work.now _ _ gathered.figured fits (omega (arith, gathered.room.2, c.gather.auto.work))
+
+pub returns-in_err-count : goal.returns-in_err-count
+returns-in_err-count c = search rules
 
 pub returns : goal.returns
 returns c =
