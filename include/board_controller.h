@@ -52,7 +52,7 @@
  *
  * No other memory is used but the stack: the library has no variables and no
  * heap, so that calls on memory of their own may interrupt one another. A
- * call takes at most 4,300 bytes of stack on x86-64, the arguments that its
+ * call takes at most 4,200 bytes of stack on x86-64, the arguments that its
  * caller puts there not counted; docs/controller.md has the controller.
  *
  * Numbers are 32-bit, and k 8-bit; a caller with wider ones tests them first.
