@@ -1,4 +1,4 @@
--- `geometry::neighbours` meets its contract. The invariant is Front: what stands in front of the cells.
+-- `geometry::Grid::neighbours` meets its contract. The invariant is Front: what stands in front of the cells.
 use Rattle.std.proofs.Common.{rules, [], ◌∷◌}
 use Rattle.geometry.specs.Steps.{step_at}
 use Rattle.geometry.proofs.Front.{front-start, front-turn, put-digits}

@@ -1,4 +1,4 @@
--- `geometry::neighbours` meets its contract. The invariant is Front: what stands in front of the cells.
+-- `geometry::Grid::neighbours` meets its contract. The invariant is Front: what stands in front of the cells.
 use Rattle.std.proofs.Common.{◌-◌}
 use Rattle.geometry.specs.Adjacencies.{adjacency_number}
 use Rattle.geometry.proofs.Front.{Front}
