@@ -54,9 +54,8 @@ fn spread(
     let mut near = [0u16; 8];
     let count = raster.grid.neighbours(x, &mut near);
     let mut t = top;
-    let pixels = raster.pixels;
     for y in &near[..count] {
-        t = visit(pixels, k, usize::from(*y), c, labels, stack, t);
+        t = visit(raster.pixels, k, usize::from(*y), c, labels, stack, t);
     }
     t
 }

@@ -33,11 +33,9 @@ pub fn label(raster: &Raster, k: u8, labels: &mut [u16], stack: &mut [u16]) -> u
     ensures { LabelsHold (picture raster.now) k result labels.new }
 {
     labels.fill(0);
-    // a copy, so that where the pixels lie is read once and not at each place
-    let copy = *raster;
     let mut c: u16 = 0;
-    for x in 0..copy.pixels.len() {
-        c = label_place(&copy, k, x, c, labels, stack);
+    for x in 0..raster.pixels.len() {
+        c = label_place(raster, k, x, c, labels, stack);
     }
     c
 }
