@@ -97,6 +97,7 @@ fn print_spaced(numbers: &[u32]) {
     }
 }
 
+// Prints a record, a line.
 fn print_record(record: &Patch) {
     print_spaced(&[
         u32::from(record.number),

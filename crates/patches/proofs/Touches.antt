@@ -97,6 +97,6 @@ module _ (p : Picture) (count : ℕ) (work : List ℕ) (t : TreeInWork p count w
         (k count (tree-few p count work t) (omega (arith, tree.map x b, t.number)) (numbered-rise p count work t v r a l))))
 
 -- the patch of a touch depends on the handbook by whether it is 5 alone
-pub touched-by : (a b : ℕ) (p : Picture) (x : ℕ) → eqb a 5 ≡ eqb b 5 → touched_patch a p x ≡ touched_patch b p x
+pub touched-alike : (a b : ℕ) (p : Picture) (x : ℕ) → eqb a 5 ≡ eqb b 5 → touched_patch a p x ≡ touched_patch b p x
 unfolding touched_patch
-touched-by a b p x e = ap (λ (five : Bool). pick (five && eqb (patch_at p x) 0) (nearest_patch p x) (patch_at p x)) e
+touched-alike a b p x e = ap (λ (five : Bool). pick (five && eqb (patch_at p x) 0) (nearest_patch p x) (patch_at p x)) e

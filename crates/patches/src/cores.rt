@@ -9,7 +9,7 @@ ghost use Rattle.patches.specs.Handbooks.{handbook_number};
 
 use crate::figures::figures;
 use crate::handbook::Handbook;
-use crate::places::patch_touched;
+use crate::places::touched_by;
 use geometry::raster::Raster;
 use tree::build::build;
 
@@ -34,7 +34,7 @@ pub fn touch_by(
     ensures { result ≡ touched_patch (handbook_number handbook) (picture raster.now) place }
 {
     let count = build(raster, work, cells);
-    patch_touched(handbook, raster, count, place, work, cells)
+    touched_by(handbook, raster, count, place, work, cells)
 }
 
 // The same by a number, for every number: 5 has its own rule, every other number that of 4.

@@ -26,7 +26,7 @@ fn patch_or_0(number: u16) -> u16
 
 // The number of the patch that a touch at the place x of a picture belongs to by a handbook, 0 for none; the tree of count nodes is
 // in work. Under the fifth handbook it is the least number of the leaves at or below the node of x, inside a patch too (`touched-five`).
-pub fn patch_touched(
+pub fn touched_by(
     handbook: Handbook,
     raster: &Raster,
     count: usize,
@@ -57,7 +57,7 @@ pub fn touched_patch(
     requires { TreeInWork (picture raster.now) count work.old × FiveBlocks (places (picture raster.now)) work.old cells.old × (x < places (picture raster.now)) }
     ensures { result ≡ touched_patch handbook (picture raster.now) x }
 {
-    patch_touched(Handbook::rule_of(handbook), raster, count, x, work, cells)
+    touched_by(Handbook::rule_of(handbook), raster, count, x, work, cells)
 }
 
 // How many places have the number 0, and so are on the line.

@@ -12,6 +12,7 @@ hand_out-requires c =
     let fits = rw (c.least-shortest.ensures, c.min.ensures) at gathered.room.0 in
     room _ _ _ _ _ _ c.args.work.now _ _ gathered.figured fits (omega (arith, gathered.room.2, c.gather.auto.work))
 
+-- written out, so that an edit that changes what is done on a refusal finds it
 pub returns-in_err-count : goal.returns-in_err-count
 returns-in_err-count c = search rules
 

@@ -1,4 +1,4 @@
--- `patches::places::patch_touched` meets its contract: the leaves are numbered; under the fifth handbook the least number at or below the node of the place is that of the nearest patch, else the place has the number of its node, and 0 for none.
+-- `patches::places::touched_by` meets its contract: the leaves are numbered; under the fifth handbook the least number at or below the node of the place is that of the nearest patch, else the place has the number of its node, and 0 for none.
 use Rattle.std.proofs.Common.{◌≡◌, ◌≢◌, ℕ, sym, ap, ◌∙◌, arith, eqb}
 use Rattle.lists.specs.Lists.{pick}
 use Rattle.geometry.specs.Rasters.{picture}
@@ -10,7 +10,7 @@ use Rattle.patches.specs.declared.handbook.Handbook.{Handbook}
 use Rattle.patches.specs.declared.handbook.Handbook.TheVariants.{Fourth}
 use Rattle.patches.proofs.FigureLaws.{tree-mapped, tree-few, numbered-mapped, numbered-sizes, numbered-or-0}
 use Rattle.patches.proofs.Touches.{numbered-nearest}
-use Rattle.patches.proofs.places.patch_touched.Goals as goal
+use Rattle.patches.proofs.places.touched_by.Goals as goal
 
 fourth-other : (handbook : Handbook) → handbook ≡ Fourth → handbook_number handbook ≢ 5
 fourth-other handbook four five = let number = ap handbook_number four in absurd (omega arith)
