@@ -54,8 +54,9 @@ fn spread(
     let mut near = [0u16; 8];
     let count = raster.grid.neighbours(x, &mut near);
     let mut t = top;
-    for y in &near[..count] {
-        t = visit(raster.pixels, k, usize::from(*y), c, labels, stack, t);
+    // by index, so that an edit can leave the first neighbour out by another operand
+    for i in 0..count {
+        t = visit(raster.pixels, k, usize::from(near[i]), c, labels, stack, t);
     }
     t
 }
